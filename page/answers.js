@@ -1,11 +1,14 @@
 // Answers, and what is asked for besides: the card of a chosen call, and what a variable held.
 import { briefOf } from './card_view.js';
 import { byId } from './dom.js';
+import { RANK } from './engine.js';
 import { Looking } from './look_view.js';
 
 export class Answers {
-  constructor(desk) {
+  // `onTurn` is called once an answer has shown what comes next.
+  constructor(desk, { onTurn }) {
     this.desk = desk;
+    this.onTurn = onTurn;
   }
 
   // Says a line of the dialog, such as `right 7`.
@@ -13,7 +16,7 @@ export class Answers {
     const { desk } = this;
     if (desk.dialog.isBusy || desk.dialog.shown === null || desk.isEdited) return;
     await desk.dialog.say(line);
-    this.afterTurn();
+    this.onTurn();
   }
 
   // An answer to the question: `right`, `wrong`, `unknown`, `trust`, or `back`.
@@ -25,17 +28,15 @@ export class Answers {
     return this.say(word === 'trust' ? `trust #${dialog.tree.routine[call]}` : `${word} ${call}`);
   }
 
-  // What is asked for once the answer stands: the line of the call, and what comes next.
-  async afterTurn() {
+  // The line on which the call that is asked about was made: it stands in the trace of the call that made it.
+  async findCallLine() {
     const { desk } = this;
     const { dialog } = desk;
-    dialog.thinkAhead();
-    const call = dialog.report !== null && dialog.report.call !== undefined ? dialog.report.call : -1;
-    if (call > 0 && dialog.isQuick && dialog.tree !== null) {
-      const { shown } = dialog;
-      await dialog.fetch([{ kind: 'trace', call: dialog.tree.parent[call] }]);
-      if (dialog.shown === shown && desk.chosen < 0) desk.render();
-    }
+    const { shown } = dialog;
+    const call = dialog.report?.call ?? -1;
+    if (call <= 0 || dialog.tree === null) return;
+    const isThere = await dialog.fetch([{ kind: 'trace', call: dialog.tree.parent[call] }], RANK.later);
+    if (isThere && dialog.shown === shown && desk.chosen < 0) desk.render();
   }
 
   // Shows a call of the tree with its card and trace; -1 closes it.

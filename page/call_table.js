@@ -117,10 +117,14 @@ export const accusedOf = (tree) => tree.mark.lastIndexOf(WRONG);
 export function suspectsOf(tree) {
   const accused = accusedOf(tree);
   const end = accused < 0 ? tree.mark.length - 1 : tree.last[accused];
-  const suspects = [];
+  const suspects = new Int32Array(end - accused);
+  let count = 0;
   for (let call = accused + 1; call <= end; call += 1) {
     if (tree.mark[call] === RIGHT || tree.mark[call] === TRUSTED) call = tree.last[call];
-    else if (tree.mark[call] === UNJUDGED) suspects.push(call);
+    else if (tree.mark[call] === UNJUDGED) {
+      suspects[count] = call;
+      count += 1;
+    }
   }
-  return suspects;
+  return suspects.subarray(0, count);
 }

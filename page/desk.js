@@ -22,6 +22,10 @@ export class Desk {
     this.offer = null;
   }
 
+  get isProved() {
+    return this.packed.verdict.startsWith('logic=proved ');
+  }
+
   get examples() {
     return this.packed.examples;
   }

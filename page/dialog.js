@@ -1,7 +1,8 @@
 // The dialog with the command: it runs a session, says lines and asks for cards and traces. It knows nothing of the page,
 // and holds nothing but the session's lines and what the command printed for them.
-import { accusedOf, markBy } from './call_table.js';
+import { accusedOf, markBy, suspectsOf } from './call_table.js';
 import { cardOf, stateOf } from './card.js';
+import { RANK } from './engine.js';
 import { entriesOf, keep, setAside } from './session.js';
 
 // No variable has this name, and no call this number; the replies tell whether the command knows the lines `state` and `carry`.
@@ -22,6 +23,7 @@ export class Dialog {
     this.shown = null;
     this.tree = null;
     this.entries = [];
+    this.suspects = [];
     this.problem = null;
     this.note = '';
     this.isBusy = false;
@@ -46,7 +48,7 @@ export class Dialog {
 
   // What a run takes most of its time for is asked at once: the tree of calls too.
   async run(session) {
-    this.engine.forget();
+    this.engine.stop();
     if (this.session !== null && this.session.lines.length > 0) setAside();
     this.clear();
     this.session = session;
@@ -78,10 +80,10 @@ export class Dialog {
     this.onChange();
   }
 
-  async turn(lines, asks, save = null) {
+  async turn(lines, asks) {
     this.isBusy = true;
     this.onChange();
-    const came = await this.engine.turn(this.turnOf(lines, asks, save));
+    const came = await this.engine.line(this.turnOf(lines, asks));
     this.isBusy = false;
     return came;
   }
@@ -105,6 +107,7 @@ export class Dialog {
     this.entries = entriesOf(this.session, came.replies);
     if (this.tree !== null) markBy(this.tree, this.entries);
     this.accused = this.tree === null ? -1 : accusedOf(this.tree);
+    this.suspects = this.tree === null ? [] : suspectsOf(this.tree);
     if (this.session.lines.length > 0) this.isKept = keep(this.session);
     const { card } = came.report ?? {};
     if (card) this.cards.set(came.report.call, cardOf(card));
@@ -123,13 +126,13 @@ export class Dialog {
     return this.cost.time < QUICK_MS;
   }
 
-  // Cards and traces of calls hang on the run alone, so each is asked for once.
-  async fetch(asks) {
+  // Cards and traces of calls hang on the run alone, so each is asked for once. Whether they are there.
+  async fetch(asks, rank = RANK.asked) {
     const isMissing = (ask) => (ask.kind === 'show' ? !this.cards.has(ask.call) : !this.traces.has(ask.call));
     const missing = asks.filter(isMissing);
     if (missing.length === 0 || this.session === null) return true;
     const { session } = this;
-    const came = await this.engine.turn(this.turnOf([], missing));
+    const came = await this.engine.ask(this.turnOf([], missing), rank);
     if (this.session !== session || came.answers === undefined) return false;
     missing.forEach((ask, at) => {
       const answer = came.answers[at];
@@ -144,7 +147,7 @@ export class Dialog {
     const key = `${call} ${name}`;
     if (this.states.has(key)) return this.states.get(key);
     const { session } = this;
-    const came = await this.engine.turn(this.turnOf([], [{ kind: 'state', call, name }]));
+    const came = await this.engine.ask(this.turnOf([], [{ kind: 'state', call, name }]), RANK.asked);
     if (this.session !== session || came.answers === undefined) return null;
     const [answer] = came.answers;
     const isTold = answer.kind === 'state';
@@ -164,7 +167,7 @@ export class Dialog {
     if (this.carryKnown(call, onto) !== null) return this.carryKnown(call, onto);
     const { session, cards, carried } = this;
     const show = cards.has(call) ? [] : [{ kind: 'show', call }];
-    const came = await this.engine.turn(this.turnOf([], [{ kind: 'carry', call, onto }, ...show]));
+    const came = await this.engine.ask(this.turnOf([], [{ kind: 'carry', call, onto }, ...show]), RANK.asked);
     if (this.session !== session || came.answers === undefined) return null;
     const [carry, shown] = came.answers;
     if (shown !== undefined && shown.kind === 'show') cards.set(call, cardOf(shown.text));
@@ -181,7 +184,7 @@ export class Dialog {
 
   // The session as the command saves it.
   async saved() {
-    const came = await this.engine.turn(this.turnOf(this.session.lines, [], 'page.session'));
+    const came = await this.engine.ask(this.turnOf(this.session.lines, [], 'page.session'), RANK.asked);
     return came.saved ?? null;
   }
 }

@@ -132,7 +132,7 @@ function sideView(title, side, look) {
   const hasButtons = look !== null && [...frames.keys()].some((number) => isAskable(side.boxes.get(number)));
   const nils = side.roots.filter((root) => root.target === null).map((root) => `${root.label} = nil`);
   return make('figure.heap', make('figcaption', make('b', title), nils.length > 0 ? ` ${nils.join(', ')}` : ''),
-    frames.size === 0 ? make('p.quiet', 'nothing that the card tells of') : make('div.scroll', { tabindex: 0, role: 'group', 'aria-label': `Drawing, ${title.toLowerCase()}` },
+    frames.size === 0 ? (nils.length > 0 ? null : make('p.quiet', 'nothing that this call looked at')) : make('div.scroll', { tabindex: 0, role: 'group', 'aria-label': `Drawing, ${title.toLowerCase()}` },
       makeSvg('svg', { width: right, height: bottom + origin.top, role: hasButtons ? 'group' : 'img', 'aria-label': `${title}: ${heapSaid(side)}` }, tips(key), drawing)),
     side.leftOut > 0 ? make('p.quiet', `and ${side.leftOut} more, which are not drawn`) : null);
 }
@@ -143,5 +143,7 @@ export function heapView(heap, look = null) {
     .some((parts) => parts.some((part) => part.isChanged));
   const isUnseen = [heap.before, heap.after].some((side) => [...side.boxes.values()].some(isAskable));
   const legend = isUnseen ? make('p.quiet.legend', `${NOT_SEEN}  this call did not look at it`, look === null ? '' : '; press such a box to look') : null;
-  return make('div.heaps', isSame ? sideView('Before and after', heap.after, look) : [sideView('Before', heap.before, look), sideView('After', heap.after, look)], legend);
+  // A number counts places of the memory, so it says no more than which box is meant.
+  const numbers = make('p.quiet.legend', 'A pointer is the number of the box that it points at.');
+  return make('div.heaps', isSame ? sideView('Before and after', heap.after, look) : [sideView('Before', heap.before, look), sideView('After', heap.after, look)], numbers, legend);
 }

@@ -49,14 +49,12 @@ async function once(module, { source, input, budget, session, text }, room) {
   };
 }
 
-// What was too small once is not tried again.
-let firstRoom = SMALL_ROOM;
-
-// A screen that was too small holds a first part; the same turn with more room prints the same and the rest.
+// A screen that was too small holds a first part; the same turn with more room prints the same and the rest. `printed` is how much
+// the turns before printed, which this one prints again.
 export async function runTurn(module, asked) {
-  for (let room = asked.isLong ? LARGE_ROOM : firstRoom; ; room = room * 16 + 15 * WORD) {
+  const isLong = asked.isLong || asked.printed > SMALL_ROOM / 4;
+  for (let room = isLong ? LARGE_ROOM : SMALL_ROOM; ; room = room * 16 + 15 * WORD) {
     const came = await once(module, asked, room);
     if (came.status !== SCREEN_FAILED || room >= MOST_ROOM) return came;
-    firstRoom = LARGE_ROOM;
   }
 }

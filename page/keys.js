@@ -3,10 +3,15 @@ import { byId, later } from './dom.js';
 import { bytesOfFile, onDrop } from './files.js';
 import { helpView } from './welcome_view.js';
 
-function openHelp() {
+function openHelp(desk) {
   const box = byId('helpBox');
-  box.replaceChildren(...helpView(() => box.close()));
+  box.replaceChildren(...helpView(desk.isProved, () => box.close()).flat());
   box.showModal();
+}
+
+function openTrusted(desk) {
+  openHelp(desk);
+  byId('trustedTitle').focus();
 }
 
 function keysOf(desk, answers) {
@@ -14,7 +19,7 @@ function keysOf(desk, answers) {
   const answer = (word) => () => answers.answer(word);
   return {
     r: answer('right'), w: answer('wrong'), d: answer('unknown'), t: answer('trust'), b: answer('back'),
-    '/': goTo('calls', 'query'), c: goTo('calls', 'tree'), q: goTo('question', 'middle'), s: goTo('source', 'source'), '?': openHelp,
+    '/': goTo('calls', 'query'), c: goTo('calls', 'tree'), q: goTo('question', 'middle'), s: goTo('source', 'source'), '?': () => openHelp(desk),
   };
 }
 
@@ -24,7 +29,7 @@ const isText = (target) => target.matches('textarea, input, select');
 function pressed(event, keys, programs) {
   if (event.key === 'Enter' && (event.ctrlKey || event.metaKey)) {
     event.preventDefault();
-    programs.run();
+    byId('run').click();
     return;
   }
   if (event.key === 'Escape' && event.target.matches('textarea, input')) byId('middle').focus();
@@ -51,7 +56,7 @@ function connectFiles(programs) {
 export function connect(desk, { programs, answers, finder, print }) {
   const buttons = {
     open: () => byId('file').click(), load: () => byId('sessionFile').click(), save: () => programs.saveSession(), print,
-    run: () => programs.run(), stop: () => desk.engine.stop(), help: openHelp,
+    run: () => programs.run(), stop: () => desk.engine.stop(), help: () => openHelp(desk), trusted: () => openTrusted(desk),
     unfold: () => desk.tree.openAll(true), foldUp: () => desk.tree.openAll(false),
   };
   for (const [id, act] of Object.entries(buttons)) whenPressed(byId(id), act);

@@ -43,6 +43,6 @@ export function noticesOf(dialog, isStale, refusal, acts) {
   else if (problem !== null && !(isStale && problem.kind === 'refused')) notices.push(problemNotice(dialog, refusal, acts));
   if (note !== '') notices.push(notice('', replySaid(note)));
   if (isStale && dialog.shown !== null) notices.push(staleNotice(session, acts));
-  if (!dialog.isKept) notices.push(notice('', 'This browser cannot keep your answers: save the session before you close the page.'));
+  if (!dialog.isKept) notices.push(notice('', 'This browser cannot keep your answers: save them before you close the page.'));
   return notices;
 }

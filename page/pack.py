@@ -1,7 +1,8 @@
 #!/usr/bin/env python3
 """pack.py OUT --sentences FILE.js --table FILE.tsv [--module FILE.wasm] [--verdict LINE] [--examples FOLDER ..]
 
-Makes the page in the folder OUT: index.html, page.css, page.js and engine.js, which work from a disk and from any web server.
+Makes the page in the folder OUT: index.html, and in OUT/parts page.css, page.js and engine.js. It works from a disk and from any
+web server.
 
 A page from a disk may import no module and start no worker from a file. So the modules of this folder are put one after the other
 into a classic script, each in a function of its own; the worker's script and the WebAssembly module travel as texts in engine.js.
@@ -88,13 +89,15 @@ def main():
         'worker': packed('worker', places),
         'module': base64.b64encode(module).decode('ascii'),
     }
-    os.makedirs(given.out, exist_ok=True)
-    for name in ('index.html', 'page.css'):
-        shutil.copyfile(os.path.join(HERE, name), os.path.join(given.out, name))
+    # Whoever looks into the folder sees one thing to open.
+    parts = os.path.join(given.out, 'parts')
+    os.makedirs(parts, exist_ok=True)
+    shutil.copyfile(os.path.join(HERE, 'index.html'), os.path.join(given.out, 'index.html'))
+    shutil.copyfile(os.path.join(HERE, 'page.css'), os.path.join(parts, 'page.css'))
     # A text in a script may not close the script, nor open a comment of HTML.
     text = json.dumps(carried, ensure_ascii=True).replace('<', '\\u003c')
     for name, script in (('engine.js', f"'use strict';\nconst PASASK = {text};\n"), ('page.js', packed('page', places))):
-        with open(os.path.join(given.out, name), 'w', encoding='utf-8', newline='') as file:
+        with open(os.path.join(parts, name), 'w', encoding='utf-8', newline='') as file:
             file.write(script)
 
 

@@ -3,6 +3,7 @@ import { Answers } from './answers.js';
 import { fileOfText } from './bytes.js';
 import { Desk } from './desk.js';
 import { byId } from './dom.js';
+import { RANK } from './engine.js';
 import { Finder } from './finder.js';
 import { connect } from './keys.js';
 import { notice } from './notices_view.js';
@@ -17,8 +18,8 @@ const desk = new Desk(PASASK, {
   edited: () => programs.edited(), findLine: (line) => finder.findLine(line), choose: (call) => answers.choose(call), render: () => painter.paint(),
 });
 const finder = new Finder(desk);
-const answers = new Answers(desk);
-const programs = new Programs(desk, { onRun: afterRun });
+const answers = new Answers(desk, { onTurn: afterTurn });
+const programs = new Programs(desk, { onRun: afterTurn });
 
 // What a part of the page may do that shows a card.
 const context = {
@@ -38,10 +39,13 @@ const painter = new Painter(desk, context, {
   goOn: (kept) => programs.goOnWith(kept), putBack: () => programs.putBack(),
 });
 
-// What a small run is asked for at once, so that the tree shows what each call was given and returned.
-async function afterRun() {
-  answers.afterTurn();
-  if (finder.isSmall && desk.dialog.isQuick) await finder.loadBriefs();
+// What follows a question: both answers are computed ahead; then come the line of its call, and for the tree of a small run what each
+// call was given and returned.
+async function afterTurn() {
+  desk.dialog.thinkAhead();
+  if (!desk.dialog.isQuick) return;
+  await answers.findCallLine();
+  if (finder.isSmall) await finder.loadBriefs(RANK.later);
 }
 
 // A link may open an example and answer: index.html#example=change&answers=wrong,right,wrong
@@ -55,12 +59,12 @@ async function followLink() {
 
 async function begin() {
   connect(desk, { programs, answers, finder, print: () => programs.printReport(onPaper) });
-  byId('trust').textContent = PASASK.verdict.startsWith('logic=proved') ? PROVED : TRIAL;
+  byId('trust').textContent = desk.isProved ? PROVED : TRIAL;
   byId('trust').title = PASASK.verdict;
   desk.showPane('question');
   desk.offer = lastKept();
   programs.set('untitled.pas', fileOfText(''), fileOfText(''));
-  const { trap } = await desk.engine.ready;
+  const { trap } = await desk.engine.open(PASASK.module);
   document.body.dataset.ready = trap === undefined ? 'yes' : 'no';
   if (trap === undefined) await followLink();
   else byId('notices').replaceChildren(notice('.bad', 'This browser cannot run the page: ', trap));

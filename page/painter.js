@@ -24,7 +24,9 @@ export class Painter {
     const { dialog, source, isEdited: isStale } = this.desk;
     document.body.classList.toggle('busy', dialog.isBusy);
     byId('run').hidden = dialog.isBusy;
-    byId('run').classList.toggle('main', source.text.trim() !== '');
+    const hasProgram = source.text.trim() !== '';
+    byId('run').classList.toggle('main', hasProgram);
+    byId('run').setAttribute('aria-disabled', String(!hasProgram));
     byId('stop').hidden = !dialog.isBusy;
     for (const id of ['save', 'print']) byId(id).setAttribute('aria-disabled', String(dialog.shown === null));
     this.paintNotices(isStale);
@@ -35,7 +37,7 @@ export class Painter {
     this.paintSource(isStale);
     this.paintOutput(isStale);
     byId('raw').textContent = dialog.shown === null ? '' : dialog.shown.raw;
-    byId('cost').textContent = dialog.shown === null ? '' : `${Math.max(1, Math.round(dialog.cost.time))} ms, ${Math.round(dialog.cost.memory / 1048576)} MB`;
+    byId('cost').textContent = dialog.shown === null ? '' : `the last answer took ${Math.max(1, Math.round(dialog.cost.time))} ms and ${Math.round(dialog.cost.memory / 1048576)} MB`;
     document.body.dataset.turns = String(dialog.session === null ? 0 : dialog.session.lines.length);
   }
 
@@ -93,7 +95,7 @@ export class Painter {
     byId('hint').replaceChildren(...(hint === null ? [] : [hint]));
     const before = dialog.session.lines.length === 0 ? keptBefore() : null;
     byId('history').replaceChildren(historyView(dialog.entries, dialog.tree, context),
-      ...(before === null ? [] : [make('p.quiet', button('.link', { onclick: () => acts.goOn(before) }, `Back to the session on ${before.name}`))]));
+      ...(before === null ? [] : [make('p.quiet', button('.link', { onclick: () => acts.goOn(before) }, `Back to the answers on ${before.name}`))]));
     this.announce(progress.text);
   }
 

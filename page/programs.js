@@ -83,6 +83,10 @@ export class Programs {
   }
 
   async loadSession(bytes) {
+    if (this.desk.source.text.trim() === '') {
+      this.desk.tell('Open the program first, and then the answers that belong to it.');
+      return;
+    }
     const budget = /^\{"budget":(\d+),/.exec(new TextDecoder().decode(bytes.subarray(0, 40)));
     if (budget !== null) byId('budget').value = budget[1];
     await this.run(bytes);
@@ -92,7 +96,7 @@ export class Programs {
     const { dialog, program } = this.desk;
     if (dialog.shown === null || dialog.isBusy) return;
     const bytes = await dialog.saved();
-    if (bytes === null) this.desk.tell('The session could not be saved.');
+    if (bytes === null) this.desk.tell('The answers could not be saved.');
     else download(`${program.name.replace(/\.\w+$/, '')}.session`, bytes, 'application/json');
   }
 

@@ -2,7 +2,7 @@
 import { cardParts } from './card_view.js';
 import { compareView } from './compare_view.js';
 import { button, make, plural } from './dom.js';
-import { nameOf, suspectsOf } from './call_table.js';
+import { nameOf } from './call_table.js';
 import { lineOfCall } from './trace.js';
 import { mostQuestions, questionOf } from './forecast.js';
 import { traceView } from './trace_view.js';
@@ -14,9 +14,7 @@ const MOST_SHARE = 0.5;
 // The suspects, as the page counts them; null where that is not what the command says.
 function ownSuspects(dialog) {
   if (dialog.tree === null || dialog.questionCall < 0) return null;
-  const suspects = suspectsOf(dialog.tree);
-  if (suspects.length !== dialog.report.suspects) return null;
-  return suspects;
+  return dialog.suspects.length === dialog.report.suspects ? dialog.suspects : null;
 }
 
 export function progressOf(dialog) {
@@ -36,10 +34,12 @@ export function progressOf(dialog) {
 export function hintView(dialog, context) {
   const suspects = ownSuspects(dialog);
   if (suspects === null || suspects.length < MANY) return null;
-  const counts = new Map();
-  for (const call of suspects) counts.set(dialog.tree.routine[call], (counts.get(dialog.tree.routine[call]) ?? 0) + 1);
-  const [routine, count] = [...counts].sort((a, b) => b[1] - a[1])[0];
-  if (count < suspects.length * MOST_SHARE || counts.size < 2) return null;
+  const { routine: routines, names } = dialog.tree;
+  const counts = new Int32Array(names.length);
+  for (let at = 0; at < suspects.length; at += 1) counts[routines[suspects[at]]] += 1;
+  const count = Math.max(...counts);
+  const routine = counts.indexOf(count);
+  if (count < suspects.length * MOST_SHARE || count === suspects.length) return null;
   const name = dialog.tree.names[routine];
   return make('p.hint', `${count.toLocaleString('en')} of these ${suspects.length.toLocaleString('en')} calls are of `, make('code', name), '. If you are sure of it, ',
     button('.link', { onclick: () => context.say(`trust #${routine}`) }, `trust ${name}`), '.');
@@ -71,6 +71,7 @@ export function questionView(dialog, outline, context) {
     make('p.eyebrow', `Question ${dialog.shown.questions.length}`),
     make('h2', { tabindex: -1 }, 'Did ', make('code', card.name), ' do what it should?'),
     whereView(card, dialog, context),
+    dialog.shown.questions.length === 1 ? make('p.judge', 'Judge what this call did with what it got, and with all the calls that it made. How it is written does not matter yet.') : null,
     commentView(routine),
     compareView(dialog, context),
     cardParts(card, context.cardContext(card.call)));

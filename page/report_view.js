@@ -31,7 +31,7 @@ export function reportView(dialog, context) {
   return [make('h1', `${session.name}: a session with pasask`),
     make('p', new Date().toLocaleDateString('en', { dateStyle: 'long' })),
     make('h2', 'The answers'), standing.map((entry) => entryView(entry, dialog, context)),
-    dialog.report.kind === 'ask' ? make('p', 'The session is not at its end.') : [make('h2', 'The verdict'), verdictView(dialog.report, undefined, context)],
+    dialog.report.kind === 'ask' ? make('p', 'Not all questions are answered yet.') : [make('h2', 'The verdict'), verdictView(dialog.report, undefined, context)],
     make('h2', 'The program'), listing(session.source.text),
     session.input.text === '' ? null : [make('h2', 'Its input'), make('pre', session.input.text)]];
 }

@@ -117,7 +117,7 @@ export class TreeView {
     const depth = this.found === null ? tree.depth[call] : 0;
     const classes = [call === this.asked ? 'asked' : '', call === this.accused ? 'accused' : '', call === this.chosen ? 'chosen' : '',
       place === this.cursor ? 'cursor' : ''].filter((it) => it !== '').map((it) => `.${it}`).join('');
-    const notes = [SAID[mark], call === this.asked ? 'asked now' : '', call === this.accused ? 'accused' : ''].filter((it) => it !== '');
+    const notes = [SAID[mark], call === this.asked ? 'asked now' : '', call === this.accused ? 'the mistake is in it or below it' : ''].filter((it) => it !== '');
     const showsFold = this.found === null && hasKids;
     return make(`div.row${classes}`, {
       id: `row-${call}`, role: 'treeitem', 'data-call': call, 'aria-level': depth + 1, 'aria-selected': call === this.chosen ? 'true' : 'false',
@@ -127,7 +127,8 @@ export class TreeView {
     }, make('span.twist', { 'aria-hidden': 'true' }, showsFold ? (isOpen ? '\u25be' : '\u25b8') : ''),
     make(`span.sign.${mark}`, { title: SAID[mark] }, SIGNS[mark]),
     make('span.name', nameOf(tree, call)), make('span.brief', this.briefs.get(call) ?? ''), make('span.space'),
-    call === this.asked ? make('span.note', 'asked') : null, call === this.accused ? make('span.note.bad', { title: 'It is wrong, so the mistake is in it or below it' }, 'accused') : null,
+    call === this.asked ? make('span.note', 'asked now') : null,
+    call === this.accused ? make('span.note.bad', { title: 'It is wrong, so the mistake is in it or in a call below it' }, 'mistake in here') : null,
     make('span.number', String(call)));
   }
 

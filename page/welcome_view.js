@@ -36,7 +36,15 @@ const KEYS = [
   ['Ctrl+Enter', 'run the program'],
 ];
 
-export function helpView(close) {
+// What stands around the program that was proved, see docs/PAGE.md.
+function trustedView(isProved) {
+  const proved = isProved ? 'Every question, card, trace and verdict is printed by a proved program. ' : 'This is a trial build: the program inside was not proved. ';
+  return [make('h3', { id: 'trustedTitle', tabindex: -1 }, 'What is trusted'),
+    make('p', proved, 'What stands around that program was only tested: the compiler that made it fit for browsers, the memory that it gets, the addresses, which are cut to 32 bits, the worker that hands its texts in '
+      + 'and out, this page, which folds and draws them, and your browser. Your program, its input and your answers never leave this computer.')];
+}
+
+export function helpView(isProved, close) {
   return [make('h2', { id: 'helpTitle' }, 'How it works'),
     make('p', 'Each question shows what a call was given, what it read, and what it left. Judge only that: what the call did, with all the calls that it made, on what it was given. '
       + 'A call that got nonsense and made nonsense of it is right, if it did what it was written for. A call that was given good values and left bad ones is wrong.'),
@@ -44,5 +52,6 @@ export function helpView(close) {
     make('p', 'A card tells what a call looked at. What it should have looked at and did not is not there.'),
     make('h3', 'Keys'),
     make('table.keys', make('tbody', KEYS.map(([key, said]) => make('tr', make('th', { scope: 'row' }, make('kbd', key)), make('td', said))))),
+    trustedView(isProved),
     make('p', button('.main', { onclick: close }, 'Close'))];
 }

@@ -68,21 +68,21 @@ export const comparedSaid = (outcome, judged) => COMPARED[outcome].replace('{jud
 
 const STATUSES = {
   2: 'The number of steps is a number from 1 to 4,000,000.',
-  4: 'This text is too long: a program may have 1,048,576 bytes, its input 4,194,304, a session 16,777,216.',
+  4: 'This text is too long: a program may have 1,048,576 bytes, its input 4,194,304, saved answers 16,777,216.',
   5: 'The lines of the dialog could not be read.',
   6: 'What is to be shown is too long to be shown here.',
   7: 'Memory ran out. A smaller number of steps may help.',
-  8: 'This session does not belong here.',
-  9: 'There are too many answers for one session.',
+  8: 'These answers do not belong here.',
+  9: 'There are too many answers.',
 };
 
 const MISFITS = [
-  [/^session: source is/, 'This session was saved for another program text. Open that text first.'],
-  [/^session: input is/, 'This session was saved with another input. Put that in first.'],
-  [/^session: budget is .* has (\d+)/, 'This session was saved with another number of steps: $1.'],
-  [/^session: (NotJson|BadShape)/, 'This file is no saved session.'],
-  [/^session: BadVersion/, 'This session was saved by another version of pasask.'],
-  [/^session: entry/, 'This session has an answer on a call that this run does not have.'],
+  [/^session: source is/, 'These answers belong to another program text. Open that text first.'],
+  [/^session: input is/, 'These answers were given with another input. Put that in first.'],
+  [/^session: budget is .* has (\d+)/, 'These answers were given with another number of steps: $1.'],
+  [/^session: (NotJson|BadShape)/, 'This file holds no saved answers.'],
+  [/^session: BadVersion/, 'These answers were saved by another version of pasask.'],
+  [/^session: entry/, 'One of these answers is on a call that this run does not have.'],
 ];
 
 export function statusSaid(status, screen) {
@@ -99,7 +99,7 @@ const REPLIES = [
   [/^no cell/, 'There is no variable of this name, neither before the call nor after it. Names are written as the card has them.'],
   [/^nothing stands/, 'There is no answer to take back.'],
   [/^entry (\d+) does not stand/, 'This answer was taken back before.'],
-  [/^book is full/, 'This session has as many answers as it can hold.'],
+  [/^book is full/, 'No more answers can be held.'],
 ];
 
 export function replySaid(reply) {

@@ -1,44 +1,39 @@
-// One worker with the module in it. It does one job at a time, and can be stopped in the middle of one.
+// One worker. It does one turn at a time and keeps nothing between two; what runs in it ends only with the worker.
 
 export class Workshop {
-  constructor(packed) {
-    this.packed = packed;
-    this.open();
-  }
-
-  // A page from a disk may start no worker from a file, so the script comes with the page.
-  open() {
-    const script = new Blob([this.packed.worker], { type: 'text/javascript' });
-    const address = URL.createObjectURL(script);
+  constructor(script) {
+    // A page from a disk may start no worker from a file, so the script comes with the page.
+    const address = URL.createObjectURL(new Blob([script], { type: 'text/javascript' }));
     this.worker = new Worker(address);
+    this.address = address;
     this.answered = null;
-    this.worker.onmessage = ({ data }) => this.answered?.(data);
-    this.worker.onerror = (event) => this.answered?.({ trap: event.message || 'the worker did not start' });
-    this.ready = this.post({ module: this.packed.module });
-    this.ready.then(() => URL.revokeObjectURL(address));
+    // What a worker says that can do nothing any more.
+    this.broken = null;
+    this.worker.onmessage = ({ data }) => this.answer(data);
+    this.worker.onerror = (event) => {
+      this.broken = { trap: event.message || 'the worker did not start' };
+      this.answer(this.broken);
+    };
   }
 
-  post(message) {
+  answer(came) {
+    URL.revokeObjectURL(this.address);
+    this.answered?.(came);
+    this.answered = null;
+  }
+
+  // `module` is the compiled module, which all workers share.
+  turn(module, turn) {
+    if (this.broken !== null) return Promise.resolve(this.broken);
     return new Promise((done) => {
-      this.answered = (answer) => {
-        this.answered = null;
-        done(answer);
-      };
-      this.worker.postMessage(message);
+      this.answered = done;
+      this.worker.postMessage({ module, turn });
     });
   }
 
-  async turn(turn) {
-    const { worker } = this;
-    const { trap } = await this.ready;
-    // A job of a worker that was ended meanwhile gets no answer, and the worker in its place does not get the job.
-    if (this.worker !== worker) return new Promise(() => {});
-    return trap === undefined ? this.post({ turn }) : { trap };
-  }
-
-  // What runs is ended without an answer, and all its memory is given back.
-  renew() {
+  // What runs gets no answer, and all its memory is given back.
+  end() {
     this.worker.terminate();
-    this.open();
+    URL.revokeObjectURL(this.address);
   }
 }

@@ -36,9 +36,10 @@ function played({ knows = false } = {}) {
   const turns = [];
   const engine = {
     fails: null,
-    forget() {},
+    stop() {},
     think(turn, lines) { engine.ahead = lines; },
-    async turn(turn) {
+    ask: (turn) => engine.line(turn),
+    async line(turn) {
       turns.push(turn);
       if (engine.fails !== null) return engine.fails;
       const shown = digest(screenFor(turn.lines, turn.asks, knows), turn.asks);

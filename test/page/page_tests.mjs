@@ -124,8 +124,20 @@ export const TESTS = {
     const { verdict: built } = t.built;
     t.holds('the foot says whether its engine is proved', built.startsWith('logic=proved ') === /proved program/.test((await t.page.text('#trust'))[0]));
     t.equal('and has the line of the proof', await t.page.value('document.querySelector("#trust").title'), built);
+    t.equal('there is nothing to run yet', await t.page.value('document.querySelector("#run").getAttribute("aria-disabled")'), 'true');
+    t.holds('the calls will stand to the right', /will stand here/.test((await t.page.text('#right'))[0]));
     await t.picture('1-first');
     await accessible(t, 'first view');
+    await t.page.choose('#sessionFile', 'friday.session', '{}');
+    await t.page.until('document.querySelector(".notice") !== null');
+    t.holds('answers want their program first', /Open the program first/.test(await notices(t)));
+    await t.page.click('#trusted');
+    t.equal('the focus is on what is trusted', await t.page.value('document.activeElement.textContent'), 'What is trusted');
+    const trusted = (await t.page.text('#helpBox'))[0];
+    t.equal('which is told by name', ['compiler', 'memory', 'addresses', 'worker', 'browser'].filter((it) => !trusted.includes(it)), []);
+    await t.picture('1-trusted');
+    await accessible(t, 'what is trusted');
+    await t.page.press('Escape');
   },
 
   // As somebody goes about it who has read nothing: what stands out is pressed, and what is seen is judged by the story.
@@ -136,10 +148,14 @@ export const TESTS = {
     await t.page.click('#middle button.main');
     await calm(t, 0);
     t.holds('the story says what should come', /add 70 to coins/.test((await t.page.text('.story'))[0]));
+    t.holds('the first question says what to judge', /^Judge what this call did with what it got/.test((await t.page.text('#question .judge'))[0] ?? ''));
+    t.holds('the tree says where the mistake is', /^change mistake in here 0$/.test((await seen(t, '#tree .row[data-call="0"]'))[0].replace(/^\W+/, '')));
+    t.equal('and of a program that prints nothing no more is said', await seen(t, '#outputBox'), ['The program printed (nothing)']);
     t.equal('and the question what came', await seen(t, '#question .cells th, #question .cells td:nth-child(2)'), ['coins', '0 \u2192 52']);
     await t.picture('0-first-minute-question');
     await t.page.click(button('wrong'));
     await calm(t, 1);
+    t.equal('which is said once', await t.page.text('#question .judge'), []);
     t.equal('50 is what fifty should add', await seen(t, '#question .cells td:nth-child(2)'), ['0 \u2192 50']);
     await t.page.click(button('right'));
     await calm(t, 2);
@@ -239,7 +255,7 @@ export const TESTS = {
     t.equal('the answers are listed', (await t.page.text('.history li')).length, 3);
     await t.page.choose('#sessionFile', 'odd.session', '{}');
     await t.page.until(`${isCalm} && document.querySelector('.notice.bad') !== null`);
-    t.holds('what is no session is refused', /no saved session/.test(await notices(t)));
+    t.holds('what is no session is refused', /holds no saved answers/.test(await notices(t)));
     await ran(t, 'powers.pas', SQUARES);
     await t.page.choose('#sessionFile', 'friday.session', saved.bytes);
     await t.page.until(`${isCalm} && document.querySelector('.notice.bad') !== null`);
@@ -295,6 +311,7 @@ export const TESTS = {
     t.holds('with boxes', drawn.every((it) => it.boxes >= 1));
     t.holds('and arrows', drawn.some((it) => it.arrows >= 1));
     t.holds('and a text for those who do not see it', drawn.every((it) => it.said.length > 20));
+    t.holds('what the numbers are', /number of the box/.test((await t.page.text('#question .legend')).join(' ')));
     await t.picture('9-list');
     await accessible(t, 'a drawn list');
     await opened(t, 'tree');

@@ -8,7 +8,7 @@ import { spawnSync } from 'node:child_process';
 import { accessSync, constants, existsSync, mkdirSync, mkdtempSync, readFileSync, rmSync, writeFileSync } from 'node:fs';
 import { createServer } from 'node:http';
 import { tmpdir } from 'node:os';
-import { basename, join, resolve } from 'node:path';
+import { join, resolve } from 'node:path';
 import { fileURLToPath, pathToFileURL } from 'node:url';
 import { parseArgs } from 'node:util';
 import { Browser } from './browser.mjs';
@@ -42,7 +42,7 @@ function sentences() {
 // A web server for the page, as plain as they come.
 function serve(root) {
   const server = createServer((request, answer) => {
-    const name = basename(new URL(request.url, 'http://127.0.0.1').pathname) || 'index.html', file = join(root, name);
+    const name = new URL(request.url, 'http://127.0.0.1').pathname.slice(1) || 'index.html', file = join(root, name);
     if (!existsSync(file)) return answer.writeHead(404).end();
     return answer.writeHead(200, { 'content-type': TYPES[/\.\w+$/.exec(name)?.[0]] ?? 'application/octet-stream' }).end(readFileSync(file));
   });

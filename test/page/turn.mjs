@@ -2,14 +2,15 @@
 // called in a new instance, and what it wrote is copied out. Nothing of the page itself is used here.
 import { readFileSync } from 'node:fs';
 
-const SCREEN_FULL = 6, SESSION_SAVED = 1, WORD = 8, CAME_WORDS = 4;
-const FIRST_ROOM = 1 << 20, MOST_ROOM = 1 << 29, MOST_SESSION = 1 << 24;
+const SCREEN_FULL = 6, FIRST_ROOM = 1 << 20, MOST_ROOM = 1 << 29;
 
 export const openModule = (file) => new WebAssembly.Module(readFileSync(file));
 
-const bytesOf = (text) => (typeof text === 'string' ? new TextEncoder().encode(text) : text);
-
-function turnIn(module, given, screenRoom) {
+// One turn in a new instance, with that much room for the screen. It uses nothing from outside of it, so its text can be given to a
+// browser's worker, too.
+export function turnIn(module, given, screenRoom) {
+  const WORD = 8, CAME_WORDS = 4, SESSION_SAVED = 1, MOST_SESSION = 1 << 24;
+  const bytesOf = (text) => (typeof text === 'string' ? new TextEncoder().encode(text) : text);
   const { exports } = new WebAssembly.Instance(module, {});
   const roomFor = (size) => {
     const at = exports.room(BigInt(size));
@@ -25,12 +26,14 @@ function turnIn(module, given, screenRoom) {
   const names = Object.keys(given.files ?? {}), pieces = names.flatMap((name) => [bytesOf(name), bytesOf(given.files[name])]);
   const sizes = roomFor(WORD * pieces.length);
   new BigUint64Array(exports.memory.buffer, Number(sizes), pieces.length).set(pieces.map((it) => BigInt(it.length)));
-  const session = given.session ?? null;
+  const files = new Uint8Array(pieces.reduce((sum, it) => sum + it.length, 0));
+  pieces.reduce((at, it) => (files.set(it, at), at + it.length), 0);
+  const session = given.session ?? null, lines = bytesOf(given.console ?? '');
   const parts = [
     ...put(given.source), ...put(given.input ?? ''), ...put(given.budget ?? '1000000'), session === null ? 0 : 1, ...put(session ?? ''),
-    sizes, BigInt(names.length), ...put(Buffer.concat(pieces)), ...put(given.console ?? ''),
+    sizes, BigInt(names.length), ...put(files), ...put(lines),
   ];
-  const sessionRoom = /^save /m.test(Buffer.from(given.console ?? '').toString('latin1')) ? MOST_SESSION : 0;
+  const sessionRoom = /^save /m.test(new TextDecoder('latin1').decode(lines)) ? MOST_SESSION : 0;
   const screen = roomFor(screenRoom), saved = roomFor(sessionRoom), came = roomFor(WORD * CAME_WORDS);
   const begun = performance.now();
   exports.pasask_turn(...parts, screen, BigInt(screenRoom), saved, BigInt(sessionRoom), came);

@@ -1,20 +1,11 @@
 -- What the answers that stand say, entry by entry, and after one entry more or less.
-use Rattle.std.proofs.Common.{◌≡◌, ℕ, Bool, true, false, cond, ◌&&◌, ◌||◌, List, [], ◌∷◌, ◌++◌, Some, None, refl}
-use Rattle.std.proofs.Common.{sym, ap, ◌∙◌, append-nil}
+use Rattle.std.proofs.Common.{◌&&◌, ◌++◌, ◌||◌, ◌∙◌, ◌∷◌, ◌≡◌, [], ℕ, Bool, List, None, Some, ap, append-nil, cond, false, refl, sym, true}
+use Rattle.std.proofs.lemmas.{Bool.cond-false, Bool.cond-true, Bool.eq-eqb, Bool.ne_eqb, List.Elements.filter_map-append, List.Folds.list_any-append}
 use Rattle.std.specs.List.{cons_option, filter_map, list_any}
-use Rattle.std.proofs.lemmas.Bool.{eq-eqb, ne_eqb, cond-true, cond-false}
-use Rattle.std.proofs.lemmas.List.Elements.{filter_map-append}
-use Rattle.std.proofs.lemmas.List.Folds.{list_any-append}
-use Rattle.answer_book.specs.declared.entries.Entry.{Entry}
-use Rattle.answer_book.specs.declared.entries.Judgement.{Judgement}
-use Rattle.answer_book.specs.declared.entries.What.{What}
-use Rattle.answer_book.specs.declared.entries.What.TheVariants.{Judged, Trusted}
-use Rattle.answer_book.specs.Entries.{entries_with, entry_saying, said_by, standing_answers}
-use Rattle.answer_book.specs.Marks.{is_trusted, judgement_on, last_judgement, trusts}
-use Rattle.answer_book.specs.Numbers.{last_of}
-use Rattle.answer_book.specs.Spoken.{entry_judgement, entry_trusts}
-use Rattle.answer_book.proofs.FilterMaps.{gives_none, gives_one}
-use Rattle.answer_book.proofs.LastWhere.{last_of_more}
+use Rattle.answer_book.proofs.{FilterMaps.gives_none, FilterMaps.gives_one, LastWhere.last_of_more}
+use Rattle.answer_book.specs.{Entries.entries_with, Entries.entry_saying, Entries.said_by, Entries.standing_answers, Marks.is_trusted, Marks.judgement_on}
+use Rattle.answer_book.specs.{Marks.last_judgement, Marks.trusts, Numbers.last_of, Spoken.entry_judgement, Spoken.entry_trusts}
+use Rattle.answer_book.specs.declared.entries.{Entry.Entry, Judgement.Judgement, What.What, What.TheVariants.Judged, What.TheVariants.Trusted}
 
 judgement_said : (call : ℕ) (what : What) (stands : Bool) (more : List What)
     → filter_map (judgement_on call) (cons_option (cond stands (Some what) None) more)

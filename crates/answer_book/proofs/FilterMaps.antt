@@ -1,13 +1,10 @@
 -- The last of what a function gives of the elements of a list, one element further.
-use Rattle.std.proofs.Common.{◌≡◌, ℕ, zero, suc, ◌+◌, Bool, ◌||◌, ◌<◌, List, [], ◌∷◌, ◌++◌, length, get_or, take, Option, Some, None, refl, sym, ap, ◌∙◌}
-use Rattle.std.proofs.Common.{append-nil}
-use Rattle.std.specs.Prelude.{slice_get, slice_set}
-use Rattle.std.specs.List.{filter_map, list_any, cons_option}
-use Rattle.std.proofs.lemmas.List.{take_more}
-use Rattle.std.proofs.lemmas.Option.{same_Some}
-use Rattle.std.proofs.lemmas.List.Elements.{filter_map-append}
-use Rattle.answer_book.specs.Numbers.{last_of}
+use Rattle.std.proofs.Common.{◌++◌, ◌+◌, ◌<◌, ◌||◌, ◌∙◌, ◌∷◌, ◌≡◌, [], ℕ, Bool, List, None, Option, Some, ap, append-nil, get_or, length, refl, slice_get}
+use Rattle.std.proofs.Common.{slice_set, suc, sym, take, zero}
+use Rattle.std.proofs.lemmas.{List.take_more, List.Elements.filter_map-append, Option.same_Some}
+use Rattle.std.specs.List.{cons_option, filter_map, list_any}
 use Rattle.answer_book.proofs.LastWhere.{last_of_more}
+use Rattle.answer_book.specs.Numbers.{last_of}
 
 further : {X Y : Type 0} (f : X → Option Y) (xs : List X) (i : ℕ) (d : X) → i < length xs
     → filter_map f (take (i + 1) xs) ≡ filter_map f (take i xs) ++ filter_map f (get_or xs i d ∷ [])

@@ -1,14 +1,12 @@
 -- The flags of the calls that are judged wrong.
-use Rattle.std.proofs.Common.{◌≡◌, ℕ, zero, suc, ◌<◌, ◌≤◌, Bool, true, false, not, List, [], ◌∷◌, length, get_or, set, replicate, Option, Some, None, refl, sym}
-use Rattle.std.proofs.Common.{ap, ◌∙◌, arith}
-use Rattle.std.specs.Prelude.{◌==◌, All, map, slice_get}
+use Rattle.std.proofs.Common.{◌<◌, ◌==◌, ◌∙◌, ◌∷◌, ◌≡◌, ◌≤◌, [], ℕ, All, Bool, List, None, Option, Some, ap, arith, false, get_or, length, map, not, refl}
+use Rattle.std.proofs.Common.{replicate, set, slice_get, suc, sym, true, zero}
 use Rattle.std.proofs.lemmas.Bool.{eq-eqb, ne_eqb, not_from_false, not_from_true}
-use Rattle.std.proofs.lemmas.List.{length-map, length-set, length-replicate, map-set}
-use Rattle.answer_book.specs.declared.entries.Judgement.{Judgement}
-use Rattle.answer_book.specs.declared.entries.Judgement.TheVariants.{Right, Wrong, Unknown}
-use Rattle.answer_book.specs.Judged.{AreFlagged, is_wrong_at, last_wrong, wrong_flag}
-use Rattle.answer_book.proofs.LastWhere.{last_where_from, no_last_where}
+use Rattle.std.proofs.lemmas.List.{length-map, length-replicate, length-set, map-set}
 use Rattle.weight_lanes.specs.Places.{IsSet}
+use Rattle.answer_book.proofs.LastWhere.{last_where_from, no_last_where}
+use Rattle.answer_book.specs.Judged.{AreFlagged, is_wrong_at, last_wrong, wrong_flag}
+use Rattle.answer_book.specs.declared.entries.Judgement.{Judgement, TheVariants.Right, TheVariants.Unknown, TheVariants.Wrong}
 
 no_flags : (n : ℕ) → replicate n 0 ≡ map wrong_flag (replicate n None)
 no_flags zero = refl

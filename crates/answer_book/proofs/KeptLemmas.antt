@@ -1,21 +1,12 @@
 -- A book stays kept when an entry is added or taken back.
-use Rattle.std.proofs.Common.{◌≡◌, ℕ, ◌<◌, Bool, true, false, ◌||◌, List, Option, Some, None, length, get_or}
-use Rattle.std.proofs.Common.{set, get_or-set_other, get_or-set_same, refl, sym, ap, ◌∙◌, inl, inr, arith}
-use Rattle.std.specs.Prelude.{map}
+use Rattle.std.proofs.Common.{◌<◌, ◌||◌, ◌∙◌, ◌≡◌, ℕ, Bool, List, None, Option, Some, ap, arith, false, get_or, get_or-set_other, get_or-set_same, inl, inr}
+use Rattle.std.proofs.Common.{length, map, refl, set, sym, true}
 use Rattle.std.proofs.lemmas.Bool.{cases_eq, or_right}
-use Rattle.std.proofs.lemmas.List.{length-set}
-use Rattle.std.proofs.lemmas.List.Elements.{All-push}
-use Rattle.std.proofs.lemmas.List.FromFn.{fill_by_all, get_or-map-range_with_len, length-map-range_with_len}
-use Rattle.answer_book.specs.declared.entries.Entry.{Entry}
-use Rattle.answer_book.specs.declared.entries.Judgement.{Judgement}
-use Rattle.answer_book.specs.declared.entries.What.TheVariants.{Judged, Trusted}
-use Rattle.answer_book.specs.Answers.{Answers, with_answer}
-use Rattle.answer_book.specs.Entries.{entries_with, entry_saying, standing_answers}
-use Rattle.answer_book.specs.InRange.{IsInRange}
-use Rattle.answer_book.specs.Kept.{AreKept}
-use Rattle.answer_book.specs.Marks.{is_trusted, last_judgement, trusts}
-use Rattle.answer_book.specs.Numbers.{numbers_below}
+use Rattle.std.proofs.lemmas.List.{length-set, Elements.All-push, FromFn.fill_by_all, FromFn.get_or-map-range_with_len, FromFn.length-map-range_with_len}
 use Rattle.answer_book.proofs.EntryLemmas.{in_another, in_its_routine, last_with, last_with_other, on_another, on_its_call, trusted_with}
+use Rattle.answer_book.specs.{Answers.Answers, Answers.with_answer, Entries.entries_with, Entries.entry_saying, Entries.standing_answers, InRange.IsInRange}
+use Rattle.answer_book.specs.{Kept.AreKept, Marks.is_trusted, Marks.last_judgement, Marks.trusts, Numbers.numbers_below}
+use Rattle.answer_book.specs.declared.entries.{Entry.Entry, Judgement.Judgement, What.TheVariants.Judged, What.TheVariants.Trusted}
 
 -- a column of f where one place was written anew, and g differs from f at that place alone
 pub column_set : {X : Type 0} (f g : ℕ → X) (n at : ℕ) (x : X) → at < n → g at ≡ x → ((k : ℕ) → k < n → (k ≡ at → ⊥) → g k ≡ f k)

@@ -1,10 +1,7 @@
 -- The last of the first numbers that passes a test, and the last of a list with one more element.
-use Rattle.std.proofs.Common.{◌≡◌, ℕ, zero, suc, ◌+◌, ◌<◌, Bool, true, false, cond, List, [], ◌∷◌, ◌++◌, Option, Some, None, inl, inr, refl, sym, ap, ◌∙◌}
-use Rattle.std.proofs.Common.{arith}
-use Rattle.std.specs.Prelude.{find}
+use Rattle.std.proofs.Common.{◌++◌, ◌+◌, ◌<◌, ◌∙◌, ◌∷◌, ◌≡◌, [], ℕ, Bool, List, None, Option, Some, ap, arith, cond, false, find, inl, inr, refl, suc, sym}
+use Rattle.std.proofs.{Common.true, Common.zero, lemmas.Bool.cases_eq, lemmas.Bool.cases_order, lemmas.Bool.true≢false, lemmas.List.reverse-append}
 use Rattle.std.specs.List.{range_with_len}
-use Rattle.std.proofs.lemmas.Bool.{cases_eq, cases_order, true≢false}
-use Rattle.std.proofs.lemmas.List.{reverse-append}
 use Rattle.answer_book.specs.Numbers.{last_of, last_where, numbers_below}
 
 -- the last of a list with one more element is that one

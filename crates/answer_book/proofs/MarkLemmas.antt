@@ -1,20 +1,11 @@
 -- Marks and the accused, from what a book keeps.
-use Rattle.std.proofs.Common.{◌≡◌, ℕ, ◌<◌, Bool, true, false, List, Option, Some, None, length, get_or, refl, sym, ap, ◌∙◌, arith}
-use Rattle.std.specs.Prelude.{slice_get, slice_index}
-use Rattle.std.proofs.lemmas.List.Elements.{All-get_or}
-use Rattle.std.proofs.lemmas.List.FromFn.{get_or-map-range_with_len, length-map-range_with_len}
-use Rattle.std.proofs.lemmas.Option.{slice_get-get_or}
-use Rattle.answer_book.specs.declared.entries.Judgement.{Judgement}
-use Rattle.answer_book.specs.declared.entries.Judgement.TheVariants.{Right, Wrong, Unknown}
-use Rattle.answer_book.specs.declared.entries.What.{What}
-use Rattle.answer_book.specs.Accused.{accused_of, is_wrong}
-use Rattle.answer_book.specs.Answers.{Answers}
-use Rattle.answer_book.specs.Entries.{standing_answers}
-use Rattle.answer_book.specs.Judged.{is_wrong_at, is_wrong_judgement, last_wrong}
-use Rattle.answer_book.specs.Kept.{AreKept}
-use Rattle.answer_book.specs.Marks.{is_trusted, last_judgement, mark_by, mark_given, mark_of}
-use Rattle.answer_book.specs.Numbers.{last_where, numbers_below}
+use Rattle.std.proofs.Common.{◌<◌, ◌∙◌, ◌≡◌, ℕ, Bool, List, None, Option, Some, ap, arith, false, get_or, length, refl, slice_get, slice_index, sym, true}
+use Rattle.std.proofs.lemmas.{List.Elements.All-get_or, List.FromFn.get_or-map-range_with_len, List.FromFn.length-map-range_with_len, Option.slice_get-get_or}
 use Rattle.answer_book.proofs.LastWhere.{last_where_same}
+use Rattle.answer_book.specs.{Accused.accused_of, Accused.is_wrong, Answers.Answers, Entries.standing_answers, Judged.is_wrong_at, Judged.is_wrong_judgement}
+use Rattle.answer_book.specs.{Judged.last_wrong, Kept.AreKept, Numbers.last_where, Numbers.numbers_below, declared.entries.What.What}
+use Rattle.answer_book.specs.Marks.{is_trusted, last_judgement, mark_by, mark_given, mark_of}
+use Rattle.answer_book.specs.declared.entries.Judgement.{Judgement, TheVariants.Right, TheVariants.Unknown, TheVariants.Wrong}
 
 pub judged_length : (book : Answers) (judged : List (Option Judgement)) (trusted : List Bool) → AreKept book judged trusted
     → length judged ≡ length book.routine

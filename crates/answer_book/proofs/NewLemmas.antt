@@ -1,25 +1,13 @@
 -- A new book is kept, and one with an entry more.
-use Rattle.std.proofs.Common.{◌≡◌, ℕ, ◌<◌, ◌≤◌, Bool, true, false, List, [], ◌∷◌, ◌++◌, Option, Some, None, length, replicate, set, sym, ap, subst, ◌∙◌}
-use Rattle.std.proofs.Common.{append-nil}
-use Rattle.std.specs.Prelude.{All, map}
-use Rattle.std.proofs.lemmas.Bool.{cond-false}
-use Rattle.std.proofs.lemmas.List.{get_or-replicate, length-replicate}
+use Rattle.std.proofs.Common.{◌++◌, ◌<◌, ◌∙◌, ◌∷◌, ◌≡◌, ◌≤◌, [], ℕ, All, Bool, List, None, Option, Some, ap, append-nil, false, length, map, replicate, set}
+use Rattle.std.proofs.Common.{subst, sym, true}
+use Rattle.std.proofs.lemmas.{Bool.cond-false, List.get_or-replicate, List.length-replicate, List.FromFn.fill_by_all}
 use Rattle.std.proofs.lemmas.List.Elements.{All-map, All-nil, All-push, filter_map-append}
-use Rattle.std.proofs.lemmas.List.FromFn.{fill_by_all}
-use Rattle.call_tree.specs.Recording.{Recording, routines_of}
-use Rattle.call_tree.specs.declared.records.Call.{Call}
-use Rattle.answer_book.specs.declared.entries.Entry.{Entry}
-use Rattle.answer_book.specs.declared.entries.Judgement.{Judgement}
-use Rattle.answer_book.specs.declared.entries.What.{What}
-use Rattle.answer_book.specs.declared.entries.What.TheVariants.{Judged, Trusted}
-use Rattle.answer_book.specs.Answers.{Answers, book_with, with_entry}
-use Rattle.answer_book.specs.Entries.{entry_saying, said_by, standing_answers}
-use Rattle.answer_book.specs.InRange.{IsInRange}
-use Rattle.answer_book.specs.Kept.{AreKept}
-use Rattle.answer_book.specs.Marks.{is_trusted, last_judgement}
-use Rattle.answer_book.specs.Numbers.{numbers_below}
-use Rattle.answer_book.proofs.FilterMaps.{gives_none}
-use Rattle.answer_book.proofs.KeptLemmas.{judged_is_kept, trusted_is_kept}
+use Rattle.call_tree.specs.{Recording.Recording, Recording.routines_of, declared.records.Call.Call}
+use Rattle.answer_book.proofs.{FilterMaps.gives_none, KeptLemmas.judged_is_kept, KeptLemmas.trusted_is_kept}
+use Rattle.answer_book.specs.{Answers.Answers, Answers.book_with, Answers.with_entry, Entries.entry_saying, Entries.said_by, Entries.standing_answers}
+use Rattle.answer_book.specs.{InRange.IsInRange, Kept.AreKept, Marks.is_trusted, Marks.last_judgement, Numbers.numbers_below}
+use Rattle.answer_book.specs.declared.entries.{Entry.Entry, Judgement.Judgement, What.What, What.TheVariants.Judged, What.TheVariants.Trusted}
 
 pub empty_is_kept : (run : Recording) (judged : List (Option Judgement)) (trusted : List Bool) → length (routines_of run.calls) ≤ 500000
     → All (λ (call : Call). call.routine < run.routines) run.calls → judged ≡ replicate (length (routines_of run.calls)) None

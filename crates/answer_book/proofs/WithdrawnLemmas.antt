@@ -1,24 +1,13 @@
 -- A book stays kept when an entry is taken back and what it named is looked up anew.
-use Rattle.std.proofs.Common.{◌≡◌, ℕ, ◌-◌, Bool, true, false, cond, List, Option, Some, None, length, set, refl, sym, ap}
-use Rattle.std.proofs.Common.{subst, ◌∙◌}
-use Rattle.std.specs.Prelude.{◌==◌, All, slice_get, slice_set}
-use Rattle.std.specs.List.{filter_map, list_any}
-use Rattle.std.proofs.lemmas.List.Elements.{All-get_or, All-set}
-use Rattle.std.proofs.lemmas.Option.{get_or_from_slice_get, slice_get_within}
-use Rattle.answer_book.specs.declared.entries.Entry.{Entry}
-use Rattle.answer_book.specs.declared.entries.Judgement.{Judgement}
-use Rattle.answer_book.specs.declared.entries.What.{What}
-use Rattle.answer_book.specs.declared.entries.What.TheVariants.{Judged, Trusted}
-use Rattle.answer_book.specs.Answers.{Answers}
-use Rattle.answer_book.specs.Entries.{entries_without, entry_at, entry_saying, standing_answers, with_taken_back}
-use Rattle.answer_book.specs.InRange.{IsInRange}
-use Rattle.answer_book.specs.Kept.{AreKept}
-use Rattle.answer_book.specs.Marks.{is_trusted, judgement_on, last_judgement, trusts}
-use Rattle.answer_book.specs.Numbers.{last_of}
-use Rattle.answer_book.specs.Spoken.{entry_judgement, entry_trusts}
+use Rattle.std.proofs.Common.{◌-◌, ◌==◌, ◌∙◌, ◌≡◌, ℕ, All, Bool, List, None, Option, Some, ap, cond, false, length, refl, set, slice_get, slice_set, subst, sym}
+use Rattle.std.{proofs.Common.true, specs.List.filter_map, specs.List.list_any}
+use Rattle.std.proofs.lemmas.{List.Elements.All-get_or, List.Elements.All-set, Option.get_or_from_slice_get, Option.slice_get_within}
+use Rattle.answer_book.proofs.{FilterMaps.filter_map-set, FilterMaps.list_any-set, KeptLemmas.column_same, KeptLemmas.column_set}
 use Rattle.answer_book.proofs.EntryLemmas.{in_another, last_by_entries, on_another, trusted_by_entries}
-use Rattle.answer_book.proofs.FilterMaps.{filter_map-set, list_any-set}
-use Rattle.answer_book.proofs.KeptLemmas.{column_same, column_set}
+use Rattle.answer_book.specs.{Answers.Answers, InRange.IsInRange, Kept.AreKept, Numbers.last_of, Spoken.entry_judgement, Spoken.entry_trusts}
+use Rattle.answer_book.specs.Entries.{entries_without, entry_at, entry_saying, standing_answers, with_taken_back}
+use Rattle.answer_book.specs.Marks.{is_trusted, judgement_on, last_judgement, trusts}
+use Rattle.answer_book.specs.declared.entries.{Entry.Entry, Judgement.Judgement, What.What, What.TheVariants.Judged, What.TheVariants.Trusted}
 
 -- the entry that says this stands at the place, and was taken back there
 pub record IsWithdrawn (entries after : List Entry) (place : ℕ) (what : What) : Type 0 where

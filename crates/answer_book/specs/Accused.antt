@@ -1,10 +1,7 @@
 -- The accused call.
-use Rattle.std.specs.Prelude.{ℕ, Bool, true, false, List, Option, length}
-use Rattle.answer_book.specs.declared.entries.What.{What}
-use Rattle.call_tree.specs.declared.records.Mark.{Mark}
-use Rattle.call_tree.specs.declared.records.Mark.TheVariants.{Wrong}
-use Rattle.answer_book.specs.Marks.{mark_of}
-use Rattle.answer_book.specs.Numbers.{last_where, numbers_below}
+use Rattle.std.specs.Prelude.{ℕ, Bool, List, Option, false, length, true}
+use Rattle.call_tree.specs.declared.records.Mark.{Mark, TheVariants.Wrong}
+use Rattle.answer_book.specs.{Marks.mark_of, Numbers.last_where, Numbers.numbers_below, declared.entries.What.What}
 
 -- whether a call is said to be wrong
 abbrev pub is_wrong : Mark → Bool

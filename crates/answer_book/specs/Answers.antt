@@ -1,12 +1,10 @@
 -- What a book holds: the calls that it is about, and the entries; and what it answers to a change.
-use Rattle.std.specs.Prelude.{ℕ, ◌+◌, nat_le, if◌then◌else◌, List, [], ◌∷◌, ◌++◌, Option, Some, None}
-use Rattle.std.specs.Prelude.{Result, Ok, Err, length}
-use Rattle.answer_book.specs.declared.entries.BookFault.{BookFault}
-use Rattle.answer_book.specs.declared.entries.BookFault.TheVariants as fault
-use Rattle.answer_book.specs.declared.entries.Entry.{Entry}
-use Rattle.answer_book.specs.declared.entries.What.{What}
+use Rattle.std.specs.Prelude.{if◌then◌else◌, ◌++◌, ◌+◌, ◌∷◌, [], ℕ, Err, List, None, Ok, Option, Result, Some, length}
+use Rattle.std.specs.Prelude.{nat_le}
 use Rattle.call_tree.specs.Recording.{Recording, routines_of}
 use Rattle.answer_book.specs.Entries.{entries_with, entries_without, first_entries, is_standing, last_standing}
+use Rattle.answer_book.specs.declared.entries.{BookFault.BookFault, Entry.Entry, What.What}
+use Rattle.answer_book.specs.declared.entries.BookFault.TheVariants as fault
 
 -- the routine of each call, the number of routines, and the entries
 pub record Answers : Type 0 where

@@ -1,13 +1,10 @@
 -- The entries of a book, numbered from 1 in the order in which they were made, and which of them stand. An entry stands
 -- until it is taken back, and taking back makes no entry.
-use Rattle.std.specs.Prelude.{ℕ, Bool, true, false, ◌+◌, ◌-◌, ◌==◌, if◌then◌else◌, List, [], ◌∷◌, ◌++◌, Option, Some}
-use Rattle.std.specs.Prelude.{None, length, slice_get, slice_set}
-use Rattle.std.specs.List.{filter_map}
-use Rattle.answer_book.specs.declared.entries.Entry.{Entry}
-use Rattle.answer_book.specs.declared.entries.Judgement.TheVariants.{Wrong}
-use Rattle.answer_book.specs.declared.entries.What.{What}
-use Rattle.answer_book.specs.declared.entries.What.TheVariants.{Judged}
+use Rattle.std.specs.Prelude.{if◌then◌else◌, ◌++◌, ◌+◌, ◌-◌, ◌==◌, ◌∷◌, [], ℕ, Bool, List, None, Option, Some, false}
+use Rattle.std.specs.{Prelude.length, Prelude.slice_get, Prelude.slice_set, Prelude.true, List.filter_map}
 use Rattle.answer_book.specs.Numbers.{last_where, numbers_below}
+use Rattle.answer_book.specs.declared.entries.{Entry.Entry, Judgement.TheVariants.Wrong}
+use Rattle.answer_book.specs.declared.entries.What.{What, TheVariants.Judged}
 
 -- a new entry that says this
 abbrev pub entry_saying : What → Entry

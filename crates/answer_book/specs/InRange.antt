@@ -1,7 +1,6 @@
 -- What entries name.
-use Rattle.std.specs.Prelude.{ℕ, ◌<◌}
-use Rattle.answer_book.specs.declared.entries.What.{What}
-use Rattle.answer_book.specs.declared.entries.What.TheVariants.{Judged, Trusted}
+use Rattle.std.specs.Prelude.{◌<◌, ℕ}
+use Rattle.answer_book.specs.declared.entries.What.{What, TheVariants.Judged, TheVariants.Trusted}
 
 -- a call, of which there are this many, or a routine, of which there are that many
 abbrev pub IsInRange : ℕ → ℕ → What → Type 0

@@ -1,8 +1,7 @@
 -- The last judgements on the calls, kept beside flags of those that are wrong.
-use Rattle.std.specs.Prelude.{◌≡◌, ◌≤◌, ℕ, Bool, true, false, List, Option, Some, None, length, map, slice_get}
-use Rattle.answer_book.specs.declared.entries.Judgement.{Judgement}
-use Rattle.answer_book.specs.declared.entries.Judgement.TheVariants.{Wrong}
+use Rattle.std.specs.Prelude.{◌≡◌, ◌≤◌, ℕ, Bool, List, None, Option, Some, false, length, map, slice_get, true}
 use Rattle.answer_book.specs.Numbers.{last_where, numbers_below}
+use Rattle.answer_book.specs.declared.entries.Judgement.{Judgement, TheVariants.Wrong}
 
 abbrev pub is_wrong_judgement : Option Judgement → Bool
 is_wrong_judgement (Some Wrong) = true

@@ -1,13 +1,9 @@
 -- How a book is kept: beside the entries the last judgement on each call, and which routines are trusted.
-use Rattle.std.specs.Prelude.{◌≡◌, ◌<◌, ◌≤◌, Bool, All, List, Option, length, map}
-use Rattle.answer_book.specs.declared.book.Book.TheInside.{Inside}
-use Rattle.answer_book.specs.declared.entries.Judgement.{Judgement}
+use Rattle.std.specs.Prelude.{◌<◌, ◌≡◌, ◌≤◌, All, Bool, List, Option, length, map}
 use Rattle.call_tree.specs.Recording.{routines_of}
-use Rattle.answer_book.specs.Answers.{Answers}
-use Rattle.answer_book.specs.Entries.{standing_answers}
-use Rattle.answer_book.specs.InRange.{IsInRange}
+use Rattle.answer_book.specs.{Answers.Answers, Entries.standing_answers, InRange.IsInRange, Numbers.numbers_below}
 use Rattle.answer_book.specs.Marks.{is_trusted, last_judgement}
-use Rattle.answer_book.specs.Numbers.{numbers_below}
+use Rattle.answer_book.specs.declared.{book.Book.TheInside.Inside, entries.Judgement.Judgement}
 
 abbrev pub answers_of : Inside → Answers
 answers_of kept = record {

@@ -1,15 +1,10 @@
 -- The mark of a call, from the answers that stand, first to last. Of several judgements on one call the last counts,
 -- and a judgement counts more than trust, whichever came later; both are this project's own rules.
-use Rattle.std.specs.Prelude.{ℕ, Bool, true, false, ◌==◌, if◌then◌else◌, List, Option, Some, None, length, map}
-use Rattle.std.specs.Prelude.{slice_index}
-use Rattle.std.specs.List.{filter_map, list_any}
-use Rattle.answer_book.specs.declared.entries.Judgement.{Judgement}
-use Rattle.answer_book.specs.declared.entries.Judgement.TheVariants as judged
-use Rattle.answer_book.specs.declared.entries.What.{What}
-use Rattle.answer_book.specs.declared.entries.What.TheVariants.{Judged, Trusted}
+use Rattle.std.specs.Prelude.{if◌then◌else◌, ◌==◌, ℕ, Bool, List, None, Option, Some, false, length, map, slice_index}
+use Rattle.std.specs.{Prelude.true, List.filter_map, List.list_any}
 use Rattle.call_tree.specs.declared.records.Mark.{Mark}
-use Rattle.call_tree.specs.declared.records.Mark.TheVariants as mark
-use Rattle.answer_book.specs.Numbers.{last_of, numbers_below}
+use Rattle.answer_book.specs.{Numbers.last_of, Numbers.numbers_below, declared.entries.Judgement.Judgement}
+use Rattle.answer_book.specs.declared.entries.What.{What, TheVariants.Judged, TheVariants.Trusted}
 
 -- the judgement that an answer gives on the call
 abbrev pub judgement_on : ℕ → What → Option Judgement
@@ -31,15 +26,15 @@ is_trusted answers routine = list_any (trusts routine) answers
 
 -- the mark that a judgement gives
 abbrev pub mark_by : Judgement → Mark
-mark_by judged.Right = mark.Right
-mark_by judged.Wrong = mark.Wrong
-mark_by judged.Unknown = mark.Unknown
+mark_by Judgement.Right = Mark.Right
+mark_by Judgement.Wrong = Mark.Wrong
+mark_by Judgement.Unknown = Mark.Unknown
 
 -- the mark by the last judgement, if there is one, and by whether the routine is trusted
 abbrev pub mark_given : Option Judgement → Bool → Mark
 mark_given (Some judgement) trusted = mark_by judgement
-mark_given None true = mark.Trusted
-mark_given None false = mark.Unjudged
+mark_given None true = Mark.Trusted
+mark_given None false = Mark.Unjudged
 
 -- the mark of a call, where `routine` has the routine of each call
 unfoldable pub mark_of : List ℕ → List What → ℕ → Mark

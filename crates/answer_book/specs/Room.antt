@@ -1,5 +1,5 @@
 -- The room of a list of entries.
-use Rattle.std.specs.Prelude.{◌≤◌, vec_capacity, vec_len, Vec}
+use Rattle.std.specs.Prelude.{◌≤◌, Vec, vec_capacity, vec_len}
 use Rattle.answer_book.specs.declared.entries.Entry.{Entry}
 
 -- there is room for 100,000 entries, and no more are in it

@@ -1,8 +1,7 @@
 -- What one entry says of a call or a routine, while it stands.
-use Rattle.std.specs.Prelude.{ℕ, Bool, ◌&&◌, if◌then◌else◌, Option, None}
-use Rattle.answer_book.specs.declared.entries.Entry.{Entry}
-use Rattle.answer_book.specs.declared.entries.Judgement.{Judgement}
+use Rattle.std.specs.Prelude.{if◌then◌else◌, ◌&&◌, ℕ, Bool, None, Option}
 use Rattle.answer_book.specs.Marks.{judgement_on, trusts}
+use Rattle.answer_book.specs.declared.entries.{Entry.Entry, Judgement.Judgement}
 
 -- the judgement that it gives on the call
 abbrev pub entry_judgement : ℕ → Entry → Option Judgement

@@ -1,14 +1,11 @@
 //! The book of a search.
-ghost use Rattle.std.specs.Prelude.{◌≡◌, ◌<◌, ◌≤◌, [], true, All, IfOk, OnErr, OnOk, Some, length};
-ghost use Rattle.answer_book.specs.Accused.{accused_of};
-ghost use Rattle.answer_book.specs.Answers.{book_with, judge_answer, new_book, take_back_answer};
-ghost use Rattle.answer_book.specs.Answers.{take_back_last_answer, trust_answer, with_answer, with_entry};
-ghost use Rattle.answer_book.specs.Answers.{without_answer};
-ghost use Rattle.answer_book.specs.Entries.{entry_at, is_standing, standing_answers};
-ghost use Rattle.answer_book.specs.InRange.{IsInRange};
-ghost use Rattle.answer_book.specs.Marks.{mark_of};
-ghost use Rattle.answer_book.specs.declared.entries.What.TheVariants as what;
+ghost use Rattle.std.specs.Prelude.{◌<◌, ◌≡◌, ◌≤◌, [], All, IfOk, OnErr, OnOk, Some, length, true};
 ghost use Rattle.call_tree.specs.Recording.{routines_of};
+ghost use Rattle.answer_book.specs.{Accused.accused_of, InRange.IsInRange, Marks.mark_of};
+ghost use Rattle.answer_book.specs.Answers.{book_with, judge_answer, new_book, take_back_answer, take_back_last_answer};
+ghost use Rattle.answer_book.specs.Answers.{trust_answer, with_answer, with_entry, without_answer};
+ghost use Rattle.answer_book.specs.Entries.{entry_at, is_standing, standing_answers};
+ghost use Rattle.answer_book.specs.declared.entries.What.TheVariants as what;
 
 use crate::entries::{BookFault, Entry, Judgement, What};
 use crate::entry_list::EntryList;

@@ -1,10 +1,8 @@
 //! The list of the entries of a book.
-ghost use Rattle.std.specs.Prelude.{◌≡◌, ℕ, ◌<◌, ◌≤◌, [], ◌∷◌, ◌++◌, true, IfOk, OnErr, OnOk, Some, length};
+ghost use Rattle.std.specs.Prelude.{◌++◌, ◌<◌, ◌∷◌, ◌≡◌, ◌≤◌, [], ℕ, IfOk, OnErr, OnOk, Some, length, true};
 ghost use Rattle.std.specs.List.{filter_map, list_any};
+ghost use Rattle.answer_book.specs.{Answers.next_number, Entries.is_standing, Entries.last_standing, Numbers.last_of};
 ghost use Rattle.answer_book.specs.Entries.{entries_with, entries_without, entry_at, entry_saying, first_entries};
-ghost use Rattle.answer_book.specs.Entries.{is_standing, last_standing};
-ghost use Rattle.answer_book.specs.Numbers.{last_of};
-ghost use Rattle.answer_book.specs.Answers.{next_number};
 ghost use Rattle.answer_book.specs.Spoken.{entry_judgement, entry_trusts};
 
 use crate::entries::{BookFault, Entry, Judgement, What};
@@ -23,8 +21,7 @@ pub struct EntryList {
 
 impl Model for EntryList {
     ghost use Rattle.std.specs.Prelude.{List};
-    ghost use Rattle.answer_book.specs.declared.entries.Entry.{Entry};
-    ghost use Rattle.answer_book.specs.Room.{HasRoom};
+    ghost use Rattle.answer_book.specs.{Room.HasRoom, declared.entries.Entry.Entry};
 
     ghost Value = { List Entry };
 

@@ -1,5 +1,5 @@
 //! The last judgement on each call.
-ghost use Rattle.std.specs.Prelude.{◌≡◌, ℕ, ◌<◌, ◌≤◌, ◌^◌, IfOk, None, length, replicate, slice_get, slice_set, Some};
+ghost use Rattle.std.specs.Prelude.{◌<◌, ◌^◌, ◌≡◌, ◌≤◌, ℕ, IfOk, None, Some, length, replicate, slice_get, slice_set};
 ghost use Rattle.answer_book.specs.Judged.{last_wrong, wrong_flag};
 
 use crate::entries::Judgement;

@@ -1,33 +1,20 @@
 -- What was said and saved where a dialog ends.
-use Rattle.std.proofs.Common.{◌≡◌, ◌⊎◌, ◌<◌, ◌≤◌, inl, inr, ℕ, ◌+◌, Bool, true, false, ◌||◌, if◌then◌else◌, IsTrue, List, [], ◌∷◌, ◌++◌, Option, Some, None}
-use Rattle.std.proofs.Common.{Ok, Err, length, take, refl, sym, ap, subst}
-use Rattle.std.proofs.Common.{◌∙◌, append_assoc, append-nil, arith}
-use Rattle.std.specs.Io.KnownBytes.{IsAtEnd}
-use Rattle.std.proofs.lemmas.List.{length-append, take_all, take_at}
-use Rattle.edge_ports.specs.Counts.{counts_stored}
-use Rattle.edge_ports.specs.Lines.{LinesState, lines_heard, handed_lines, unread, Moves}
-use Rattle.edge_ports.specs.Turns.{IsConsistent}
-use Rattle.edge_ports.specs.Told.{TookAll, GaveAll, GavePrefix}
-use Rattle.edge_ports.specs.declared.ports.StoreFault.TheVariants as store
-use Rattle.edge_ports.proofs.PiecesAddUp.{gave_more, gave_nothing, gave_prefix_after, gave_prefix_before, gave_prefix_whole}
+use Rattle.std.proofs.Common.{if◌then◌else◌, ◌++◌, ◌+◌, ◌<◌, ◌||◌, ◌∙◌, ◌∷◌, ◌≡◌, ◌≤◌, ◌⊎◌, [], ℕ, Bool, Err, IsTrue, List, None, Ok, Option, Some, ap}
+use Rattle.std.proofs.Common.{append-nil, append_assoc, arith, false, inl, inr, length, refl, subst, sym, take, true}
+use Rattle.std.{proofs.lemmas.List.length-append, proofs.lemmas.List.take_all, proofs.lemmas.List.take_at, specs.Io.KnownBytes.IsAtEnd}
 use Rattle.edge_ports.proofs.HandedLinesAreHeard.{heard_in_order}
+use Rattle.edge_ports.proofs.PiecesAddUp.{gave_more, gave_nothing, gave_prefix_after, gave_prefix_before, gave_prefix_whole}
+use Rattle.edge_ports.specs.{Counts.counts_stored, Told.GaveAll, Told.GavePrefix, Told.TookAll, Turns.IsConsistent, declared.ports.StoreFault.StoreFault}
+use Rattle.edge_ports.specs.Lines.{LinesState, Moves, handed_lines, lines_heard, unread}
 use Rattle.answer_book.specs.declared.entries.Entry.{Entry}
-use Rattle.dialog_replies.specs.Subject.{Subject}
-use Rattle.dialog_replies.specs.declared.start.Start.{Start}
-use Rattle.dialog_replies.specs.Start.{entries_at_start}
-use Rattle.ask_session.specs.declared.dialog.Ending.{Ending}
-use Rattle.ask_session.specs.declared.dialog.Ending.TheVariants as ending
-use Rattle.ask_session.specs.Dialog.{replies, reply_to, entries_after_line, ends_session, ends_among, file_asked, next_save, saves_after_line}
-use Rattle.ask_session.specs.Heard.{Heard, IsHeard, EndedBy, GaveBy, lines_in}
-use Rattle.ask_session.specs.Outside.{Outside}
-use Rattle.ask_session.specs.Reached.{Reached, telling_from}
+use Rattle.dialog_replies.specs.{Start.entries_at_start, Subject.Subject, declared.start.Start.Start}
+use Rattle.ask_session.proofs.RepliesInOrder.{Stored, asked_append, asked_front, asked_quit, counts_append, files_append, files_longer, on_append, on_of_one}
+use Rattle.ask_session.proofs.RepliesInOrder.{passes_more, quitted, replied, replies_append}
+use Rattle.ask_session.specs.{Outside.Outside, Reached.Reached, Reached.telling_from, Turned.entries_through, Turned.one_line, declared.dialog.Ending.Ending}
+use Rattle.ask_session.specs.Dialog.{ends_among, ends_session, entries_after_line, file_asked, next_save, replies, reply_to, saves_after_line}
+use Rattle.ask_session.specs.Heard.{EndedBy, GaveBy, Heard, IsHeard, lines_in}
 use Rattle.ask_session.specs.Saves.{AreAnswered, CountsAfter, FilesAfter, Save, counts_saved, save_of, saves_asked}
-use Rattle.ask_session.specs.Turned.{entries_through, one_line, Answered, BreaksOff, Hands, HandsNone, DialogMoment, NextReply, Passes, DialogStage, Talk}
-use Rattle.ask_session.specs.Turned.{Talked}
-use Rattle.ask_session.specs.Turned.{ReplyGiven}
-use Rattle.ask_session.proofs.RepliesInOrder.{asked_append, asked_front, asked_quit, counts_append, files_append, files_longer, on_append, on_of_one}
-use Rattle.ask_session.proofs.RepliesInOrder.{passes_more}
-use Rattle.ask_session.proofs.RepliesInOrder.{Stored, quitted, replied, replies_append}
+use Rattle.ask_session.specs.Turned.{Answered, BreaksOff, DialogMoment, DialogStage, Hands, HandsNone, NextReply, Passes, ReplyGiven, Talk, Talked}
 
 -- no answer to a save, or that to the only one
 none_or_last : {A B : Type 0} (saves : List Bool) (asked : ℕ) → asked ≤ 1 → length saves ≤ asked → (saves ≡ [] → A)
@@ -82,7 +69,7 @@ module _ (s : Subject) (start : Start) where
   -- what was said and saved, of all lines that were heard
   pub record Ends (first : DialogStage) (e : Ending) (new : DialogStage) : Type 0 where
     pub saves : List Bool
-    pub not_refused : e ≡ ending.Refused → ⊥
+    pub not_refused : e ≡ Ending.Refused → ⊥
     pub ended : EndedBy e (heard_by new.progress.lines)
     pub answered : AreAnswered e saves (saves_asked s start first.progress.moment.entries (lines_in (heard_by new.progress.lines)))
     pub gave : GaveBy e first.given new.given (replies s first.progress.moment.entries saves (lines_in (heard_by new.progress.lines)))
@@ -192,7 +179,7 @@ module _ (s : Subject) (start : Start) where
 
     -- the screen failed in the reply to a line
     screen_ends : (reply : List ℕ) → NextReply s start old.progress (Ok reply) new.progress → GavePrefix old.given new.given reply
-        → Ends first ending.Screen new
+        → Ends first Ending.Screen new
     screen_ends reply n g =
         let line : List ℕ = n.0 in
         let saves : List Bool = n.2.0 in
@@ -238,17 +225,17 @@ module _ (s : Subject) (start : Start) where
         }
 
     -- the counts after the answers, and then after those at the line
-    counts_more : (saves : List Bool) → CountsAfter ending.Memory saves old.progress.moment.counts new.progress.moment.counts
-        → CountsAfter ending.Memory (a.saves ++ saves) first.progress.moment.counts new.progress.moment.counts
+    counts_more : (saves : List Bool) → CountsAfter Ending.Memory saves old.progress.moment.counts new.progress.moment.counts
+        → CountsAfter Ending.Memory (a.saves ++ saves) first.progress.moment.counts new.progress.moment.counts
     counts_more saves (inl e) =
         inl (e ∙ ap (counts_saved saves) a.passes.counts_are ∙ sym (counts_append a.saves saves first.progress.moment.counts))
     counts_more saves (inr e) =
-        inr (e ∙ ap (counts_stored (Err store.Memory)) (ap (counts_saved saves) a.passes.counts_are
+        inr (e ∙ ap (counts_stored (Err StoreFault.Memory)) (ap (counts_saved saves) a.passes.counts_are
         ∙ sym (counts_append a.saves saves first.progress.moment.counts)))
 
     -- memory ran out at a line
     memory_ends : (line : List ℕ) → Hands old.progress.lines reader line → BreaksOff s start old.progress.moment line new.progress.moment
-        → new.given ≡ old.given → Ends first ending.Memory new
+        → new.given ≡ old.given → Ends first Ending.Memory new
     memory_ends line hands b still =
         let one : List Save = saves_asked s start after (line ∷ []) in
         let same_one : saves_asked s start old.progress.moment.entries (line ∷ []) ≡ one =
@@ -322,7 +309,7 @@ module _ (s : Subject) (start : Start) where
           counts_are = counts_more b.saves b.counts_are;
         }
 
-    done : EndedBy ending.Done (heard_by reader) → Through first heard new → Ends first ending.Done new
+    done : EndedBy Ending.Done (heard_by reader) → Through first heard new → Ends first Ending.Done new
     done why t = record {
       saves = t.saves;
       not_refused = λ r. absurd (let x : ⊥ = cc in x);
@@ -334,7 +321,7 @@ module _ (s : Subject) (start : Start) where
       counts_are = t.counts_are;
     }
 
-    console : EndedBy ending.Console (heard_by reader) → Through first heard new → Ends first ending.Console new
+    console : EndedBy Ending.Console (heard_by reader) → Through first heard new → Ends first Ending.Console new
     console why t = record {
       saves = t.saves;
       not_refused = λ r. absurd (let x : ⊥ = cc in x);
@@ -346,7 +333,7 @@ module _ (s : Subject) (start : Start) where
       counts_are = t.counts_are;
     }
 
-    spent : EndedBy ending.Spent (heard_by reader) → Through first heard new → Ends first ending.Spent new
+    spent : EndedBy Ending.Spent (heard_by reader) → Through first heard new → Ends first Ending.Spent new
     spent why t = record {
       saves = t.saves;
       not_refused = λ r. absurd (let x : ⊥ = cc in x);
@@ -359,13 +346,13 @@ module _ (s : Subject) (start : Start) where
     }
 
     pub talk_ends : (e : Ending) → ReplyGiven s start old (Err e) new → Ends first e new
-    talk_ends ending.Done (inl q, e) = done (inr (quit_among q.0 q.1 q.2.0)) (quit q.0 q.1 q.2.0 (q.2.1, e))
-    talk_ends ending.Done (inr end, e) = done (inl end.0) (none_more end.1 (end.2, e))
-    talk_ends ending.Console (n, e) = console (n.0, goes_on n.1, n.2) (none_more n.1 (n.3, e))
-    talk_ends ending.Spent (n, e) = spent (n.0, goes_on n.1, n.2) (none_more n.1 (n.3, e))
-    talk_ends ending.Screen (reply, n, g) = screen_ends reply n g
-    talk_ends ending.Memory (n, e) = memory_ends n.0 n.1 n.2 e
-    talk_ends ending.Refused t = absurd t
+    talk_ends Ending.Done (inl q, e) = done (inr (quit_among q.0 q.1 q.2.0)) (quit q.0 q.1 q.2.0 (q.2.1, e))
+    talk_ends Ending.Done (inr end, e) = done (inl end.0) (none_more end.1 (end.2, e))
+    talk_ends Ending.Console (n, e) = console (n.0, goes_on n.1, n.2) (none_more n.1 (n.3, e))
+    talk_ends Ending.Spent (n, e) = spent (n.0, goes_on n.1, n.2) (none_more n.1 (n.3, e))
+    talk_ends Ending.Screen (reply, n, g) = screen_ends reply n g
+    talk_ends Ending.Memory (n, e) = memory_ends n.0 n.1 n.2 e
+    talk_ends Ending.Refused t = absurd t
 
 -- what was heard while a reader that had taken nothing took these bytes
 pub heard_of : (taken : List ℕ) (new : LinesState) (left left' : Option (List ℕ)) → taken ≡ [] → Moves taken new.taken left left' → IsConsistent new

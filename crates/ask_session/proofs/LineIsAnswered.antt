@@ -1,28 +1,17 @@
 -- What a line is replied, and what becomes of the keeper.
-use Rattle.std.proofs.Common.{◌≡◌, ◌<◌, ◌≤◌, ℕ, Bool, true, false, if◌then◌else◌, List, [], ◌∷◌, Option, None, Some, Result, Ok, Err, length, refl, sym, ap}
-use Rattle.std.proofs.Common.{subst}
-use Rattle.std.proofs.Common.{inl, inr, ◌∙◌, arith}
-use Rattle.std.specs.Prelude.{codes, IfErr, IfOk}
+use Rattle.std.proofs.Common.{if◌then◌else◌, ◌<◌, ◌∙◌, ◌∷◌, ◌≡◌, ◌≤◌, [], ℕ, Bool, Err, IfErr, IfOk, List, None, Ok, Option, Result, Some, ap, arith, codes}
+use Rattle.std.proofs.Common.{false, inl, inr, length, refl, subst, sym, true}
 use Rattle.std.proofs.lemmas.Bool.{le-ltb, lt-ltb}
-use Rattle.edge_ports.specs.Counts.{counts_stored}
-use Rattle.edge_ports.specs.Limits.{line_bytes}
-use Rattle.edge_ports.specs.declared.ports.StoreFault.TheVariants as store
+use Rattle.edge_ports.specs.{Counts.counts_stored, Limits.line_bytes, declared.ports.StoreFault.StoreFault}
 use Rattle.answer_book.specs.declared.entries.Entry.{Entry}
-use Rattle.dialog_replies.specs.declared.instructions.DialogCommand.{DialogCommand}
-use Rattle.dialog_replies.specs.declared.instructions.Instruction.{Instruction}
-use Rattle.dialog_replies.specs.declared.instructions.Instruction.TheVariants as asks
-use Rattle.dialog_replies.specs.Instructions.{instruction_of}
+use Rattle.dialog_replies.specs.{Instructions.instruction_of, Start.saved_text, Subject.Subject}
 use Rattle.dialog_replies.specs.Replies.{LineOutcome, command_outcome, outcome, replied}
-use Rattle.dialog_replies.specs.Subject.{Subject}
-use Rattle.dialog_replies.specs.declared.start.Start.{Start}
-use Rattle.dialog_replies.specs.Start.{saved_text}
-use Rattle.ask_session.specs.declared.dialog.Ending.{Ending}
-use Rattle.ask_session.specs.declared.dialog.Ending.TheVariants as ending
-use Rattle.ask_session.specs.Dialog.{ends_session, entries_after_line, file_asked, saved_file, is_quit, is_too_long, plain_reply, reply_or_save}
-use Rattle.ask_session.specs.Dialog.{save_reply}
-use Rattle.ask_session.specs.Saves.{FileAfter, FilesAfter, Save, counts_saved, saves_asked}
-use Rattle.ask_session.specs.Turned.{AnswersLine, BreaksOff, Hands, LineAt, DialogMoment, NextReply, Passes, Progress, SaveGoes, one_line}
+use Rattle.dialog_replies.specs.declared.{instructions.DialogCommand.DialogCommand, instructions.Instruction.Instruction, start.Start.Start}
 use Rattle.ask_session.proofs.RepliesInOrder.{one_asked, one_on, plainly}
+use Rattle.ask_session.specs.Dialog.{ends_session, entries_after_line, file_asked, is_quit, is_too_long, plain_reply, reply_or_save, save_reply, saved_file}
+use Rattle.ask_session.specs.Saves.{FileAfter, FilesAfter, Save, counts_saved, saves_asked}
+use Rattle.ask_session.specs.Turned.{AnswersLine, BreaksOff, DialogMoment, Hands, LineAt, NextReply, Passes, Progress, SaveGoes, one_line}
+use Rattle.ask_session.specs.declared.dialog.Ending.{Ending}
 
 -- an instruction, and the line that is not too long and asks for it
 pub record Asks (line : List ℕ) (i : Instruction) : Type 0 where
@@ -76,10 +65,10 @@ module _ (s : Subject) (start : Start) (old : LineAt) where
   pub breaks_off : (entries : List Entry) → BreaksOff s start old.moment old.line (with_entries old.moment entries)
   breaks_off entries = record { saves = []; answered = omega arith; files_are = refl; counts_are = inl refl }
 
-  pub replies_so : (entries : List Entry) (reply : List ℕ) (c : DialogCommand) → Asks old.line (asks.Command c)
+  pub replies_so : (entries : List Entry) (reply : List ℕ) (c : DialogCommand) → Asks old.line (Instruction.Command c)
       → replied entries reply ≡ command_outcome s old.moment.entries c → AnswersLine s start old (Ok reply) (with_entries old.moment entries)
   replies_so entries reply c a is =
-      let i : Instruction = asks.Command c in
+      let i : Instruction = Instruction.Command c in
       let none : file_asked old.line ≡ None = asked_by old.line i a None refl in (
         [],
         passes_plain entries (ends_by old.line i a false refl) none
@@ -106,7 +95,7 @@ pub record Keeps (start : Start) (old new : DialogMoment) (file : List ℕ) (r :
   pub entries : new.entries ≡ old.entries
 
 module _ (s : Subject) (start : Start) (old : LineAt) where
-  pub saves_so : (new : DialogMoment) (r : Result (List ℕ) Ending) (file : List ℕ) → Asks old.line (asks.Save file)
+  pub saves_so : (new : DialogMoment) (r : Result (List ℕ) Ending) (file : List ℕ) → Asks old.line (Instruction.Save file)
       → Keeps start old.moment new file r → AnswersLine s start old r new
   saves_so new r file a k = by r k.goes
     where
@@ -114,10 +103,10 @@ module _ (s : Subject) (start : Start) (old : LineAt) where
       entries = old.moment.entries
 
       on : ends_session old.line ≡ false
-      on = ends_by old.line (asks.Save file) a false refl
+      on = ends_by old.line (Instruction.Save file) a false refl
 
       named : file_asked old.line ≡ Some file
-      named = asked_by old.line (asks.Save file) a (Some file) refl
+      named = asked_by old.line (Instruction.Save file) a (Some file) refl
 
       save : Save
       save = record { file = file; text = saved_text start entries }
@@ -130,24 +119,24 @@ module _ (s : Subject) (start : Start) (old : LineAt) where
         g.0 ∷ [],
         record {
           on = one_on old.line false on;
-          entries_are = k.entries ∙ sym (entries_by old.line (asks.Save file) a s entries);
+          entries_are = k.entries ∙ sym (entries_by old.line (Instruction.Save file) a s entries);
           answered = sym (ap length asked);
           files_are = subst (λ (saves : List Save). FilesAfter (g.0 ∷ []) saves old.moment.files new.files) (sym asked) g.2;
           counts_are = g.3;
         },
         g.1 ∙ sym (ap (λ (o : Option (List ℕ)). reply_or_save o g.0 (plain_reply s entries old.line)) named),
       )
-      by (Err ending.Memory) g = record {
+      by (Err Ending.Memory) g = record {
         saves = g.0;
         answered = subst (λ (saves : List Save). length g.0 ≤ length saves) (sym asked) g.1;
         files_are = subst (λ (saves : List Save). FilesAfter g.0 saves old.moment.files new.files) (sym asked) g.2;
         counts_are = g.3;
       }
-      by (Err ending.Done) g = absurd g
-      by (Err ending.Console) g = absurd g
-      by (Err ending.Screen) g = absurd g
-      by (Err ending.Spent) g = absurd g
-      by (Err ending.Refused) g = absurd g
+      by (Err Ending.Done) g = absurd g
+      by (Err Ending.Console) g = absurd g
+      by (Err Ending.Screen) g = absurd g
+      by (Err Ending.Spent) g = absurd g
+      by (Err Ending.Refused) g = absurd g
 
 -- ---- a save, by what was stored and replied
 
@@ -159,21 +148,21 @@ pub record StoreSays (save : Save) (stored : Bool) (old new : DialogMoment) : Ty
 -- the reply to it, or that memory ran out
 pub record SaveSays (save : Save) (stored : Bool) (r : Result (List ℕ) Ending) : Type 0 where
   pub text : IfOk r (λ (reply : List ℕ). reply ≡ save_reply stored save.file)
-  pub memory : IfErr r (λ (e : Ending). e ≡ ending.Memory)
+  pub memory : IfErr r (λ (e : Ending). e ≡ Ending.Memory)
 
 pub save_said : (save : Save) (stored : Bool) (old new : DialogMoment) (r : Result (List ℕ) Ending) → StoreSays save stored old new × SaveSays save stored r
     → SaveGoes save old r new
 save_said save stored old new (Ok reply) h = (stored, h.1.text, (new.files, h.0.file_is, refl), h.0.counts_are)
-save_said save stored old new (Err ending.Memory) h = (stored ∷ [], omega arith, (new.files, h.0.file_is, refl), inl h.0.counts_are)
-save_said save stored old new (Err ending.Done) h = let e : ending.Done ≡ ending.Memory = h.1.memory in absurd (let x : ⊥ = cc in x)
-save_said save stored old new (Err ending.Console) h = let e : ending.Console ≡ ending.Memory = h.1.memory in absurd (let x : ⊥ = cc in x)
-save_said save stored old new (Err ending.Screen) h = let e : ending.Screen ≡ ending.Memory = h.1.memory in absurd (let x : ⊥ = cc in x)
-save_said save stored old new (Err ending.Spent) h = let e : ending.Spent ≡ ending.Memory = h.1.memory in absurd (let x : ⊥ = cc in x)
-save_said save stored old new (Err ending.Refused) h = let e : ending.Refused ≡ ending.Memory = h.1.memory in absurd (let x : ⊥ = cc in x)
+save_said save stored old new (Err Ending.Memory) h = (stored ∷ [], omega arith, (new.files, h.0.file_is, refl), inl h.0.counts_are)
+save_said save stored old new (Err Ending.Done) h = let e : Ending.Done ≡ Ending.Memory = h.1.memory in absurd (let x : ⊥ = cc in x)
+save_said save stored old new (Err Ending.Console) h = let e : Ending.Console ≡ Ending.Memory = h.1.memory in absurd (let x : ⊥ = cc in x)
+save_said save stored old new (Err Ending.Screen) h = let e : Ending.Screen ≡ Ending.Memory = h.1.memory in absurd (let x : ⊥ = cc in x)
+save_said save stored old new (Err Ending.Spent) h = let e : Ending.Spent ≡ Ending.Memory = h.1.memory in absurd (let x : ⊥ = cc in x)
+save_said save stored old new (Err Ending.Refused) h = let e : Ending.Refused ≡ Ending.Memory = h.1.memory in absurd (let x : ⊥ = cc in x)
 
 -- the store ran out of memory
-pub save_out : (save : Save) (old new : DialogMoment) (e : Ending) → e ≡ ending.Memory
-    → (new.files ≡ old.files) × (new.counts ≡ counts_stored (Err store.Memory) old.counts) → SaveGoes save old (Err e) new
+pub save_out : (save : Save) (old new : DialogMoment) (e : Ending) → e ≡ Ending.Memory
+    → (new.files ≡ old.files) × (new.counts ≡ counts_stored (Err StoreFault.Memory) old.counts) → SaveGoes save old (Err e) new
 save_out save old new e is h = subst (λ (x : Ending). SaveGoes save old (Err x) new) (sym is) ([], omega arith, h.0, inr h.1)
 
 -- ---- the reply to the next line
@@ -182,9 +171,9 @@ module _ (s : Subject) (start : Start) where
   pub next_of : (old new : Progress) (line : List ℕ) (r : Result (List ℕ) Ending)
       → Hands old.lines new.lines line × AnswersLine s start (record { line = line; moment = old.moment }) r new.moment → NextReply s start old r new
   next_of old new line (Ok reply) h = (line, h.0, h.1)
-  next_of old new line (Err ending.Memory) h = (line, h.0, h.1)
-  next_of old new line (Err ending.Done) h = inl (line, h.0, h.1)
-  next_of old new line (Err ending.Console) h = absurd h.1
-  next_of old new line (Err ending.Screen) h = absurd h.1
-  next_of old new line (Err ending.Spent) h = absurd h.1
-  next_of old new line (Err ending.Refused) h = absurd h.1
+  next_of old new line (Err Ending.Memory) h = (line, h.0, h.1)
+  next_of old new line (Err Ending.Done) h = inl (line, h.0, h.1)
+  next_of old new line (Err Ending.Console) h = absurd h.1
+  next_of old new line (Err Ending.Screen) h = absurd h.1
+  next_of old new line (Err Ending.Spent) h = absurd h.1
+  next_of old new line (Err Ending.Refused) h = absurd h.1

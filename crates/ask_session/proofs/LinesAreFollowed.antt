@@ -1,32 +1,21 @@
 -- The entries after lines are those that the acts of the lines make.
-use Rattle.std.proofs.Common.{◌≡◌, ℕ, Bool, true, false, if◌then◌else◌, List, [], ◌∷◌, Option, Some, None, Result, Ok, Err, refl, ap, subst, ◌∙◌}
-use Rattle.std.specs.Prelude.{option_map}
+use Rattle.std.proofs.Common.{if◌then◌else◌, ◌∙◌, ◌∷◌, ◌≡◌, [], ℕ, Bool, Err, List, None, Ok, Option, Result, Some, ap, false, option_map, refl, subst, true}
 use Rattle.std.specs.List.{filter_map}
-use Rattle.answer_book.specs.declared.entries.BookFault.{BookFault}
-use Rattle.answer_book.specs.declared.entries.Entry.{Entry}
-use Rattle.answer_book.specs.declared.entries.Judgement.{Judgement}
-use Rattle.answer_book.specs.declared.entries.What.{What}
-use Rattle.answer_book.specs.declared.entries.What.TheVariants.{Judged, Trusted}
 use Rattle.answer_book.specs.Answers.{judge_answer, take_back_answer, take_back_last_answer, trust_answer}
 use Rattle.answer_book.specs.Entries.{said_by, standing_answers}
-use Rattle.optimal_query.specs.declared.state.SearchState.{SearchState}
-use Rattle.optimal_query.specs.declared.state.SearchState.TheVariants.{Ask, Found, Narrowed, NothingWrong, Unclear}
-use Rattle.optimal_query.specs.Accepted.{CommandAct, acts_giving, and_then, is_taken_back, standing_after}
-use Rattle.optimal_query.specs.Laws.{state_in}
-use Rattle.optimal_query.specs.Search.{Search, search_with, search_without}
-use Rattle.optimal_query.specs.Standing.{Command, Judge, Trust, TakeBack, TakeBackLast, after_command, if_accepted, search_taken_back}
-use Rattle.optimal_query.proofs.StandUnlessTakenBack.{Follow, follow_command, said_alike}
+use Rattle.answer_book.specs.declared.entries.{BookFault.BookFault, Entry.Entry, Judgement.Judgement}
+use Rattle.answer_book.specs.declared.entries.What.{What, TheVariants.Judged, TheVariants.Trusted}
 use Rattle.optimal_query.proofs.GivenEntriesStand.{follow_given}
-use Rattle.dialog_replies.specs.declared.instructions.DialogCommand.{DialogCommand}
-use Rattle.dialog_replies.specs.declared.instructions.DialogCommand.TheVariants as commands
-use Rattle.dialog_replies.specs.declared.instructions.Instruction.{Instruction}
-use Rattle.dialog_replies.specs.declared.instructions.Instruction.TheVariants as asked
-use Rattle.dialog_replies.specs.Instructions.{instruction_of}
-use Rattle.dialog_replies.specs.Subject.{Subject, book_of, routine_named, state_after}
+use Rattle.optimal_query.proofs.StandUnlessTakenBack.{Follow, follow_command, said_alike}
+use Rattle.optimal_query.specs.{Laws.state_in, Search.Search, Search.search_with, Search.search_without, declared.state.SearchState.SearchState}
+use Rattle.optimal_query.specs.Accepted.{CommandAct, acts_giving, and_then, is_taken_back, standing_after}
+use Rattle.optimal_query.specs.Standing.{Command, Judge, TakeBack, TakeBackLast, Trust, after_command, if_accepted, search_taken_back}
+use Rattle.optimal_query.specs.declared.state.SearchState.TheVariants.{Ask, Found, Narrowed, NothingWrong, Unclear}
+use Rattle.dialog_replies.specs.{Instructions.instruction_of, Subject.Subject, Subject.book_of, Subject.routine_named, Subject.state_after}
 use Rattle.dialog_replies.specs.Replies.{adds, command_outcome, judges_asked, outcome, takes_back, takes_back_last, trust_outcome, trusts_named}
-use Rattle.ask_session.specs.Dialog.{entries_after_line, is_too_long}
+use Rattle.dialog_replies.specs.declared.instructions.{DialogCommand.DialogCommand, Instruction.Instruction}
+use Rattle.ask_session.specs.{Dialog.entries_after_line, Dialog.is_too_long, Turned.entries_through}
 use Rattle.ask_session.specs.LineActs.{EntriesFollowLines, act_by, acts_after_line, acts_after_lines, command_in, judgement_on}
-use Rattle.ask_session.specs.Turned.{entries_through}
 
 -- the answers that stand, by the acts
 pub said_after : {acts : List CommandAct} {entries : List Entry} → Follow acts entries → standing_answers entries ≡ standing_after acts
@@ -88,32 +77,32 @@ module _ (s : Subject) where
     trusted_named name (Some routine) = trusted routine
     trusted_named name None = before
 
-    by_dialog : (c : DialogCommand) → FollowBy (command_in s acts (asked.Command c)) (command_outcome s entries c).entries
+    by_dialog : (c : DialogCommand) → FollowBy (command_in s acts (Instruction.Command c)) (command_outcome s entries c).entries
     unfolding command_outcome
-    by_dialog commands.Nothing = before
-    by_dialog (commands.Judge judgement None) =
+    by_dialog DialogCommand.Nothing = before
+    by_dialog (DialogCommand.Judge judgement None) =
         subst (λ (answers : List What). FollowBy (judgement_on judgement (state_in s.tree answers))
         (judges_asked s entries judgement (state_after s entries)).entries) (said_after before) (judged_asked judgement (state_after s entries))
-    by_dialog (commands.Judge judgement (Some call)) = judged judgement call
-    by_dialog (commands.TrustNamed name) = trusted_named name (routine_named s name)
-    by_dialog (commands.Trust routine) = trusted routine
-    by_dialog (commands.TakeBack None) =
+    by_dialog (DialogCommand.Judge judgement (Some call)) = judged judgement call
+    by_dialog (DialogCommand.TrustNamed name) = trusted_named name (routine_named s name)
+    by_dialog (DialogCommand.Trust routine) = trusted routine
+    by_dialog (DialogCommand.TakeBack None) =
         subst (λ (now : List Entry). FollowBy (Some TakeBackLast) now) (takes_last_as entries (take_back_last_answer (book_of s entries)))
         (by_command TakeBackLast)
-    by_dialog (commands.TakeBack (Some number)) =
+    by_dialog (DialogCommand.TakeBack (Some number)) =
         subst (λ (now : List Entry). FollowBy (Some (TakeBack number)) now) (takes_as entries number (take_back_answer (book_of s entries) number))
         (by_command (TakeBack number))
-    by_dialog (commands.Show call) = before
-    by_dialog (commands.State call name) = before
-    by_dialog (commands.Trace call) = before
-    by_dialog (commands.Carry call onto) = before
-    by_dialog commands.Tree = before
-    by_dialog commands.Other = before
+    by_dialog (DialogCommand.Show call) = before
+    by_dialog (DialogCommand.State call name) = before
+    by_dialog (DialogCommand.Trace call) = before
+    by_dialog (DialogCommand.Carry call onto) = before
+    by_dialog DialogCommand.Tree = before
+    by_dialog DialogCommand.Other = before
 
     pub by_instruction : (i : Instruction) → FollowBy (command_in s acts i) (outcome s entries i).entries
-    by_instruction (asked.Command command) = by_dialog command
-    by_instruction (asked.Save file) = before
-    by_instruction asked.Quit = before
+    by_instruction (Instruction.Command command) = by_dialog command
+    by_instruction (Instruction.Save file) = before
+    by_instruction Instruction.Quit = before
 
   -- ---- one line, and those after it
 

@@ -1,18 +1,13 @@
 -- What is replied to lines and to those after them, what they ask to save, and what becomes of the keeper.
-use Rattle.std.proofs.Common.{◌≡◌, ◌≤◌, ℕ, ◌+◌, Bool, true, false, ◌||◌, if◌then◌else◌, List, [], ◌∷◌, ◌++◌, Option, Some, None, Ok, Err, refl}
-use Rattle.std.proofs.Common.{sym, ap, subst, ◌∙◌, append_assoc, append-nil, arith, length}
-use Rattle.std.proofs.lemmas.Bool.{or_parts}
-use Rattle.std.proofs.lemmas.List.{length-append}
-use Rattle.edge_ports.specs.Counts.{KeeperCounts, counts_stored}
-use Rattle.edge_ports.specs.Files.{FileMap}
-use Rattle.edge_ports.specs.declared.ports.StoreFault.TheVariants as store
+use Rattle.std.proofs.Common.{if◌then◌else◌, ◌++◌, ◌+◌, ◌||◌, ◌∙◌, ◌∷◌, ◌≡◌, ◌≤◌, [], ℕ, Bool, Err, List, None, Ok, Option, Some, ap, append-nil, append_assoc}
+use Rattle.std.proofs.Common.{arith, false, length, refl, subst, sym, true}
+use Rattle.std.proofs.lemmas.{Bool.or_parts, List.length-append}
+use Rattle.edge_ports.specs.{Counts.KeeperCounts, Counts.counts_stored, Files.FileMap, declared.ports.StoreFault.StoreFault}
 use Rattle.answer_book.specs.declared.entries.Entry.{Entry}
-use Rattle.dialog_replies.specs.Subject.{Subject}
-use Rattle.dialog_replies.specs.declared.start.Start.{Start}
-use Rattle.ask_session.specs.Dialog.{replies, reply_to, entries_after_line, ends_session, ends_among, file_asked, next_save, plain_reply, reply_or_save}
-use Rattle.ask_session.specs.Dialog.{saves_after_line}
+use Rattle.dialog_replies.specs.{Subject.Subject, declared.start.Start.Start}
+use Rattle.ask_session.specs.{Dialog.saves_after_line, Turned.DialogMoment, Turned.Passes, Turned.Talk, Turned.entries_through}
+use Rattle.ask_session.specs.Dialog.{ends_among, ends_session, entries_after_line, file_asked, next_save, plain_reply, replies, reply_or_save, reply_to}
 use Rattle.ask_session.specs.Saves.{FilesAfter, Save, counts_saved, save_of, saves_asked}
-use Rattle.ask_session.specs.Turned.{DialogMoment, Passes, Talk, entries_through}
 
 -- ---- lines that end the session, and lines that do not
 
@@ -46,7 +41,7 @@ no_saves (b ∷ saves) e = absurd (omega (arith, e))
 pub counts_append : (saves more : List Bool) (counts : KeeperCounts) → counts_saved (saves ++ more) counts ≡ counts_saved more (counts_saved saves counts)
 counts_append [] more counts = refl
 counts_append (true ∷ saves) more counts = counts_append saves more (counts_stored (Ok tt) counts)
-counts_append (false ∷ saves) more counts = counts_append saves more (counts_stored (Err store.Failed) counts)
+counts_append (false ∷ saves) more counts = counts_append saves more (counts_stored (Err StoreFault.Failed) counts)
 
 -- the files after saves that got these answers
 pub record Stored (saves : List Bool) (asked : List Save) (before after : Option FileMap) : Type 0 where

@@ -1,17 +1,11 @@
 -- What the reports of a dialog say, from the laws of the search.
-use Rattle.std.proofs.Common.{◌≡◌, ◌⊎◌, inl, inr, ℕ, List, [], ◌∷◌, Option, Some, None, sym, ap, subst, ◌∙◌}
+use Rattle.std.proofs.Common.{◌∙◌, ◌∷◌, ◌≡◌, ◌⊎◌, [], ℕ, List, None, Option, Some, ap, inl, inr, subst, sym}
 use Rattle.std.proofs.lemmas.List.{length-map}
-use Rattle.call_tree.specs.Numbering.{IsNumbered}
-use Rattle.call_tree.specs.Recording.{Recording, lasts_of, parents_of}
-use Rattle.answer_book.specs.declared.entries.Entry.{Entry}
-use Rattle.answer_book.specs.Accused.{accused_of}
-use Rattle.answer_book.specs.Entries.{standing_answers}
+use Rattle.call_tree.specs.{Numbering.IsNumbered, Recording.Recording, Recording.lasts_of, Recording.parents_of}
+use Rattle.answer_book.specs.{Accused.accused_of, Entries.standing_answers, declared.entries.Entry.Entry}
+use Rattle.optimal_query.specs.{Laws.IsCallTree, Laws.doubts_in, Laws.suspects_in, Question.question_of, State.state_by, State.state_with, State.verdict_by}
 use Rattle.optimal_query.specs.declared.state.SearchState.TheVariants.{Found, Narrowed}
-use Rattle.optimal_query.specs.Laws.{IsCallTree, doubts_in, suspects_in}
-use Rattle.optimal_query.specs.Question.{question_of}
-use Rattle.optimal_query.specs.State.{state_by, state_with, verdict_by}
-use Rattle.dialog_replies.specs.Kept.{AreCallsOf}
-use Rattle.dialog_replies.specs.Subject.{Subject, state_after}
+use Rattle.dialog_replies.specs.{Kept.AreCallsOf, Subject.Subject, Subject.state_after}
 use Rattle.ask_session.specs.Laws.{accused_after}
 
 -- the calls of a run whose subtrees are intervals

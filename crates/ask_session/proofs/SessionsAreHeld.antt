@@ -1,23 +1,13 @@
 -- A session: the opening and the dialog, or a saved session that is refused.
-use Rattle.std.proofs.Common.{◌≡◌, inl, ℕ, false, Bool, List, [], ◌++◌, Option, Some, None, IsSome, refl, sym, ap, subst, take, arith}
+use Rattle.std.proofs.Common.{◌++◌, ◌≡◌, [], ℕ, Bool, IsSome, List, None, Option, Some, ap, arith, false, inl, refl, subst, sym, take}
 use Rattle.std.specs.Option.{option_map}
-use Rattle.edge_ports.specs.Told.{GaveAll, GavePrefix}
 use Rattle.edge_ports.proofs.PiecesAddUp.{gave_more, gave_nothing, gave_prefix_after, gave_prefix_before, gave_prefix_whole, took_nothing}
-use Rattle.dialog_replies.specs.Replies.{opening}
-use Rattle.dialog_replies.specs.Subject.{Subject}
-use Rattle.dialog_replies.specs.declared.misfits.Misfit.{Misfit}
-use Rattle.dialog_replies.specs.declared.start.Start.{Start}
-use Rattle.dialog_replies.specs.Fit.{misfit}
-use Rattle.dialog_replies.specs.Lines.{misfit_line}
-use Rattle.dialog_replies.specs.Start.{entries_at_start}
-use Rattle.ask_session.specs.declared.dialog.Ending.{Ending}
-use Rattle.ask_session.specs.declared.dialog.Ending.TheVariants as ending
-use Rattle.ask_session.specs.Dialog.{replies, said, said_if_fits}
+use Rattle.edge_ports.specs.Told.{GaveAll, GavePrefix}
+use Rattle.dialog_replies.specs.{Fit.misfit, Lines.misfit_line, Replies.opening, Start.entries_at_start, Subject.Subject}
+use Rattle.dialog_replies.specs.declared.{misfits.Misfit.Misfit, start.Start.Start}
+use Rattle.ask_session.specs.{Dialog.replies, Dialog.said, Dialog.said_if_fits, Outside.Outside, Turned.Talked, Went.Went, declared.dialog.Ending.Ending}
 use Rattle.ask_session.specs.Heard.{GaveBy, Heard, IsHeard, RefusedBy, lines_in}
-use Rattle.ask_session.specs.Outside.{Outside}
 use Rattle.ask_session.specs.Reached.{Reached, telling, telling_from}
-use Rattle.ask_session.specs.Turned.{Talked}
-use Rattle.ask_session.specs.Went.{Went}
 
 -- nothing was heard
 abbrev pub nothing : Heard
@@ -41,7 +31,7 @@ with_given outside given = record outside { streams = record { left = outside.st
 module _ (s : Subject) (start : Start) where
   -- ---- a session that ended before anything was heard or saved
 
-  pub ended_at_once : (outside : Outside) → Went s start outside ending.Memory outside
+  pub ended_at_once : (outside : Outside) → Went s start outside Ending.Memory outside
   ended_at_once outside = record {
     heard = nothing;
     saves = [];
@@ -62,7 +52,7 @@ module _ (s : Subject) (start : Start) where
 
   -- the screen failed in a first part of what was to be said
   pub screen_at_once : (outside : Outside) (given : Option (List ℕ)) (text rest : List ℕ) → said s start [] (lines_in nothing) ≡ text ++ rest
-      → GavePrefix outside.streams.given given text → Went s start outside ending.Screen (with_given outside given)
+      → GavePrefix outside.streams.given given text → Went s start outside Ending.Screen (with_given outside given)
   screen_at_once outside given text rest is gave = record {
     heard = nothing;
     saves = [];
@@ -88,7 +78,7 @@ module _ (s : Subject) (start : Start) where
       ap (λ (m : Option Misfit). said_if_fits m (opening s (entries_at_start start) ++ replies s (entries_at_start start) saves lines)) unfit
 
   pub refused_so : (outside : Outside) (given : Option (List ℕ)) (why : Misfit) → misfit s start ≡ Some why
-      → GaveAll outside.streams.given given (misfit_line why) → Went s start outside ending.Refused (with_given outside given)
+      → GaveAll outside.streams.given given (misfit_line why) → Went s start outside Ending.Refused (with_given outside given)
   refused_so outside given why unfit gave = record {
     heard = nothing;
     saves = [];
@@ -118,21 +108,21 @@ module _ (s : Subject) (start : Start) where
   -- what a dialog gave after the opening
   module _ (k0 k1 k2 : Option (List ℕ)) (a b : List ℕ) where
     gave_after_opening : (e : Ending) → GaveAll k0 k1 a → GaveBy e k1 k2 b → GaveBy e k0 k2 (a ++ b)
-    gave_after_opening ending.Done f g = gave_more k0 a b f g
-    gave_after_opening ending.Console f g = gave_more k0 a b f g
-    gave_after_opening ending.Spent f g = gave_more k0 a b f g
-    gave_after_opening ending.Refused f g = gave_more k0 a b f g
-    gave_after_opening ending.Screen f g = gave_prefix_after k0 a f g
-    gave_after_opening ending.Memory f g = gave_prefix_after k0 a f g
+    gave_after_opening Ending.Done f g = gave_more k0 a b f g
+    gave_after_opening Ending.Console f g = gave_more k0 a b f g
+    gave_after_opening Ending.Spent f g = gave_more k0 a b f g
+    gave_after_opening Ending.Refused f g = gave_more k0 a b f g
+    gave_after_opening Ending.Screen f g = gave_prefix_after k0 a f g
+    gave_after_opening Ending.Memory f g = gave_prefix_after k0 a f g
 
   -- a dialog does not end as a saved session that is refused
-  fit_by : (e : Ending) (m : Option Misfit) → (e ≡ ending.Refused → ⊥) → m ≡ None → RefusedBy e m
-  fit_by ending.Done m not none = none
-  fit_by ending.Console m not none = none
-  fit_by ending.Spent m not none = none
-  fit_by ending.Refused m not none = absurd (not refl)
-  fit_by ending.Screen m not none = tt
-  fit_by ending.Memory m not none = tt
+  fit_by : (e : Ending) (m : Option Misfit) → (e ≡ Ending.Refused → ⊥) → m ≡ None → RefusedBy e m
+  fit_by Ending.Done m not none = none
+  fit_by Ending.Console m not none = none
+  fit_by Ending.Spent m not none = none
+  fit_by Ending.Refused m not none = absurd (not refl)
+  fit_by Ending.Screen m not none = tt
+  fit_by Ending.Memory m not none = tt
 
   -- the opening of a session that fits was given
   pub record Opened (before : Outside) (given : Option (List ℕ)) : Type 0 where

@@ -1,34 +1,19 @@
 -- Where the console tells its bytes: what the screen got, what became of the keeper, and how the session ended.
-use Rattle.std.proofs.Common.{◌≡◌, ◌⊎◌, ◌<◌, ◌≤◌, inl, inr, ℕ, ◌+◌, ◌-◌, Bool, true, false, IsTrue, List, [], ◌++◌, Option, Some, None, IsSome, length}
-use Rattle.std.proofs.Common.{take, refl, sym, ap, subst, ◌∙◌, arith, append_assoc}
+use Rattle.std.proofs.Common.{◌++◌, ◌+◌, ◌-◌, ◌<◌, ◌∙◌, ◌≡◌, ◌≤◌, ◌⊎◌, [], ℕ, Bool, IsSome, IsTrue, List, None, Option, Some, ap, append_assoc, arith, false}
+use Rattle.std.proofs.Common.{inl, inr, length, refl, subst, sym, take, true}
+use Rattle.std.proofs.{Math.Seq.take-append-add, lemmas.List.append-nil, lemmas.List.length-append, lemmas.List.take-append-le, lemmas.List.take_at}
 use Rattle.std.specs.Io.KnownBytes.{IsAtEnd}
-use Rattle.std.proofs.lemmas.List.{append-nil, take_at, take-append-le, length-append}
-use Rattle.std.proofs.Math.Seq.{take-append-add}
-use Rattle.edge_ports.specs.Limits.{console_bytes}
-use Rattle.edge_ports.specs.Counts.{Counted}
-use Rattle.edge_ports.specs.Files.{FileMap}
-use Rattle.edge_ports.specs.Told.{GaveAll, GavePrefix}
-use Rattle.edge_ports.specs.Lines.{lines_of, whole_lines, lines_heard}
-use Rattle.edge_ports.proofs.PiecesAddUp.{gave_prefix_before, gave_prefix_whole}
-use Rattle.edge_ports.proofs.SameBytesCome.{told_still}
-use Rattle.edge_ports.proofs.HandedLinesAreHeard.{heard_longer}
-use Rattle.dialog_replies.specs.Replies.{opening}
-use Rattle.dialog_replies.specs.Subject.{Subject}
-use Rattle.dialog_replies.specs.declared.misfits.Misfit.{Misfit}
-use Rattle.dialog_replies.specs.declared.start.Start.{Start}
-use Rattle.dialog_replies.specs.Fit.{misfit}
-use Rattle.dialog_replies.specs.Lines.{misfit_line}
-use Rattle.dialog_replies.specs.Start.{entries_at_start}
-use Rattle.ask_session.specs.declared.dialog.Ending.{Ending}
-use Rattle.ask_session.specs.declared.dialog.Ending.TheVariants as ending
+use Rattle.edge_ports.proofs.{HandedLinesAreHeard.heard_longer, PiecesAddUp.gave_prefix_before, PiecesAddUp.gave_prefix_whole, SameBytesCome.told_still}
+use Rattle.edge_ports.specs.{Counts.Counted, Files.FileMap, Limits.console_bytes, Told.GaveAll, Told.GavePrefix}
+use Rattle.edge_ports.specs.Lines.{lines_heard, lines_of, whole_lines}
+use Rattle.dialog_replies.specs.{Fit.misfit, Lines.misfit_line, Replies.opening, Start.entries_at_start, Subject.Subject}
+use Rattle.dialog_replies.specs.declared.{misfits.Misfit.Misfit, start.Start.Start}
+use Rattle.ask_session.proofs.RepliesInOrder.{Stored, asked_ended, asked_front, ended_append, files_longer, replies_ended, replies_front}
+use Rattle.ask_session.specs.{Outside.Outside, Saves.AreAnswered, Saves.FilesAfter, Saves.Save, Saves.saves_in, Went.Went, declared.dialog.Ending.Ending}
 use Rattle.ask_session.specs.Console.{EndsInTime, FirstAnswered, GaveOf, GoesOn, NotRisen}
-use Rattle.ask_session.specs.Dialog.{said, said_if_fits, transcript, replies, ends_among}
-use Rattle.ask_session.specs.Heard.{Heard, lines_in, IsHeard, EndedBy, GaveBy, RefusedBy, is_console, is_screen}
-use Rattle.ask_session.specs.Outside.{Outside}
+use Rattle.ask_session.specs.Dialog.{ends_among, replies, said, said_if_fits, transcript}
+use Rattle.ask_session.specs.Heard.{EndedBy, GaveBy, Heard, IsHeard, RefusedBy, is_console, is_screen, lines_in}
 use Rattle.ask_session.specs.Reached.{AnswersFirst, Reached, Telling, telling}
-use Rattle.ask_session.specs.Saves.{AreAnswered, FilesAfter, Save, saves_in}
-use Rattle.ask_session.specs.Went.{Went}
-use Rattle.ask_session.proofs.RepliesInOrder.{Stored, asked_ended, asked_front, files_longer, replies_ended, replies_front, ended_append}
 
 -- how a session ended, and the counts of its console and its screen before and after it
 pub record Closed (e : Ending) (console console' screen screen' : ℕ) : Type 0 where
@@ -54,12 +39,12 @@ none_is_some {m} none some = is_none (subst IsSome none some)
     is_none e = let x : ⊥ = cc in x
 
 answered_few : (e : Ending) (saves : List Bool) (asked : List Save) → AreAnswered e saves asked → length saves ≤ length asked
-answered_few ending.Done saves asked a = omega (arith, a)
-answered_few ending.Console saves asked a = omega (arith, a)
-answered_few ending.Spent saves asked a = omega (arith, a)
-answered_few ending.Refused saves asked a = omega (arith, a)
-answered_few ending.Screen saves asked a = a
-answered_few ending.Memory saves asked a = a
+answered_few Ending.Done saves asked a = omega (arith, a)
+answered_few Ending.Console saves asked a = omega (arith, a)
+answered_few Ending.Spent saves asked a = omega (arith, a)
+answered_few Ending.Refused saves asked a = omega (arith, a)
+answered_few Ending.Screen saves asked a = a
+answered_few Ending.Memory saves asked a = a
 
 -- ---- how far a dialog came, of more lines
 
@@ -128,7 +113,7 @@ module _ (s : Subject) (start : Start) where
       text : (saves : List Bool) → transcript s start saves bytes ≡ said s start saves (lines_in x)
       asked : saves_in s start (lines_of bytes) ≡ saves_in s start (lines_in x)
 
-    as_all : (x : Heard) → IsHeard left left' x → EndedBy ending.Done x → AsAll x
+    as_all : (x : Heard) → IsHeard left left' x → EndedBy Ending.Done x → AsAll x
     as_all x h (inl ended) =
         let same : lines_of bytes ≡ lines_in x = ap lines_of (none_after x h ended) ∙ sym (ap (λ (b : Bool). lines_heard b x.bytes) ended) in
         record { text = λ saves. ap (said s start saves) same; asked = ap (saves_in s start) same }
@@ -160,12 +145,12 @@ module _ (s : Subject) (start : Start) where
 
     pub first_answered : (e : Ending) (saves : List Bool) (x : Heard) → IsHeard left left' x → EndedBy e x × AreAnswered e saves (saves_in s start (lines_in x))
         → FirstAnswered e saves (saves_in s start (lines_of bytes))
-    first_answered ending.Done saves x h a = a.1 ∙ ap length (sym (as_all x h a.0).asked)
-    first_answered ending.Console saves x h a = first_few saves x h (answered_few ending.Console saves (saves_in s start (lines_in x)) a.1)
-    first_answered ending.Spent saves x h a = first_few saves x h (answered_few ending.Spent saves (saves_in s start (lines_in x)) a.1)
-    first_answered ending.Refused saves x h a = first_few saves x h (answered_few ending.Refused saves (saves_in s start (lines_in x)) a.1)
-    first_answered ending.Screen saves x h a = first_few saves x h a.1
-    first_answered ending.Memory saves x h a = first_few saves x h a.1
+    first_answered Ending.Done saves x h a = a.1 ∙ ap length (sym (as_all x h a.0).asked)
+    first_answered Ending.Console saves x h a = first_few saves x h (answered_few Ending.Console saves (saves_in s start (lines_in x)) a.1)
+    first_answered Ending.Spent saves x h a = first_few saves x h (answered_few Ending.Spent saves (saves_in s start (lines_in x)) a.1)
+    first_answered Ending.Refused saves x h a = first_few saves x h (answered_few Ending.Refused saves (saves_in s start (lines_in x)) a.1)
+    first_answered Ending.Screen saves x h a = first_few saves x h a.1
+    first_answered Ending.Memory saves x h a = first_few saves x h a.1
 
     module _ (given given' : Option (List ℕ)) (saves : List Bool) (x : Heard) (h : IsHeard left left' x) where
       part_of : GavePrefix given given' (said s start saves (lines_in x)) → GavePrefix given given' (transcript s start saves bytes)
@@ -180,12 +165,12 @@ module _ (s : Subject) (start : Start) where
 
       pub transcript_given : (e : Ending) → GaveBy e given given' (said s start saves (lines_in x)) → EndedBy e x → RefusedBy e (misfit s start)
           → GaveOf e given given' (transcript s start saves bytes)
-      transcript_given ending.Done g w r = subst (λ (text : List ℕ). GaveAll given given' text) (sym ((as_all x h w).text saves)) g
-      transcript_given ending.Console g w r = whole_part g
-      transcript_given ending.Screen g w r = part_of g
-      transcript_given ending.Spent g w r = whole_part g
-      transcript_given ending.Memory g w r = part_of g
-      transcript_given ending.Refused g w r = subst (λ (text : List ℕ). GaveAll given given' text)
+      transcript_given Ending.Done g w r = subst (λ (text : List ℕ). GaveAll given given' text) (sym ((as_all x h w).text saves)) g
+      transcript_given Ending.Console g w r = whole_part g
+      transcript_given Ending.Screen g w r = part_of g
+      transcript_given Ending.Spent g w r = whole_part g
+      transcript_given Ending.Memory g w r = part_of g
+      transcript_given Ending.Refused g w r = subst (λ (text : List ℕ). GaveAll given given' text)
           (said_refused (misfit s start) (said_of saves (lines_of bytes)) (said_of saves (lines_in x)) r) g
 
     -- what the contract says where the console tells its bytes
@@ -205,7 +190,7 @@ module _ (s : Subject) (start : Start) where
 
     -- ---- how it ended
 
-    not_spent : (x : Heard) → IsHeard left left' x → EndedBy ending.Spent x → EndsInTime bytes → ⊥
+    not_spent : (x : Heard) → IsHeard left left' x → EndedBy Ending.Spent x → EndsInTime bytes → ⊥
     not_spent x h w (inl less) = let k = front x h in omega (arith, ap length k.2, length-append x.bytes k.0, w.2)
     not_spent x h w (inr quit) =
         let k = front x h in
@@ -214,13 +199,13 @@ module _ (s : Subject) (start : Start) where
         let both : true ≡ false = sym quit ∙ ap ends_among (sym lines) ∙ w.1 in
         let x : ⊥ = cc in x
 
-    not_done : (x : Heard) → IsHeard left left' x → EndedBy ending.Done x → GoesOn bytes → ⊥
+    not_done : (x : Heard) → IsHeard left left' x → EndedBy Ending.Done x → GoesOn bytes → ⊥
     not_done x h w on = by w x.ended refl
       where
         ended_not : IsTrue x.ended → ⊥
         ended_not e = let room = h.room e in omega (arith, ap length (none_after x h e), room, on.0)
 
-        by : EndedBy ending.Done x → (b : Bool) → x.ended ≡ b → ⊥
+        by : EndedBy Ending.Done x → (b : Bool) → x.ended ≡ b → ⊥
         by (inl ended) b e = ended_not ended
         by (inr quit) true e = ended_not e
         by (inr quit) false e =
@@ -246,22 +231,22 @@ module _ (s : Subject) (start : Start) where
       pub fits : misfit s start ≡ None
 
     pub done_or_memory : {console console' screen screen' : ℕ} (e : Ending) → Cause e → Closed e console console' screen screen' → EndsInTime bytes
-        → (e ≡ ending.Done) ⊎ (e ≡ ending.Memory)
-    done_or_memory ending.Done w c ends = inl refl
-    done_or_memory ending.Console w c ends = absurd (c.console_stayed c.console_counted)
-    done_or_memory ending.Screen w c ends = absurd (c.screen_stayed c.screen_counted)
-    done_or_memory ending.Spent w c ends = absurd (not_spent w.heard w.is_heard w.ended ends)
-    done_or_memory ending.Refused w c ends = absurd (none_is_some w.fits w.refused)
-    done_or_memory ending.Memory w c ends = inr refl
+        → (e ≡ Ending.Done) ⊎ (e ≡ Ending.Memory)
+    done_or_memory Ending.Done w c ends = inl refl
+    done_or_memory Ending.Console w c ends = absurd (c.console_stayed c.console_counted)
+    done_or_memory Ending.Screen w c ends = absurd (c.screen_stayed c.screen_counted)
+    done_or_memory Ending.Spent w c ends = absurd (not_spent w.heard w.is_heard w.ended ends)
+    done_or_memory Ending.Refused w c ends = absurd (none_is_some w.fits w.refused)
+    done_or_memory Ending.Memory w c ends = inr refl
 
     pub spent_or_memory : {console console' screen screen' : ℕ} (e : Ending) → Cause e → Closed e console console' screen screen' → GoesOn bytes
-        → (e ≡ ending.Spent) ⊎ (e ≡ ending.Memory)
-    spent_or_memory ending.Done w c on = absurd (not_done w.heard w.is_heard w.ended on)
-    spent_or_memory ending.Console w c on = absurd (c.console_stayed c.console_counted)
-    spent_or_memory ending.Screen w c on = absurd (c.screen_stayed c.screen_counted)
-    spent_or_memory ending.Spent w c on = inl refl
-    spent_or_memory ending.Refused w c on = absurd (none_is_some w.fits w.refused)
-    spent_or_memory ending.Memory w c on = inr refl
+        → (e ≡ Ending.Spent) ⊎ (e ≡ Ending.Memory)
+    spent_or_memory Ending.Done w c on = absurd (not_done w.heard w.is_heard w.ended on)
+    spent_or_memory Ending.Console w c on = absurd (c.console_stayed c.console_counted)
+    spent_or_memory Ending.Screen w c on = absurd (c.screen_stayed c.screen_counted)
+    spent_or_memory Ending.Spent w c on = inl refl
+    spent_or_memory Ending.Refused w c on = absurd (none_is_some w.fits w.refused)
+    spent_or_memory Ending.Memory w c on = inr refl
 
 -- the screen's count did not rise
 pub record ScreenStayed (e : Ending) (screen screen' : ℕ) : Type 0 where
@@ -270,10 +255,10 @@ pub record ScreenStayed (e : Ending) (screen screen' : ℕ) : Type 0 where
 
 -- a session that does not fit is refused, unless the screen fails or memory runs out
 pub refused_or_memory : {screen screen' : ℕ} (e : Ending) (m : Option Misfit) → RefusedBy e m → IsSome m
-    → ScreenStayed e screen screen' → (e ≡ ending.Refused) ⊎ (e ≡ ending.Memory)
-refused_or_memory ending.Done m r some c = absurd (none_is_some r some)
-refused_or_memory ending.Console m r some c = absurd (none_is_some r some)
-refused_or_memory ending.Spent m r some c = absurd (none_is_some r some)
-refused_or_memory ending.Refused m r some c = inl refl
-refused_or_memory ending.Screen m r some c = absurd (c.stayed c.counted)
-refused_or_memory ending.Memory m r some c = inr refl
+    → ScreenStayed e screen screen' → (e ≡ Ending.Refused) ⊎ (e ≡ Ending.Memory)
+refused_or_memory Ending.Done m r some c = absurd (none_is_some r some)
+refused_or_memory Ending.Console m r some c = absurd (none_is_some r some)
+refused_or_memory Ending.Spent m r some c = absurd (none_is_some r some)
+refused_or_memory Ending.Refused m r some c = inl refl
+refused_or_memory Ending.Screen m r some c = absurd (c.stayed c.counted)
+refused_or_memory Ending.Memory m r some c = inr refl

@@ -1,13 +1,7 @@
 -- What may be known of a console before the dialog begins, and what the screen gets then.
-use Rattle.std.specs.Prelude.{◌≡◌, ◌⊎◌, ◌<◌, ◌≤◌, ℕ, Bool, false, IsTrue, List, Option, length, take}
-use Rattle.edge_ports.specs.Counts.{Rose}
-use Rattle.edge_ports.specs.Lines.{whole_lines}
-use Rattle.edge_ports.specs.Limits.{console_bytes}
-use Rattle.edge_ports.specs.Told.{GaveAll, GavePrefix}
-use Rattle.ask_session.specs.declared.dialog.Ending.{Ending}
-use Rattle.ask_session.specs.declared.dialog.Ending.TheVariants as ending
-use Rattle.ask_session.specs.Dialog.{ends_among}
-use Rattle.ask_session.specs.Saves.{Save}
+use Rattle.std.specs.Prelude.{◌<◌, ◌≡◌, ◌≤◌, ◌⊎◌, ℕ, Bool, IsTrue, List, Option, false, length, take}
+use Rattle.edge_ports.specs.{Counts.Rose, Limits.console_bytes, Lines.whole_lines, Told.GaveAll, Told.GavePrefix}
+use Rattle.ask_session.specs.{Dialog.ends_among, Saves.Save, declared.dialog.Ending.Ending}
 
 -- a count did not rise, and does not stand at its last value
 abbrev pub NotRisen : ℕ → ℕ → Type 0
@@ -23,18 +17,18 @@ GoesOn bytes = (console_bytes ≤ length bytes) × (ends_among (whole_lines (tak
 
 -- the whole text was given where the dialog is done or its session is refused, and else a first part of it
 abbrev pub GaveOf : Ending → Option (List ℕ) → Option (List ℕ) → List ℕ → Type 0
-GaveOf ending.Done given given' text = GaveAll given given' text
-GaveOf ending.Console given given' text = GavePrefix given given' text
-GaveOf ending.Screen given given' text = GavePrefix given given' text
-GaveOf ending.Spent given given' text = GavePrefix given given' text
-GaveOf ending.Refused given given' text = GaveAll given given' text
-GaveOf ending.Memory given given' text = GavePrefix given given' text
+GaveOf Ending.Done given given' text = GaveAll given given' text
+GaveOf Ending.Console given given' text = GavePrefix given given' text
+GaveOf Ending.Screen given given' text = GavePrefix given given' text
+GaveOf Ending.Spent given given' text = GavePrefix given given' text
+GaveOf Ending.Refused given given' text = GaveAll given given' text
+GaveOf Ending.Memory given given' text = GavePrefix given given' text
 
 -- each of these saves got its answer where the dialog is done, and else the first ones did
 abbrev pub FirstAnswered : Ending → (saves : List Bool) → List Save → Type 0
-FirstAnswered ending.Done saves asked = length saves ≡ length asked
-FirstAnswered ending.Console saves asked = length saves ≤ length asked
-FirstAnswered ending.Screen saves asked = length saves ≤ length asked
-FirstAnswered ending.Spent saves asked = length saves ≤ length asked
-FirstAnswered ending.Refused saves asked = length saves ≤ length asked
-FirstAnswered ending.Memory saves asked = length saves ≤ length asked
+FirstAnswered Ending.Done saves asked = length saves ≡ length asked
+FirstAnswered Ending.Console saves asked = length saves ≤ length asked
+FirstAnswered Ending.Screen saves asked = length saves ≤ length asked
+FirstAnswered Ending.Spent saves asked = length saves ≤ length asked
+FirstAnswered Ending.Refused saves asked = length saves ≤ length asked
+FirstAnswered Ending.Memory saves asked = length saves ≤ length asked

@@ -1,20 +1,12 @@
 -- The dialog: what the lines of the console are replied, one after the other, up to `quit`.
-use Rattle.std.specs.Prelude.{ℕ, Bool, true, false, nat_lt, if◌then◌else◌, length, List, [], ◌∷◌, ◌++◌, codes}
-use Rattle.std.specs.Prelude.{Option, Some, None}
-use Rattle.std.specs.List.{list_any}
-use Rattle.edge_ports.specs.Limits.{line_bytes}
-use Rattle.edge_ports.specs.Lines.{lines_of}
+use Rattle.std.specs.Prelude.{if◌then◌else◌, ◌++◌, ◌∷◌, [], ℕ, Bool, List, None, Option, Some, codes, false, length}
+use Rattle.std.specs.{Prelude.nat_lt, Prelude.true, List.list_any}
+use Rattle.edge_ports.specs.{Limits.line_bytes, Lines.lines_of}
 use Rattle.answer_book.specs.declared.entries.Entry.{Entry}
-use Rattle.dialog_replies.specs.declared.instructions.Instruction.{Instruction}
-use Rattle.dialog_replies.specs.declared.instructions.Instruction.TheVariants.{Quit, Save}
-use Rattle.dialog_replies.specs.Instructions.{instruction_of}
-use Rattle.dialog_replies.specs.Subject.{Subject}
-use Rattle.dialog_replies.specs.Replies.{opening, outcome}
-use Rattle.dialog_replies.specs.declared.start.Start.{Start}
-use Rattle.dialog_replies.specs.declared.misfits.Misfit.{Misfit}
-use Rattle.dialog_replies.specs.Fit.{misfit}
-use Rattle.dialog_replies.specs.Lines.{misfit_line}
-use Rattle.dialog_replies.specs.Start.{entries_at_start}
+use Rattle.dialog_replies.specs.{Fit.misfit, Instructions.instruction_of, Lines.misfit_line, Replies.opening}
+use Rattle.dialog_replies.specs.{Replies.outcome, Start.entries_at_start, Subject.Subject}
+use Rattle.dialog_replies.specs.declared.{misfits.Misfit.Misfit, start.Start.Start}
+use Rattle.dialog_replies.specs.declared.instructions.Instruction.{Instruction, TheVariants.Quit, TheVariants.Save}
 
 abbrev pub is_quit : Instruction → Bool
 is_quit Quit = true

@@ -1,11 +1,9 @@
 -- What the reports of a dialog say, after whatever entries.
 use Rattle.std.specs.Prelude.{◌≡◌, ◌⊎◌, ℕ, List, Option, Some}
-use Rattle.answer_book.specs.declared.entries.Entry.{Entry}
-use Rattle.answer_book.specs.Accused.{accused_of}
-use Rattle.answer_book.specs.Entries.{standing_answers}
-use Rattle.optimal_query.specs.declared.state.SearchState.TheVariants.{Ask, Found, Narrowed}
+use Rattle.answer_book.specs.{Accused.accused_of, Entries.standing_answers, declared.entries.Entry.Entry}
 use Rattle.optimal_query.specs.Laws.{IsAsked, IsAtFault, IsCallTree, IsOptimal}
 use Rattle.optimal_query.specs.Narrowing.{AgreesWithMarks, IsBuggy, IsLeft, Truth}
+use Rattle.optimal_query.specs.declared.state.SearchState.TheVariants.{Ask, Found, Narrowed}
 use Rattle.dialog_replies.specs.Subject.{Subject, state_after}
 
 -- it holds of each subject in whose columns the subtree of a call is an interval

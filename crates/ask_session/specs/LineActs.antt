@@ -1,20 +1,14 @@
 -- What the lines of a console do to the entries, read as acts: an entry stands if one of these made it and none took it
 -- back. No list of entries with flags is kept here, as a book keeps one.
-use Rattle.std.specs.Prelude.{◌≡◌, ℕ, if◌then◌else◌, List, [], ◌∷◌, Option, Some, None, length, option_map}
-use Rattle.answer_book.specs.declared.entries.Entry.{Entry}
-use Rattle.answer_book.specs.declared.entries.Judgement.{Judgement}
-use Rattle.optimal_query.specs.declared.state.SearchState.{SearchState}
-use Rattle.optimal_query.specs.declared.state.SearchState.TheVariants.{Ask}
+use Rattle.std.specs.Prelude.{if◌then◌else◌, ◌∷◌, ◌≡◌, [], ℕ, List, None, Option, Some, length, option_map}
+use Rattle.answer_book.specs.declared.entries.{Entry.Entry, Judgement.Judgement}
 use Rattle.optimal_query.specs.Accepted.{CommandAct, act_of, acts_giving, and_then, entries_after, standing_after}
 use Rattle.optimal_query.specs.Laws.{state_in}
-use Rattle.optimal_query.specs.Standing.{Command, Judge, Trust, TakeBack, TakeBackLast}
-use Rattle.dialog_replies.specs.declared.instructions.DialogCommand.TheVariants as commands
-use Rattle.dialog_replies.specs.declared.instructions.Instruction.{Instruction}
-use Rattle.dialog_replies.specs.declared.instructions.Instruction.TheVariants as asked
-use Rattle.dialog_replies.specs.Instructions.{instruction_of}
-use Rattle.dialog_replies.specs.Subject.{Subject, routine_named}
-use Rattle.ask_session.specs.Dialog.{is_too_long}
-use Rattle.ask_session.specs.Turned.{entries_through}
+use Rattle.optimal_query.specs.Standing.{Command, Judge, TakeBack, TakeBackLast, Trust}
+use Rattle.optimal_query.specs.declared.state.SearchState.{SearchState, TheVariants.Ask}
+use Rattle.dialog_replies.specs.{Instructions.instruction_of, Subject.Subject, Subject.routine_named}
+use Rattle.dialog_replies.specs.declared.instructions.{DialogCommand.DialogCommand, Instruction.Instruction}
+use Rattle.ask_session.specs.{Dialog.is_too_long, Turned.entries_through}
 
 -- a judgement on the call that is asked about, if one is
 abbrev pub judgement_on : Judgement → SearchState → Option Command
@@ -23,13 +17,13 @@ judgement_on judgement state = None
 
 -- the command to a search that an instruction is after these acts, if it is one
 abbrev pub command_in : Subject → List CommandAct → Instruction → Option Command
-command_in s acts (asked.Command (commands.Judge judgement None)) =
+command_in s acts (Instruction.Command (DialogCommand.Judge judgement None)) =
     judgement_on judgement (state_in s.tree (standing_after acts))
-command_in s acts (asked.Command (commands.Judge judgement (Some call))) = Some (Judge call judgement)
-command_in s acts (asked.Command (commands.TrustNamed name)) = option_map Trust (routine_named s name)
-command_in s acts (asked.Command (commands.Trust routine)) = Some (Trust routine)
-command_in s acts (asked.Command (commands.TakeBack None)) = Some TakeBackLast
-command_in s acts (asked.Command (commands.TakeBack (Some number))) = Some (TakeBack number)
+command_in s acts (Instruction.Command (DialogCommand.Judge judgement (Some call))) = Some (Judge call judgement)
+command_in s acts (Instruction.Command (DialogCommand.TrustNamed name)) = option_map Trust (routine_named s name)
+command_in s acts (Instruction.Command (DialogCommand.Trust routine)) = Some (Trust routine)
+command_in s acts (Instruction.Command (DialogCommand.TakeBack None)) = Some TakeBackLast
+command_in s acts (Instruction.Command (DialogCommand.TakeBack (Some number))) = Some (TakeBack number)
 command_in s acts instruction = None
 
 -- what it does; nothing where it is refused

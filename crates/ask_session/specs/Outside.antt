@@ -1,7 +1,6 @@
 -- What is outside of a dialog, at one moment.
 use Rattle.std.specs.Prelude.{ℕ, List, Option}
-use Rattle.edge_ports.specs.Files.{FileMap}
-use Rattle.edge_ports.specs.Counts.{KeeperCounts}
+use Rattle.edge_ports.specs.{Counts.KeeperCounts, Files.FileMap}
 
 -- the bytes that the console has left, and those that the screen was given, where they tell them
 pub record Streams : Type 0 where

@@ -1,11 +1,9 @@
 -- How far a dialog came.
-use Rattle.std.specs.Prelude.{◌≡◌, ◌⊎◌, ◌<◌, ◌≤◌, ◌+◌, ℕ, Bool, List, Option, length, take}
+use Rattle.std.specs.Prelude.{◌+◌, ◌<◌, ◌≡◌, ◌≤◌, ◌⊎◌, ℕ, Bool, List, Option, length, take}
 use Rattle.edge_ports.specs.Told.{GavePrefix}
 use Rattle.answer_book.specs.declared.entries.Entry.{Entry}
-use Rattle.dialog_replies.specs.Subject.{Subject}
-use Rattle.dialog_replies.specs.declared.start.Start.{Start}
-use Rattle.ask_session.specs.Dialog.{replies, said}
-use Rattle.ask_session.specs.Saves.{Save, saves_asked, saves_in}
+use Rattle.dialog_replies.specs.{Subject.Subject, declared.start.Start.Start}
+use Rattle.ask_session.specs.{Dialog.replies, Dialog.said, Saves.Save, Saves.saves_asked, Saves.saves_in}
 
 -- what is said of lines, by the answers to those that ask to save, and what they ask to save
 pub record Telling : Type 0 where

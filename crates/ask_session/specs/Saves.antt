@@ -1,16 +1,12 @@
 -- What the lines of a console ask to save, and what becomes of the keeper.
-use Rattle.std.specs.Prelude.{◌≡◌, ◌⊎◌, ◌≤◌, ℕ, Bool, true, false, if◌then◌else◌, List, [], ◌∷◌, ◌++◌, length}
-use Rattle.std.specs.Prelude.{Option, Some, None, Ok, Err}
-use Rattle.edge_ports.specs.Counts.{KeeperCounts, counts_stored}
+use Rattle.std.specs.Prelude.{if◌then◌else◌, ◌++◌, ◌∷◌, ◌≡◌, ◌≤◌, ◌⊎◌, [], ℕ, Bool, Err, List, None, Ok, Option, Some}
+use Rattle.std.specs.Prelude.{false, length, true}
+use Rattle.edge_ports.specs.{Counts.KeeperCounts, Counts.counts_stored, declared.ports.StoreFault.StoreFault}
 use Rattle.edge_ports.specs.Files.{FileMap, KeepsOthers, StoresFile}
-use Rattle.edge_ports.specs.declared.ports.StoreFault.TheVariants as store
 use Rattle.answer_book.specs.declared.entries.Entry.{Entry}
-use Rattle.dialog_replies.specs.Subject.{Subject}
-use Rattle.dialog_replies.specs.declared.start.Start.{Start}
-use Rattle.dialog_replies.specs.Start.{entries_at_start, saved_text}
-use Rattle.ask_session.specs.declared.dialog.Ending.{Ending}
-use Rattle.ask_session.specs.declared.dialog.Ending.TheVariants as ending
+use Rattle.dialog_replies.specs.{Start.entries_at_start, Start.saved_text, Subject.Subject, declared.start.Start.Start}
 use Rattle.ask_session.specs.Dialog.{ends_session, entries_after_line, file_asked}
+use Rattle.ask_session.specs.declared.dialog.Ending.{Ending}
 
 -- a file that is to be stored: its name, and the session's text
 pub record Save : Type 0 where
@@ -48,25 +44,25 @@ FilesAfter (stored ∷ saves) (save ∷ asked) before now =
 abbrev pub counts_saved : (saves : List Bool) → KeeperCounts → KeeperCounts
 counts_saved [] counts = counts
 counts_saved (true ∷ saves) counts = counts_saved saves (counts_stored (Ok tt) counts)
-counts_saved (false ∷ saves) counts = counts_saved saves (counts_stored (Err store.Failed) counts)
+counts_saved (false ∷ saves) counts = counts_saved saves (counts_stored (Err StoreFault.Failed) counts)
 
 -- ---- by how the dialog ended
 
 -- each save got its answer; where the screen failed or memory ran out, the first ones did
 abbrev pub AreAnswered : Ending → (saves : List Bool) → List Save → Type 0
-AreAnswered ending.Done saves asked = length saves ≡ length asked
-AreAnswered ending.Console saves asked = length saves ≡ length asked
-AreAnswered ending.Spent saves asked = length saves ≡ length asked
-AreAnswered ending.Refused saves asked = length saves ≡ length asked
-AreAnswered ending.Screen saves asked = length saves ≤ length asked
-AreAnswered ending.Memory saves asked = length saves ≤ length asked
+AreAnswered Ending.Done saves asked = length saves ≡ length asked
+AreAnswered Ending.Console saves asked = length saves ≡ length asked
+AreAnswered Ending.Spent saves asked = length saves ≡ length asked
+AreAnswered Ending.Refused saves asked = length saves ≡ length asked
+AreAnswered Ending.Screen saves asked = length saves ≤ length asked
+AreAnswered Ending.Memory saves asked = length saves ≤ length asked
 
 -- the counts are those after the answers, unless it was one more store that ran out of memory
 abbrev pub CountsAfter : Ending → (saves : List Bool) → (before now : KeeperCounts) → Type 0
-CountsAfter ending.Done saves before now = now ≡ counts_saved saves before
-CountsAfter ending.Console saves before now = now ≡ counts_saved saves before
-CountsAfter ending.Spent saves before now = now ≡ counts_saved saves before
-CountsAfter ending.Refused saves before now = now ≡ counts_saved saves before
-CountsAfter ending.Screen saves before now = now ≡ counts_saved saves before
-CountsAfter ending.Memory saves before now =
-    (now ≡ counts_saved saves before) ⊎ (now ≡ counts_stored (Err store.Memory) (counts_saved saves before))
+CountsAfter Ending.Done saves before now = now ≡ counts_saved saves before
+CountsAfter Ending.Console saves before now = now ≡ counts_saved saves before
+CountsAfter Ending.Spent saves before now = now ≡ counts_saved saves before
+CountsAfter Ending.Refused saves before now = now ≡ counts_saved saves before
+CountsAfter Ending.Screen saves before now = now ≡ counts_saved saves before
+CountsAfter Ending.Memory saves before now =
+    (now ≡ counts_saved saves before) ⊎ (now ≡ counts_stored (Err StoreFault.Memory) (counts_saved saves before))

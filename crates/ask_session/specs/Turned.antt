@@ -1,21 +1,13 @@
 -- What the code of the dialog does with one line, and with all of them.
-use Rattle.std.specs.Prelude.{◌≡◌, ◌⊎◌, ◌<◌, ◌≤◌, ℕ, Bool, true, false, IsTrue, List, [], ◌∷◌, ◌++◌, Option, length}
-use Rattle.std.specs.Prelude.{Result, Ok, Err}
-use Rattle.edge_ports.specs.Counts.{KeeperCounts}
-use Rattle.edge_ports.specs.Files.{FileMap}
-use Rattle.edge_ports.specs.Limits.{console_bytes}
-use Rattle.edge_ports.specs.Lines.{LinesState, lines_heard, handed_lines}
-use Rattle.edge_ports.specs.Told.{GaveAll, GavePrefix}
+use Rattle.std.specs.Prelude.{◌++◌, ◌<◌, ◌∷◌, ◌≡◌, ◌≤◌, ◌⊎◌, [], ℕ, Bool, Err, IsTrue, List, Ok, Option, Result, false}
+use Rattle.std.specs.Prelude.{length, true}
+use Rattle.edge_ports.specs.{Counts.KeeperCounts, Files.FileMap, Limits.console_bytes, Told.GaveAll, Told.GavePrefix}
+use Rattle.edge_ports.specs.Lines.{LinesState, handed_lines, lines_heard}
 use Rattle.answer_book.specs.declared.entries.Entry.{Entry}
-use Rattle.dialog_replies.specs.Subject.{Subject}
-use Rattle.dialog_replies.specs.declared.start.Start.{Start}
-use Rattle.dialog_replies.specs.Start.{entries_at_start}
-use Rattle.ask_session.specs.declared.dialog.Ending.{Ending}
-use Rattle.ask_session.specs.declared.dialog.Ending.TheVariants as ending
-use Rattle.ask_session.specs.Dialog.{ends_session, ends_among, entries_after_line, next_save, replies, reply_to}
-use Rattle.ask_session.specs.Dialog.{save_reply}
-use Rattle.ask_session.specs.Heard.{Heard, IsHeard, lines_in, EndedBy, GaveBy, is_console, is_screen}
-use Rattle.ask_session.specs.Outside.{Outside}
+use Rattle.dialog_replies.specs.{Start.entries_at_start, Subject.Subject, declared.start.Start.Start}
+use Rattle.ask_session.specs.{Dialog.save_reply, Outside.Outside, declared.dialog.Ending.Ending}
+use Rattle.ask_session.specs.Dialog.{ends_among, ends_session, entries_after_line, next_save, replies, reply_to}
+use Rattle.ask_session.specs.Heard.{EndedBy, GaveBy, Heard, IsHeard, is_console, is_screen, lines_in}
 use Rattle.ask_session.specs.Reached.{Reached, telling_from}
 use Rattle.ask_session.specs.Saves.{AreAnswered, CountsAfter, FilesAfter, Save, counts_saved, saves_asked, saves_in}
 
@@ -67,33 +59,33 @@ pub record BreaksOff (s : Subject) (start : Start) (old : DialogMoment) (line : 
     pub saves : List Bool
     pub answered : length saves ≤ length (saves_asked s start old.entries (line ∷ []))
     pub files_are : FilesAfter saves (saves_asked s start old.entries (line ∷ [])) old.files new.files
-    pub counts_are : CountsAfter ending.Memory saves old.counts new.counts
+    pub counts_are : CountsAfter Ending.Memory saves old.counts new.counts
 
 -- the reply to a save, or that memory ran out
 abbrev pub SaveGoes : Save → DialogMoment → Result (List ℕ) Ending → DialogMoment → Type 0
 SaveGoes save old (Ok reply) new =
     (stored : Bool) × (reply ≡ save_reply stored save.file)
     × FilesAfter (stored ∷ []) (save ∷ []) old.files new.files × (new.counts ≡ counts_saved (stored ∷ []) old.counts)
-SaveGoes save old (Err ending.Memory) new =
+SaveGoes save old (Err Ending.Memory) new =
     (saves : List Bool) × (length saves ≤ 1) × FilesAfter saves (save ∷ []) old.files new.files
-    × CountsAfter ending.Memory saves old.counts new.counts
-SaveGoes save old (Err ending.Done) new = ⊥
-SaveGoes save old (Err ending.Console) new = ⊥
-SaveGoes save old (Err ending.Screen) new = ⊥
-SaveGoes save old (Err ending.Spent) new = ⊥
-SaveGoes save old (Err ending.Refused) new = ⊥
+    × CountsAfter Ending.Memory saves old.counts new.counts
+SaveGoes save old (Err Ending.Done) new = ⊥
+SaveGoes save old (Err Ending.Console) new = ⊥
+SaveGoes save old (Err Ending.Screen) new = ⊥
+SaveGoes save old (Err Ending.Spent) new = ⊥
+SaveGoes save old (Err Ending.Refused) new = ⊥
 
 -- the reply to a line, or that it ends the session
 abbrev pub AnswersLine : Subject → Start → LineAt → Result (List ℕ) Ending → DialogMoment → Type 0
 AnswersLine s start old (Ok reply) new =
     (saves : List Bool) × Passes s start old.moment (one_line old.line saves) new
     × (reply ≡ reply_to s old.moment.entries (next_save saves) old.line)
-AnswersLine s start old (Err ending.Memory) new = BreaksOff s start old.moment old.line new
-AnswersLine s start old (Err ending.Done) new = (ends_session old.line ≡ true) × (new ≡ old.moment)
-AnswersLine s start old (Err ending.Console) new = ⊥
-AnswersLine s start old (Err ending.Screen) new = ⊥
-AnswersLine s start old (Err ending.Spent) new = ⊥
-AnswersLine s start old (Err ending.Refused) new = ⊥
+AnswersLine s start old (Err Ending.Memory) new = BreaksOff s start old.moment old.line new
+AnswersLine s start old (Err Ending.Done) new = (ends_session old.line ≡ true) × (new ≡ old.moment)
+AnswersLine s start old (Err Ending.Console) new = ⊥
+AnswersLine s start old (Err Ending.Screen) new = ⊥
+AnswersLine s start old (Err Ending.Spent) new = ⊥
+AnswersLine s start old (Err Ending.Refused) new = ⊥
 
 -- one more line was handed out
 abbrev pub Hands : LinesState → LinesState → List ℕ → Type 0
@@ -108,37 +100,37 @@ abbrev pub NextReply : Subject → Start → Progress → Result (List ℕ) Endi
 NextReply s start old (Ok reply) new =
     (line : List ℕ) × Hands old.lines new.lines line
     × AnswersLine s start (record { line = line; moment = old.moment }) (Ok reply) new.moment
-NextReply s start old (Err ending.Memory) new =
+NextReply s start old (Err Ending.Memory) new =
     (line : List ℕ) × Hands old.lines new.lines line
-    × AnswersLine s start (record { line = line; moment = old.moment }) (Err ending.Memory) new.moment
-NextReply s start old (Err ending.Done) new =
+    × AnswersLine s start (record { line = line; moment = old.moment }) (Err Ending.Memory) new.moment
+NextReply s start old (Err Ending.Done) new =
     ((line : List ℕ) × Hands old.lines new.lines line
-    × AnswersLine s start (record { line = line; moment = old.moment }) (Err ending.Done) new.moment)
+    × AnswersLine s start (record { line = line; moment = old.moment }) (Err Ending.Done) new.moment)
     ⊎ (IsTrue new.lines.ended × HandsNone old.lines new.lines × (new.moment ≡ old.moment))
-NextReply s start old (Err ending.Console) new =
+NextReply s start old (Err Ending.Console) new =
     (new.lines.ended ≡ false) × HandsNone old.lines new.lines × (length new.lines.taken < console_bytes)
     × (new.moment ≡ old.moment)
-NextReply s start old (Err ending.Spent) new =
+NextReply s start old (Err Ending.Spent) new =
     (new.lines.ended ≡ false) × HandsNone old.lines new.lines × (length new.lines.taken ≡ console_bytes)
     × (new.moment ≡ old.moment)
-NextReply s start old (Err ending.Screen) new = ⊥
-NextReply s start old (Err ending.Refused) new = ⊥
+NextReply s start old (Err Ending.Screen) new = ⊥
+NextReply s start old (Err Ending.Refused) new = ⊥
 
 -- the reply was given, or how the dialog ends
 abbrev pub ReplyGiven : Subject → Start → DialogStage → Result (Unit {0}) Ending → DialogStage → Type 0
 ReplyGiven s start old (Ok _) new =
     (reply : List ℕ) × NextReply s start old.progress (Ok reply) new.progress × GaveAll old.given new.given reply
-ReplyGiven s start old (Err ending.Screen) new =
+ReplyGiven s start old (Err Ending.Screen) new =
     (reply : List ℕ) × NextReply s start old.progress (Ok reply) new.progress × GavePrefix old.given new.given reply
-ReplyGiven s start old (Err ending.Done) new =
-    NextReply s start old.progress (Err ending.Done) new.progress × (new.given ≡ old.given)
-ReplyGiven s start old (Err ending.Console) new =
-    NextReply s start old.progress (Err ending.Console) new.progress × (new.given ≡ old.given)
-ReplyGiven s start old (Err ending.Spent) new =
-    NextReply s start old.progress (Err ending.Spent) new.progress × (new.given ≡ old.given)
-ReplyGiven s start old (Err ending.Memory) new =
-    NextReply s start old.progress (Err ending.Memory) new.progress × (new.given ≡ old.given)
-ReplyGiven s start old (Err ending.Refused) new = ⊥
+ReplyGiven s start old (Err Ending.Done) new =
+    NextReply s start old.progress (Err Ending.Done) new.progress × (new.given ≡ old.given)
+ReplyGiven s start old (Err Ending.Console) new =
+    NextReply s start old.progress (Err Ending.Console) new.progress × (new.given ≡ old.given)
+ReplyGiven s start old (Err Ending.Spent) new =
+    NextReply s start old.progress (Err Ending.Spent) new.progress × (new.given ≡ old.given)
+ReplyGiven s start old (Err Ending.Memory) new =
+    NextReply s start old.progress (Err Ending.Memory) new.progress × (new.given ≡ old.given)
+ReplyGiven s start old (Err Ending.Refused) new = ⊥
 
 -- the lines that were handed out since then were answered
 pub record Answered (s : Subject) (start : Start) (first now : DialogStage) : Type 0 where
@@ -154,7 +146,7 @@ pub record Talked (s : Subject) (start : Start) (before : Outside) (e : Ending) 
   pub saves : List Bool
   pub is_heard : IsHeard before.streams.left after.streams.left heard
   pub ended : EndedBy e heard
-  pub not_refused : e ≡ ending.Refused → ⊥
+  pub not_refused : e ≡ Ending.Refused → ⊥
   pub answered : AreAnswered e saves (saves_in s start (lines_in heard))
   pub gave : GaveBy e before.streams.given after.streams.given
       (replies s (entries_at_start start) saves (lines_in heard))

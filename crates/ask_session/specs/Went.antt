@@ -1,14 +1,9 @@
 -- How a dialog went.
 use Rattle.std.specs.Prelude.{Bool, List}
-use Rattle.dialog_replies.specs.Subject.{Subject}
-use Rattle.dialog_replies.specs.declared.start.Start.{Start}
-use Rattle.dialog_replies.specs.Fit.{misfit}
-use Rattle.ask_session.specs.declared.dialog.Ending.{Ending}
-use Rattle.ask_session.specs.Dialog.{said}
-use Rattle.ask_session.specs.Heard.{Heard, IsHeard, lines_in, EndedBy, GaveBy, RefusedBy}
-use Rattle.ask_session.specs.Outside.{Outside}
-use Rattle.ask_session.specs.Reached.{Reached, telling}
-use Rattle.ask_session.specs.Saves.{AreAnswered, CountsAfter, FilesAfter, saves_in}
+use Rattle.dialog_replies.specs.{Fit.misfit, Subject.Subject, declared.start.Start.Start}
+use Rattle.ask_session.specs.{Dialog.said, Outside.Outside, Reached.Reached, Reached.telling, Saves.AreAnswered}
+use Rattle.ask_session.specs.{Saves.CountsAfter, Saves.FilesAfter, Saves.saves_in, declared.dialog.Ending.Ending}
+use Rattle.ask_session.specs.Heard.{EndedBy, GaveBy, Heard, IsHeard, RefusedBy, lines_in}
 
 -- A dialog about a run went so: what was heard of the console and why it ended; of each line that asks to save, whether
 -- its file was stored; what the screen got, and how many lines were answered; and what became of the files, by the

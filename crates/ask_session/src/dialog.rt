@@ -1,23 +1,14 @@
 //! The dialog on the console.
-ghost use Rattle.std.specs.Prelude.{◌≡◌, ◌<◌, ◌≤◌, [], ◌∷◌, false, IsTrue, length, codes, Err, IfErr, IfOk, OnErr};
-ghost use Rattle.std.specs.Prelude.{OnOk};
-ghost use Rattle.std.specs.Io.KnownBytes.{IsAtEnd};
+ghost use Rattle.std.specs.Prelude.{◌<◌, ◌∷◌, ◌≡◌, ◌≤◌, [], Err, IfErr, IfOk, IsTrue, OnErr, OnOk, codes, false};
+ghost use Rattle.std.specs.{Prelude.length, Io.KnownBytes.IsAtEnd};
+ghost use Rattle.edge_ports.specs.{Limits.line_bytes, Lines.Moves, Told.GaveAll, Told.GavePrefix, Turns.IsConsistent};
 ghost use Rattle.edge_ports.specs.Counts.{Counted, counts_stored};
-ghost use Rattle.edge_ports.specs.Told.{GaveAll, GavePrefix};
-ghost use Rattle.edge_ports.specs.Lines.{Moves};
-ghost use Rattle.edge_ports.specs.Limits.{line_bytes};
-ghost use Rattle.edge_ports.specs.Turns.{IsConsistent};
 ghost use Rattle.edge_ports.specs.declared.ports.StoreFault.TheVariants as store;
-ghost use Rattle.dialog_replies.specs.Kept.{IsSearchOf};
-ghost use Rattle.dialog_replies.specs.Subject.{Subject};
-ghost use Rattle.dialog_replies.specs.Start.{entries_at_start, saved_text};
+ghost use Rattle.dialog_replies.specs.{Kept.IsSearchOf, Start.entries_at_start, Start.saved_text, Subject.Subject};
 ghost use Rattle.dialog_replies.specs.declared.start.Start.{Start as StartValue};
-ghost use Rattle.ask_session.specs.Dialog.{save_reply};
-ghost use Rattle.ask_session.specs.Heard.{is_console, is_screen};
-ghost use Rattle.ask_session.specs.Saves.{FileAfter, counts_saved};
-ghost use Rattle.ask_session.specs.Turned.{AnswersLine, LineAt, NextReply, SaveGoes, Talked, ReplyGiven};
-ghost use Rattle.ask_session.specs.Turned.{console_failed};
-ghost use Rattle.ask_session.specs.Turned.{screen_failed};
+ghost use Rattle.ask_session.specs.{Dialog.save_reply, Heard.is_console, Heard.is_screen, Saves.FileAfter};
+ghost use Rattle.ask_session.specs.{Saves.counts_saved, Turned.console_failed, Turned.screen_failed};
+ghost use Rattle.ask_session.specs.Turned.{AnswersLine, LineAt, NextReply, ReplyGiven, SaveGoes, Talked};
 
 use dialog_replies::{
     Debugged, FileName, Instruction, Start, answer, instruction_in, session_text_of,

@@ -1,7 +1,7 @@
 //! What the reports of a dialog say, the contract of calls that do nothing.
+ghost use Rattle.dialog_replies.specs.Subject.{Subject};
 ghost use Rattle.ask_session.specs.Laws.{AsksTheBest, FindsTheFault, NamesTheAccused, NarrowsTheFault, OfEachTree};
 ghost use Rattle.ask_session.specs.LineActs.{EntriesFollowLines};
-ghost use Rattle.dialog_replies.specs.Subject.{Subject};
 
 use dialog_replies::Debugged;
 use optimal_query::laws::{buggy_is_left, found_is_at_fault, question_is_least};

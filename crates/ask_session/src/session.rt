@@ -1,17 +1,12 @@
 //! A session on the console: what it opens with, and the dialog.
-ghost use Rattle.std.specs.Prelude.{◌≡◌, ◌⊎◌, ℕ, Bool, List, None, Some, IsSome, IsTrue};
-ghost use Rattle.edge_ports.specs.Counts.{Counted};
-ghost use Rattle.edge_ports.specs.Lines.{lines_of};
-ghost use Rattle.dialog_replies.specs.Fit.{misfit};
-ghost use Rattle.dialog_replies.specs.Start.{IsWholeStart};
+ghost use Rattle.std.specs.Prelude.{◌≡◌, ◌⊎◌, ℕ, Bool, IsSome, IsTrue, List, None, Some};
+ghost use Rattle.edge_ports.specs.{Counts.Counted, Lines.lines_of};
+ghost use Rattle.dialog_replies.specs.{Fit.misfit, Start.IsWholeStart};
+ghost use Rattle.ask_session.specs.{Dialog.transcript, Heard.is_console, Heard.is_screen, LineActs.EntriesFollowLines};
+ghost use Rattle.ask_session.specs.{Reached.Reached, Reached.telling, Went.Went};
 ghost use Rattle.ask_session.specs.Console.{EndsInTime, FirstAnswered, GaveOf, GoesOn, NotRisen};
-ghost use Rattle.ask_session.specs.Dialog.{transcript};
-ghost use Rattle.ask_session.specs.Heard.{is_console, is_screen};
 ghost use Rattle.ask_session.specs.Laws.{AsksTheBest, FindsTheFault, NamesTheAccused, NarrowsTheFault};
-ghost use Rattle.ask_session.specs.LineActs.{EntriesFollowLines};
-ghost use Rattle.ask_session.specs.Reached.{Reached, telling};
 ghost use Rattle.ask_session.specs.Saves.{CountsAfter, FilesAfter, saves_in};
-ghost use Rattle.ask_session.specs.Went.{Went};
 
 use crate::dialog::{Ending, answer_lines};
 use crate::laws::{entries_follow_lines, search_is_sound};

@@ -1,9 +1,6 @@
 -- The parts of the test of agreement, gone over one by one.
-use Rattle.std.proofs.Common.{◌≡◌, ℕ, suc, ◌+◌, List, ◌∷◌, Some, sym, ap, subst, ◌∙◌, drop, take, arith}
-use Rattle.std.specs.List.{All, slice_get}
-use Rattle.std.specs.Option.{option_map}
-use Rattle.std.proofs.lemmas.List.Elements.{All-cons}
-use Rattle.std.proofs.lemmas.Option.{slice_get-map}
+use Rattle.std.proofs.Common.{◌+◌, ◌∙◌, ◌∷◌, ◌≡◌, ℕ, List, Some, ap, arith, drop, subst, suc, sym, take}
+use Rattle.std.{proofs.lemmas.List.Elements.All-cons, proofs.lemmas.Option.slice_get-map, specs.List.All, specs.List.slice_get, specs.Option.option_map}
 use Rattle.call_tree.specs.Recording.{depths_of}
 use Rattle.call_tree.specs.declared.records.Call as table
 use Rattle.eval_ops.proofs.Lists.{drop_get}

@@ -1,28 +1,15 @@
 -- The test of agreement tells what agreement is.
-use Rattle.std.proofs.Common.{◌≡◌, inl, inr, ℕ, zero, suc, ◌+◌, ◌<◌, ◌≤◌, Bool, true, false, List, [], ◌∷◌, Option, Some, None, refl, sym, ap, subst}
-use Rattle.std.proofs.Common.{◌-◌, nat_eq, nat_le, arith}
-use Rattle.std.specs.Prelude.{◌&&◌, ◌||◌, ℤ}
-use Rattle.std.specs.List.{All, slice_get}
-use Rattle.std.specs.Ordering.{nat_cmp, int_eq}
-use Rattle.std.specs.FinMap.{FinMap, get}
-use Rattle.std.proofs.lemmas.Bool.Decides.{eqb_tells, nat_tests}
-use Rattle.std.proofs.lemmas.List.Elements.{All-cons, All-nil}
-use Rattle.cell_value.specs.declared.values.Value.{Value}
-use Rattle.cell_value.specs.declared.values.Value.TheVariants as value
-use Rattle.cell_value.specs.declared.values.SetBits.{SetBits}
-use Rattle.cell_value.specs.declared.entries.Seen.{Seen}
-use Rattle.cell_value.specs.declared.entries.Seen.TheVariants.{Held, There, Absent}
-use Rattle.cell_value.specs.declared.ways_out.WayOut.{WayOut}
-use Rattle.cell_value.specs.declared.ways_out.WayOut.TheVariants as way
+use Rattle.std.proofs.Common.{◌&&◌, ◌+◌, ◌-◌, ◌<◌, ◌||◌, ◌∷◌, ◌≡◌, ◌≤◌, [], ℕ, ℤ, Bool, List, None, Option, Some, ap, arith, false, inl, inr, nat_eq, nat_le}
+use Rattle.std.proofs.Common.{refl, subst, suc, sym, true, zero}
+use Rattle.std.proofs.lemmas.{Bool.Decides.eqb_tells, Bool.Decides.nat_tests, List.Elements.All-cons, List.Elements.All-nil}
+use Rattle.std.specs.{FinMap.FinMap, FinMap.get, List.All, List.slice_get, Ordering.int_eq, Ordering.nat_cmp}
 use Rattle.cell_value.specs.Effects.{looked_of, made_of, reads_of}
-use Rattle.core_program.specs.State.{State, most_calls, most_depth}
-use Rattle.core_program.specs.Run.{Call}
-use Rattle.core_program.specs.Agree.{Agrees, EndedByItself, Shows, deepest}
-use Rattle.core_program.specs.Apply.{steps_taken}
-use Rattle.core_program.specs.Replay.{same_numbers, same_value}
-use Rattle.core_program.proofs.OutcomesCompose.{none_some}
-use Rattle.body_replay.specs.Laws as law
+use Rattle.cell_value.specs.declared.{values.SetBits.SetBits, values.Value.Value, ways_out.WayOut.WayOut}
+use Rattle.cell_value.specs.declared.entries.Seen.{Seen, TheVariants.Absent, TheVariants.Held, TheVariants.There}
+use Rattle.core_program.{proofs.OutcomesCompose.none_some, specs.Agree.Agrees, specs.Agree.EndedByItself, specs.Agree.Shows, specs.Agree.deepest}
+use Rattle.core_program.specs.{Apply.steps_taken, Replay.same_numbers, Replay.same_value, Run.Call, State.State, State.most_calls, State.most_depth}
 use Rattle.body_replay.specs.Agreement.{agrees, are_as_seen, are_same_items, ended_by_itself, is_as_seen, is_same_item}
+use Rattle.body_replay.specs.Laws as law
 
 -- ---- tests
 
@@ -58,13 +45,13 @@ integer_same i = grind (arith, nat_tests)
 -- ---- how it ended
 
 ended_tells : (w : WayOut) → ended_by_itself w ≡ true → EndedByItself w
-ended_tells way.OutOfSteps h = absurd (let z : false ≡ true = h in cc)
-ended_tells (way.Limited which) h = absurd (let z : false ≡ true = h in cc)
+ended_tells WayOut.OutOfSteps h = absurd (let z : false ≡ true = h in cc)
+ended_tells (WayOut.Limited which) h = absurd (let z : false ≡ true = h in cc)
 ended_tells w h = tt
 
 ended_told : (w : WayOut) → EndedByItself w → ended_by_itself w ≡ true
-ended_told way.OutOfSteps h = absurd h
-ended_told (way.Limited which) h = absurd h
+ended_told WayOut.OutOfSteps h = absurd h
+ended_told (WayOut.Limited which) h = absurd h
 ended_told w h = refl
 
 -- ---- the heap
@@ -103,29 +90,29 @@ bits_tell : (a b : SetBits) → same_numbers a.words b.words ≡ true → a ≡ 
 bits_tell a b h = λ i. record { words = numbers_tell a.words b.words h i }
 
 value_tells : (v w : Value) → same_value v w ≡ true → v ≡ w
-value_tells value.Undefined value.Undefined h = refl
-value_tells (value.Number n) (value.Number k) h = ap value.Number (same_integer n k h)
-value_tells (value.Bits a) (value.Bits b) h = ap value.Bits (bits_tell a b h)
-value_tells value.Nil value.Nil h = refl
-value_tells (value.Heap a) (value.Heap b) h = ap value.Heap (same_numbered h)
-value_tells (value.Place a) (value.Place b) h = ap value.Place (same_numbered h)
-value_tells (value.Frame a) (value.Frame b) h = ap value.Frame (same_numbered h)
-value_tells (value.Routine r a) (value.Routine s b) h =
+value_tells Value.Undefined Value.Undefined h = refl
+value_tells (Value.Number n) (Value.Number k) h = ap Value.Number (same_integer n k h)
+value_tells (Value.Bits a) (Value.Bits b) h = ap Value.Bits (bits_tell a b h)
+value_tells Value.Nil Value.Nil h = refl
+value_tells (Value.Heap a) (Value.Heap b) h = ap Value.Heap (same_numbered h)
+value_tells (Value.Place a) (Value.Place b) h = ap Value.Place (same_numbered h)
+value_tells (Value.Frame a) (Value.Frame b) h = ap Value.Frame (same_numbered h)
+value_tells (Value.Routine r a) (Value.Routine s b) h =
     let t = both (nat_eq r s) (nat_eq a b) h in
     let routine : r ≡ s = same_numbered t.0 in
     let frame : a ≡ b = same_numbered t.1 in
-    λ i. value.Routine (routine i) (frame i)
+    λ i. Value.Routine (routine i) (frame i)
 value_tells v w h = absurd (let z : false ≡ true = h in cc)
 
 value_told : (v : Value) → same_value v v ≡ true
-value_told value.Undefined = refl
-value_told (value.Number n) = integer_same n
-value_told (value.Bits a) = numbers_told a.words
-value_told value.Nil = refl
-value_told (value.Heap a) = number_self a
-value_told (value.Place a) = number_self a
-value_told (value.Frame a) = number_self a
-value_told (value.Routine r a) = and_both (nat_eq r r) (nat_eq a a) (number_self r) (number_self a)
+value_told Value.Undefined = refl
+value_told (Value.Number n) = integer_same n
+value_told (Value.Bits a) = numbers_told a.words
+value_told Value.Nil = refl
+value_told (Value.Heap a) = number_self a
+value_told (Value.Place a) = number_self a
+value_told (Value.Frame a) = number_self a
+value_told (Value.Routine r a) = and_both (nat_eq r r) (nat_eq a a) (number_self r) (number_self a)
 
 seen_tells : (o : Option Value) (s : Seen) → is_as_seen o s ≡ true → Shows o s
 seen_tells (Some v) (Held w) h = ap Some (value_tells v w h)

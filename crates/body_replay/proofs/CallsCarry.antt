@@ -1,36 +1,17 @@
 -- A call agrees with its own entry, and what it took it had looked at.
-use Rattle.std.proofs.Common.{◌≡◌, ℕ, zero, suc, ◌+◌, ◌-◌, ◌<◌, ◌≤◌, Bool, true, false, List, [], ◌∷◌, Option, Some, None, refl, sym, ap, subst, ◌∙◌}
-use Rattle.std.proofs.Common.{is_some, length, take, drop, nat_eq, arith}
-use Rattle.std.specs.Prelude.{All, map, fold, max, if◌then◌else◌}
-use Rattle.std.specs.List.{cons_option, filter_map, range_with_len, slice_get}
-use Rattle.std.specs.Option.{option_map}
-use Rattle.std.specs.FinMap.{get}
-use Rattle.std.proofs.lemmas.Bool.Decides.{nat_tests}
-use Rattle.std.proofs.lemmas.List.Elements.{All-cons, All-nil}
-use Rattle.std.proofs.lemmas.Option.{slice_get_within}
-use Rattle.cell_value.specs.declared.values.Value.{Value}
-use Rattle.cell_value.specs.declared.entries.Touch.{Touch}
-use Rattle.cell_value.specs.declared.entries.Touch.TheVariants as touch
-use Rattle.cell_value.specs.declared.entries.Seen.{Seen}
+use Rattle.std.proofs.Common.{if◌then◌else◌, ◌+◌, ◌-◌, ◌<◌, ◌∙◌, ◌∷◌, ◌≡◌, ◌≤◌, [], ℕ, All, Bool, List, None, Option, Some, ap, arith, drop, false, fold}
+use Rattle.std.proofs.Common.{is_some, length, map, max, nat_eq, refl, subst, suc, sym, take, true, zero}
+use Rattle.std.proofs.lemmas.{Bool.Decides.nat_tests, List.Elements.All-cons, List.Elements.All-nil, Option.slice_get_within}
+use Rattle.std.specs.{FinMap.get, List.cons_option, List.filter_map, List.range_with_len, List.slice_get, Option.option_map}
 use Rattle.cell_value.specs.Effects.{asked_by, change_by, heap_end, is_shared, listed, looked_of, read_by, reads_of, seen_at, seen_by, shared, taken_of}
-use Rattle.cell_value.specs.declared.entries.Change.{Change}
-use Rattle.core_program.specs.WholeTables.{WholeTables}
-use Rattle.core_program.specs.ProgramRows.{ProgramRows}
-use Rattle.core_program.specs.State.{State, IsSound, most_depth}
-use Rattle.core_program.specs.Run.{Call, Result, depth_enough, input_items, record_of}
-use Rattle.core_program.specs.Agree.{Agrees, EndedByItself, Shows, deepest}
-use Rattle.core_program.specs.Apply.{apply}
-use Rattle.core_program.proofs.OutcomesCompose.{none_some, some_same}
-use Rattle.core_program.proofs.Events.{unmarked}
-use Rattle.core_program.proofs.ActsLeave.{MayEnter}
-use Rattle.core_program.proofs.Effects.{effect_is}
-use Rattle.core_program.specs.RunLaws.{calls_in}
+use Rattle.cell_value.specs.declared.{entries.Change.Change, entries.Seen.Seen, entries.Touch.Touch, values.Value.Value}
+use Rattle.core_program.proofs.{ActsLeave.MayEnter, Effects.effect_is, Events.unmarked, OutcomesCompose.none_some, OutcomesCompose.some_same}
+use Rattle.core_program.proofs.{RecordsStand.stands, RunsLeave.Inner, RunsLeave.call_leaves, RunsRecord.MadeBy, RunsRecord.Recorded, Ways.RanCall}
 use Rattle.core_program.proofs.LawsOfRuns.{all_recorded, calls_sound, made}
-use Rattle.core_program.proofs.RecordsStand.{stands}
-use Rattle.core_program.proofs.RunsLeave.{Inner, call_leaves}
-use Rattle.core_program.proofs.RunsRecord.{MadeBy, Recorded}
 use Rattle.core_program.proofs.Touches.{Fits, Serves, first_asked, first_read, or_later, seen_is}
-use Rattle.core_program.proofs.Ways.{RanCall}
+use Rattle.core_program.specs.{Apply.apply, ProgramRows.ProgramRows, RunLaws.calls_in, State.IsSound, State.State, State.most_depth, WholeTables.WholeTables}
+use Rattle.core_program.specs.Agree.{Agrees, EndedByItself, Shows, deepest}
+use Rattle.core_program.specs.Run.{Call, Result, depth_enough, input_items, record_of}
 use Rattle.body_replay.specs.Laws.{CallsCarryToThemselves}
 
 -- ---- what the touches of a call show of its entry
@@ -53,7 +34,7 @@ module _ {A : Type 0} (o : Option Value) (a : ℕ) (by' : Touch → Option A) (f
 
 module _ (o : Option Value) (a : ℕ) where
   read_there : (t : Touch) (x : Value) → Fits o a t → read_by a t ≡ Some x → o ≡ Some x
-  read_there (touch.Read b v) x f e = at (nat_eq b a) refl e
+  read_there (Touch.Read b v) x f e = at (nat_eq b a) refl e
     where
       at : (q : Bool) → nat_eq b a ≡ q → (if q then Some v else None) ≡ Some x → o ≡ Some x
       at true q e = f (grind (arith, nat_tests)) ∙ e
@@ -61,7 +42,7 @@ module _ (o : Option Value) (a : ℕ) where
   read_there t x f e = absurd (none_some e)
 
   asked_there : (t : Touch) (x : Bool) → Fits o a t → asked_by a t ≡ Some x → is_some o ≡ x
-  asked_there (touch.Has b v) x f e = at (nat_eq b a) refl e
+  asked_there (Touch.Has b v) x f e = at (nat_eq b a) refl e
     where
       at : (q : Bool) → nat_eq b a ≡ q → (if q then Some v else None) ≡ Some x → is_some o ≡ x
       at true q e = f (grind (arith, nat_tests)) ∙ some_same e

@@ -1,14 +1,9 @@
 -- Changes of cells, made one after the other.
-use Rattle.std.proofs.Common.{◌≡◌, ℕ, zero, suc, ◌+◌, ◌<◌, ◌≤◌, List, [], ◌∷◌, Option, Some, None, refl, sym, ap, ◌∙◌, drop, slice_get, arith}
-use Rattle.std.specs.List.{All, cons_option, filter_map, range_with_len}
-use Rattle.std.specs.Option.{option_map}
+use Rattle.std.proofs.Common.{◌+◌, ◌<◌, ◌∙◌, ◌∷◌, ◌≡◌, ◌≤◌, [], ℕ, List, None, Option, Some, ap, arith, drop, refl, slice_get, suc, sym, zero}
 use Rattle.std.proofs.lemmas.List.Elements.{All-cons, All-nil}
-use Rattle.std.specs.Ordering.{nat_cmp}
-use Rattle.std.specs.FinMap.{FinMap}
-use Rattle.cell_value.specs.declared.values.Value.{Value}
-use Rattle.cell_value.specs.declared.entries.Change.{Change}
-use Rattle.cell_value.specs.declared.entries.Change.TheVariants.{Set, Gone}
+use Rattle.std.specs.{FinMap.FinMap, List.All, List.cons_option, List.filter_map, List.range_with_len, Option.option_map, Ordering.nat_cmp}
 use Rattle.cell_value.specs.Effects.{listed}
+use Rattle.cell_value.specs.declared.{entries.Change.Change, entries.Change.TheVariants.Gone, entries.Change.TheVariants.Set, values.Value.Value}
 use Rattle.core_program.specs.Apply.{changed_cells}
 use Rattle.eval_ops.proofs.Lists.{drop_get}
 

@@ -1,11 +1,9 @@
 -- The own work of a call of a run gives its recorded exit.
-use Rattle.std.proofs.Common.{◌≡◌, ◌≤◌, Some, None, refl, ap, ◌∙◌, arith}
+use Rattle.std.proofs.Common.{◌∙◌, ◌≡◌, ◌≤◌, None, Some, ap, arith, refl}
 use Rattle.std.specs.List.{slice_get}
-use Rattle.core_program.specs.Run.{Outcome, depth_enough, run}
 use Rattle.core_program.proofs.OutcomesCompose.{none_some}
-use Rattle.core_program.specs.RunLaws.{BodiesRepeat, calls_in}
-use Rattle.body_replay.specs.Laws.{BodiesGiveTheirExits, GivesItsExit}
-use Rattle.body_replay.specs.Replays.{records_of, work_at, work_of}
+use Rattle.core_program.specs.{Run.Outcome, Run.depth_enough, Run.run, RunLaws.BodiesRepeat, RunLaws.calls_in}
+use Rattle.body_replay.specs.{Laws.BodiesGiveTheirExits, Laws.GivesItsExit, Replays.records_of, Replays.work_at, Replays.work_of}
 
 pub exits_are_given : BodiesRepeat → BodiesGiveTheirExits
 exits_are_given law p W input budget number c = by (run p input budget) refl

@@ -1,18 +1,11 @@
 -- What making a frame does, and what is then left of a call's own work.
-use Rattle.std.proofs.Common.{◌≡◌, ℕ, ◌+◌, ◌≤◌, Bool, true, false, List, [], Option, Some, None, refl, sym, ap, subst, ◌∙◌, arith}
-use Rattle.std.proofs.Common.{nat_lt, if◌then◌else◌}
+use Rattle.std.proofs.Common.{if◌then◌else◌, ◌+◌, ◌∙◌, ◌≡◌, ◌≤◌, [], ℕ, Bool, List, None, Option, Some, ap, arith, false, nat_lt, refl, subst, sym, true}
 use Rattle.std.proofs.lemmas.Bool.Decides.{nat_tests}
-use Rattle.cell_value.specs.declared.values.Value.{Value}
-use Rattle.cell_value.specs.declared.entries.Touch.{Touch}
-use Rattle.cell_value.specs.declared.ways_out.WayOut.{WayOut}
-use Rattle.cell_value.specs.declared.ways_out.Which.TheVariants.{Stack}
-use Rattle.core_program.specs.declared.program.Routine.{Routine}
-use Rattle.core_program.specs.ProgramRows.{ProgramRows, routine_at}
-use Rattle.core_program.specs.State.{State, stack_end}
-use Rattle.core_program.specs.Acts.{Trouble, OutOfSteps, Limited, ActResult, Went, Stops, spent}
-use Rattle.core_program.specs.Tree.{way_of}
-use Rattle.core_program.specs.Run.{Halted, ends, after_all, framed_run, at_work, whole, with_frame, without_frame}
-use Rattle.core_program.specs.Replay.{Replaying, Replayed, in_replaying, on_state, replay_of}
+use Rattle.cell_value.specs.declared.{entries.Touch.Touch, values.Value.Value, ways_out.WayOut.WayOut, ways_out.Which.TheVariants.Stack}
+use Rattle.core_program.specs.{ProgramRows.ProgramRows, ProgramRows.routine_at, State.State, State.stack_end, Tree.way_of, declared.program.Routine.Routine}
+use Rattle.core_program.specs.Acts.{ActResult, Limited, OutOfSteps, Stops, Trouble, Went, spent}
+use Rattle.core_program.specs.Replay.{Replayed, Replaying, in_replaying, on_state, replay_of}
+use Rattle.core_program.specs.Run.{Halted, after_all, at_work, ends, framed_run, whole, with_frame, without_frame}
 use Rattle.eval_ops.specs.Frames.{framing}
 use Rattle.body_replay.specs.Traces.{FrameMade}
 

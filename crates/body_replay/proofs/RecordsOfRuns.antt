@@ -1,36 +1,20 @@
 -- What the table of a run tells of one of its calls.
-use Rattle.std.proofs.Common.{◌≡◌, ℕ, zero, suc, ◌+◌, ◌<◌, ◌≤◌, List, [], ◌∷◌, Some, None, refl, sym, ap, subst, ◌∙◌, length, take, drop, arith}
-use Rattle.std.specs.Prelude.{slice_index, IsSome}
-use Rattle.std.specs.List.{All, slice_get}
-use Rattle.std.specs.Option.{option_map}
-use Rattle.std.proofs.lemmas.List.{take_at}
-use Rattle.std.proofs.lemmas.Option.{slice_get-map}
+use Rattle.std.proofs.Common.{◌+◌, ◌<◌, ◌∙◌, ◌∷◌, ◌≡◌, ◌≤◌, [], ℕ, IsSome, List, None, Some, ap, arith, drop, length, refl, slice_index, subst, suc, sym, take}
+use Rattle.std.proofs.{Common.zero, lemmas.List.take_at, lemmas.Option.slice_get-map}
+use Rattle.std.specs.{List.All, List.slice_get, Option.option_map}
 use Rattle.cell_value.specs.Effects.{made_of, taken_of}
+use Rattle.core_program.proofs.{CallsOfRunsNest.stand_of, LawsOfRuns.begins_sound, LawsOfRuns.made, LawsOfRuns.runs_items, OutcomesCompose.none_some}
+use Rattle.core_program.proofs.{OutcomesCompose.some_same, RunAtAnyDepth.runs, RunsLeave.call_leaves, RunsRecord.MadeBy, Ways.run_gives}
+use Rattle.core_program.specs.{Numbering.StandsAt, Numbering.belows, Numbering.depth_of, Numbering.parent_of, ProgramRows.ProgramRows, Replay.body}
+use Rattle.core_program.specs.{RunLaws.MeetsItems, RunLaws.calls_in, RunLaws.most_bytes, State.State, WholeTables.WholeTables}
+use Rattle.core_program.specs.Run.{Call, Marked, Outcome, Result, block, depth_enough, input_items, run, start}
 use Rattle.call_tree.specs.Told.{IsTold}
 use Rattle.call_tree.specs.declared.records.Call as table
-use Rattle.core_program.specs.ProgramRows.{ProgramRows}
-use Rattle.core_program.specs.WholeTables.{WholeTables}
-use Rattle.core_program.specs.State.{State}
-use Rattle.core_program.specs.Run.{Marked, Result, Call, Outcome, run, input_items, depth_enough, block, start}
-use Rattle.core_program.specs.Numbering.{StandsAt, belows, parent_of, depth_of}
-use Rattle.core_program.specs.Replay.{body}
-use Rattle.core_program.proofs.CallsOfRunsNest.{stand_of}
-use Rattle.core_program.proofs.OutcomesCompose.{some_same, none_some}
-use Rattle.core_program.proofs.RunAtAnyDepth.{runs}
-use Rattle.core_program.specs.RunLaws.{calls_in, most_bytes, MeetsItems}
-use Rattle.core_program.proofs.LawsOfRuns.{begins_sound, made, runs_items}
-use Rattle.core_program.proofs.Ways.{run_gives}
-use Rattle.core_program.proofs.RunsLeave.{call_leaves}
-use Rattle.core_program.proofs.RunsRecord.{MadeBy}
-use Rattle.program_run.specs.declared.history.History.{History}
-use Rattle.program_run.specs.History.{IsOfRun, recording_of, log_of, output_of}
-use Rattle.program_run.specs.Table.{table_row, row_with, table_of}
-use Rattle.program_run.specs.Tower.{first_spot, rows_at}
-use Rattle.program_run.proofs.CallsTold.{calls_told}
-use Rattle.program_run.proofs.RowsInParts.{rows_whole}
-use Rattle.body_replay.specs.Records.{HasRoomFor, IsRecordOf}
-use Rattle.body_replay.specs.Replays.{before_of, work_at, work_in, work_of}
-use Rattle.program_run.proofs.RowsTellTheStates.{Tells, AllTell, ran_told, tells_at, each_at}
+use Rattle.program_run.proofs.{CallsTold.calls_told, RowsInParts.rows_whole}
+use Rattle.program_run.proofs.RowsTellTheStates.{AllTell, Tells, each_at, ran_told, tells_at}
+use Rattle.program_run.specs.{Table.row_with, Table.table_of, Table.table_row, Tower.first_spot, Tower.rows_at, declared.history.History.History}
+use Rattle.program_run.specs.History.{IsOfRun, log_of, output_of, recording_of}
+use Rattle.body_replay.specs.{Records.HasRoomFor, Records.IsRecordOf, Replays.before_of, Replays.work_at, Replays.work_in, Replays.work_of}
 
 below_at : (ms : List (Marked Call)) (k : ℕ) (m : Marked Call) → slice_get ms k ≡ Some m → slice_index (belows ms) k ≡ m.event.below
 below_at [] k m e = absurd (none_some e)

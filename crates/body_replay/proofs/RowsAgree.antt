@@ -1,44 +1,23 @@
 -- What a call's row and what is found in its part of the log say of a state says of it what the call's record says.
-use Rattle.std.proofs.Common.{◌≡◌, ℕ, ◌+◌, ◌-◌, ◌<◌, ◌≤◌, List, [], ◌∷◌, Some, refl, sym, ap, subst, ◌∙◌, length, take, drop}
-use Rattle.std.proofs.Common.{◌++◌, Bool, true, false, zero, suc, arith}
-use Rattle.std.specs.Prelude.{◌↔◌, map, fold, max, slice_range}
-use Rattle.std.specs.List.{All, slice_get}
-use Rattle.std.specs.FinMap.{get}
-use Rattle.std.proofs.lemmas.List.{drop-map, length-drop, length-map, take_at, take-map}
-use Rattle.std.proofs.lemmas.Option.{slice_get_within}
-use Rattle.std.proofs.Math.Seq.{drop-append_seam}
-use Rattle.cell_value.specs.declared.entries.Touch.{Touch}
+use Rattle.std.proofs.Common.{◌++◌, ◌+◌, ◌-◌, ◌<◌, ◌↔◌, ◌∙◌, ◌∷◌, ◌≡◌, ◌≤◌, [], ℕ, Bool, List, Some, ap, arith, drop, false, fold, length, map, max, refl}
+use Rattle.std.proofs.Common.{slice_range, subst, suc, sym, take, true, zero}
+use Rattle.std.{proofs.Math.Seq.drop-append_seam, proofs.lemmas.Option.slice_get_within, specs.FinMap.get, specs.List.All, specs.List.slice_get}
+use Rattle.std.proofs.lemmas.List.{drop-map, length-drop, length-map, take-map, take_at}
 use Rattle.cell_value.specs.Effects.{changes_of, given_of, looked_of, made_of, reads_of, taken_of}
-use Rattle.call_tree.specs.Recording.{depths_of}
-use Rattle.call_tree.specs.Told.{part_of}
-use Rattle.call_tree.specs.declared.records.Call as table
-use Rattle.effect_log.specs.declared.by_maps.Footprint.{Footprint}
-use Rattle.core_program.specs.ProgramRows.{ProgramRows}
-use Rattle.core_program.specs.State.{State, IsSound}
+use Rattle.cell_value.specs.declared.entries.Touch.{Touch}
+use Rattle.core_program.proofs.{LawsOfRuns.all_recorded, OutcomesCompose.some_same, RecordsStand.stands, RunsLeave.call_leaves, RunsRecord.Recorded}
+use Rattle.core_program.specs.{Agree.Agrees, Agree.EndedByItself, Agree.Shows, Agree.deepest, Apply.apply, Apply.changed_cells, Apply.steps_taken}
+use Rattle.core_program.specs.{Numbering.StandsAt, ProgramRows.ProgramRows, RunLaws.calls_in, State.IsSound, State.State}
 use Rattle.core_program.specs.Run.{Call, Marked, Outcome, input_items, run}
-use Rattle.core_program.specs.Numbering.{StandsAt}
-use Rattle.core_program.specs.Agree.{Agrees, EndedByItself, Shows, deepest}
-use Rattle.core_program.specs.Apply.{apply, changed_cells, steps_taken}
-use Rattle.core_program.proofs.OutcomesCompose.{some_same}
-use Rattle.core_program.specs.RunLaws.{calls_in}
-use Rattle.core_program.proofs.LawsOfRuns.{all_recorded}
-use Rattle.core_program.proofs.RecordsStand.{stands}
-use Rattle.core_program.proofs.RunsLeave.{call_leaves}
-use Rattle.core_program.proofs.RunsRecord.{Recorded}
-use Rattle.program_run.specs.declared.history.History.{History}
-use Rattle.program_run.specs.History.{IsOfRun}
-use Rattle.program_run.specs.Table.{table_of}
-use Rattle.program_run.proofs.RowsTellTheStates.{AllTell}
-use Rattle.body_replay.specs.declared.kept_state.KeptState.{KeptState}
-use Rattle.body_replay.specs.Agreement.{agrees, agrees_at, carries}
-use Rattle.body_replay.specs.ByRows.{HasRoomAt, IsEffectOf, MeetsTheSame, applied}
-use Rattle.body_replay.specs.Carried.{OfCall, RunsTo}
-use Rattle.body_replay.specs.Replays.{records_of}
-use Rattle.body_replay.specs.Traces.{kept_state}
-use Rattle.body_replay.proofs.AgreementIsTested.{is_tested}
+use Rattle.effect_log.specs.declared.by_maps.Footprint.{Footprint}
+use Rattle.call_tree.specs.{Recording.depths_of, Told.part_of}
+use Rattle.call_tree.specs.declared.records.Call as table
+use Rattle.program_run.{proofs.RowsTellTheStates.AllTell, specs.History.IsOfRun, specs.Table.table_of, specs.declared.history.History.History}
+use Rattle.body_replay.proofs.{AgreementIsTested.is_tested, WorkBegins.few_calls}
 use Rattle.body_replay.proofs.CallsCarry.{agrees_itself, has_the_items, shallow, took_what_it_saw}
-use Rattle.body_replay.proofs.WorkBegins.{few_calls}
-use Rattle.body_replay.proofs.RecordsOfRuns.{Kept, RunOf, RowOf, all_tell, row_of_run, run_of_history}
+use Rattle.body_replay.proofs.RecordsOfRuns.{Kept, RowOf, RunOf, all_tell, row_of_run, run_of_history}
+use Rattle.body_replay.specs.{Agreement.agrees, Agreement.agrees_at, Agreement.carries, ByRows.HasRoomAt, ByRows.IsEffectOf, ByRows.MeetsTheSame}
+use Rattle.body_replay.specs.{ByRows.applied, Carried.OfCall, Carried.RunsTo, Replays.records_of, Traces.kept_state, declared.kept_state.KeptState.KeptState}
 
 part_is : (log : List Touch) (mark : ℕ) (w : List Touch) → StandsAt log mark w → slice_range log mark (mark + length w) ≡ w
 part_is log mark w s =

@@ -1,9 +1,7 @@
 -- The steps that were counted are those of a call's own work, and one for each change by the calls that it made.
-use Rattle.std.proofs.Common.{◌≡◌, ℕ, ◌+◌, ◌-◌, ◌≤◌, List, [], ◌∷◌, ◌++◌, Some, refl, sym, ap, subst, ◌∙◌, arith}
+use Rattle.std.proofs.Common.{◌++◌, ◌+◌, ◌-◌, ◌∙◌, ◌∷◌, ◌≡◌, ◌≤◌, [], ℕ, List, Some, ap, arith, refl, subst, sym}
 use Rattle.std.specs.List.{slice_get}
-use Rattle.call_tree.specs.declared.records.Call.{Call}
-use Rattle.call_tree.specs.declared.events.Event.{Event}
-use Rattle.call_tree.specs.declared.events.Event.TheVariants.{Line, Child}
+use Rattle.call_tree.specs.declared.{events.Event.Event, events.Event.TheVariants.Child, events.Event.TheVariants.Line, records.Call.Call}
 use Rattle.program_run.specs.declared.history.History.{History}
 use Rattle.body_replay.specs.Counting.{CountsEachStep, Tally, changes_in, changes_met, counted_if_there, own_steps, steps_met, steps_of, sum_of_children}
 

@@ -1,27 +1,19 @@
 -- What is done again from a stop of a body on, where it is known from before the stop.
-use Rattle.std.proofs.Common.{◌≡◌, ℕ, zero, suc, Bool, true, false, List, [], ◌∷◌, ◌++◌, Option, Some, None, refl, sym, ap, subst, ◌∙◌}
-use Rattle.std.proofs.Common.{append_assoc, append-nil, length, if◌then◌else◌, arith}
+use Rattle.std.proofs.Common.{if◌then◌else◌, ◌&&◌, ◌++◌, ◌==◌, ◌∙◌, ◌∷◌, ◌≡◌, [], ℕ, Bool, List, None, Option, Some, ap, append-nil, append_assoc, arith, false}
+use Rattle.std.proofs.Common.{length, refl, subst, suc, sym, true, zero}
 use Rattle.std.specs.List.{All}
-use Rattle.std.specs.Prelude.{◌&&◌, ◌==◌}
-use Rattle.cell_value.specs.declared.values.Value.{Value}
-use Rattle.cell_value.specs.declared.entries.Touch.{Touch}
-use Rattle.cell_value.specs.declared.ways_out.WayOut.TheVariants as way
-use Rattle.cell_value.specs.declared.ways_out.Which.{Which}
-use Rattle.core_program.specs.ProgramRows.{ProgramRows}
-use Rattle.core_program.specs.State.{State}
-use Rattle.core_program.specs.Acts.{Answer, Spend, ActResult, Went, Stops, perform, limit_passed}
-use Rattle.core_program.specs.Tree.{Out, ActTree, Ret, Halt, Meaningless, Do, Sub, Enter, Line, way_of, bind}
-use Rattle.core_program.specs.Layer.{layer}
-use Rattle.core_program.specs.Run.{End, Ended, Halted, Marked, Result, Call, in_front, ends, on_end, joined, on_done, if_allowed}
-use Rattle.core_program.specs.Replay.{Event, ChildOf, Replaying, Replayed, same_args, end_of, next_call, replaying, replay_of}
+use Rattle.cell_value.specs.declared.{entries.Touch.Touch, values.Value.Value, ways_out.WayOut.WayOut, ways_out.Which.Which}
+use Rattle.core_program.proofs.{Events.events_append, Events.unmarked, OutcomesCompose.none_some, OutcomesCompose.some_same, OutcomesCompose.walk_bind}
 use Rattle.core_program.proofs.MoreDepthSameResult.{Grows, joined_less, less_same, run_less}
-use Rattle.core_program.proofs.OutcomesCompose.{walk_bind, some_same, none_some}
-use Rattle.core_program.specs.RunLaws.{IsMet}
-use Rattle.core_program.proofs.Events.{unmarked, events_append}
+use Rattle.core_program.specs.{Layer.layer, ProgramRows.ProgramRows, RunLaws.IsMet, State.State}
+use Rattle.core_program.specs.Acts.{ActResult, Answer, Spend, Stops, Went, limit_passed, perform}
+use Rattle.core_program.specs.Replay.{ChildOf, Event, Replayed, Replaying, end_of, next_call, replay_of, replaying, same_args}
+use Rattle.core_program.specs.Run.{Call, End, Ended, Halted, Marked, Result, ends, if_allowed, in_front, joined, on_done, on_end}
+use Rattle.core_program.specs.Tree.{ActTree, Do, Enter, Halt, Line, Meaningless, Out, Ret, Sub, bind, way_of}
 use Rattle.eval_ops.specs.Machines.{Moment}
-use Rattle.evaluator.specs.Stops.{Stop, AtLine, AtCall, AtEnd, at_call, on_act, next_stop}
+use Rattle.evaluator.specs.Stops.{AtCall, AtEnd, AtLine, Stop, at_call, next_stop, on_act}
 use Rattle.program_run.specs.Tower.{stage_after}
-use Rattle.body_replay.specs.Again.{Past, LeadsTo, Over, Meeting, Stands, with_state, Resumed, after_child, Met}
+use Rattle.body_replay.specs.Again.{LeadsTo, Meeting, Met, Over, Past, Resumed, Stands, after_child, with_state}
 
 pub past_then : {told more : List Event} {r s t : Result Replaying Event} → Past told r s → Past more s t → Past (told ++ more) r t
 past_then {told = told} {more = more} {t = t} f g = record {
@@ -92,7 +84,7 @@ module _ (p : ProgramRows) (told : List Event) (r : Result Replaying Event) (sto
       → Stands p told stop (with_state s m'.state) r
   at_a_call n f args next s l rest None h e g = at_once (AtCall f args next) _ s h (record { depth = n; rest = rest; is = e; past = g })
   at_a_call n f args next s l rest (Some which) h e g =
-      at_once (AtEnd (Halted (way.Limited which))) _ s h (over_is told (Halted (way.Limited which)) s r rest e g)
+      at_once (AtEnd (Halted (WayOut.Limited which))) _ s h (over_is told (Halted (WayOut.Limited which)) s r rest e g)
 
   onward : (k n : ℕ) (t : ActTree) (s : Replaying) (l : List Touch) (rest : Result Replaying Event)
       → next_stop p k t (record { state = s.state; log = l }) ≡ Some (stop, m') → replay_of p n t s ≡ Some rest → Past told r rest

@@ -1,32 +1,18 @@
 -- How a call's own work begins when it is done again.
-use Rattle.std.proofs.Common.{◌≡◌, ℕ, zero, suc, ◌+◌, ◌<◌, ◌≤◌, List, [], ◌∷◌, Some, None, refl, sym, ap, subst, ◌∙◌, length, length-append}
-use Rattle.std.proofs.Common.{take, drop, map, arith}
-use Rattle.std.specs.List.{All, slice_get}
-use Rattle.std.specs.Option.{option_map}
-use Rattle.std.proofs.lemmas.List.{length-drop, length-map}
-use Rattle.std.proofs.lemmas.Option.{slice_get_within}
+use Rattle.std.proofs.Common.{◌+◌, ◌<◌, ◌∙◌, ◌∷◌, ◌≡◌, ◌≤◌, [], ℕ, List, None, Some, ap, arith, drop, length, length-append, map, refl, subst, suc, sym, take}
+use Rattle.std.proofs.{Common.zero, lemmas.List.length-drop, lemmas.List.length-map, lemmas.Option.slice_get_within}
+use Rattle.std.specs.{List.All, List.slice_get, Option.option_map}
+use Rattle.core_program.{proofs.OutcomesCompose.none_some, proofs.OutcomesCompose.some_same, specs.RunLaws.IsBody, specs.RunLaws.IsMet, specs.RunLaws.calls_in}
+use Rattle.core_program.proofs.{LawsOfRuns.begins_sound, LawsOfRuns.body_is, RunsLeave.ran_leaves, Ways.run_gives}
+use Rattle.core_program.specs.{Numbering.belows, Numbering.each_from, ProgramRows.ProgramRows, ProgramRows.routine_at, State.State}
+use Rattle.core_program.specs.Replay.{Event, Replayed, Replaying, body, in_replaying, on_state, replay_of}
+use Rattle.core_program.specs.Run.{Call, Marked, Result, after_all, at_work, block, call_closed, depth_enough, framed_run, opened, result_in, start, way_out}
 use Rattle.call_tree.specs.declared.records.Call as table
-use Rattle.core_program.specs.ProgramRows.{ProgramRows, routine_at}
-use Rattle.core_program.specs.State.{State}
-use Rattle.core_program.specs.Run.{Marked, Result, Call, after_all, framed_run, at_work, opened, call_closed, block, start}
-use Rattle.core_program.specs.Run.{depth_enough, result_in, way_out}
-use Rattle.core_program.specs.Numbering.{belows, each_from}
-use Rattle.core_program.specs.Replay.{Event, Replaying, Replayed, body, on_state, in_replaying, replay_of}
-use Rattle.core_program.proofs.OutcomesCompose.{some_same, none_some}
-use Rattle.core_program.specs.RunLaws.{calls_in, IsMet, IsBody}
-use Rattle.core_program.proofs.LawsOfRuns.{begins_sound, body_is}
-use Rattle.core_program.proofs.Ways.{run_gives}
-use Rattle.core_program.proofs.RunsLeave.{ran_leaves}
-use Rattle.eval_ops.specs.Machines.{AllowsCall, IsReady, machine_state}
-use Rattle.eval_ops.specs.declared.machine.Machine.{Machine}
-use Rattle.program_run.specs.declared.history.History.{History}
-use Rattle.program_run.specs.History.{IsOfRun}
-use Rattle.program_run.specs.Table.{table_row}
-use Rattle.body_replay.specs.Again.{Job, KnownCall}
-use Rattle.body_replay.specs.declared.framed.WorkEnd.{WorkEnd}
+use Rattle.eval_ops.specs.{Machines.AllowsCall, Machines.IsReady, Machines.machine_state, declared.machine.Machine.Machine}
+use Rattle.program_run.specs.{History.IsOfRun, Table.table_row, declared.history.History.History}
+use Rattle.body_replay.proofs.RecordsOfRuns.{Kept, RowOf, RunOf, before_is, room_for, row_of_run, run_of_history, work_is}
+use Rattle.body_replay.specs.{Again.Job, Again.KnownCall, Traces.EndsAs, Traces.FrameToMake, Traces.IsEndOf, declared.framed.WorkEnd.WorkEnd}
 use Rattle.body_replay.specs.Replays.{before_of, events_in, kept_event, work_in}
-use Rattle.body_replay.specs.Traces.{EndsAs, FrameToMake, IsEndOf}
-use Rattle.body_replay.proofs.RecordsOfRuns.{Kept, RunOf, RowOf, row_of_run, run_of_history, room_for, before_is, work_is}
 
 get_taken : {X : Type 0} (n i : ℕ) (xs : List X) (x : X) → slice_get (take n xs) i ≡ Some x → slice_get xs i ≡ Some x
 get_taken zero i xs x e = absurd (let z : ⊥ = cc in z)

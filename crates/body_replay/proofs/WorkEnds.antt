@@ -1,26 +1,18 @@
 -- The work of a call that was entered: its frame, and its end.
-use Rattle.std.proofs.Common.{◌≡◌, ◌+◌, ◌-◌, List, [], ◌∷◌, Option, Some, None, refl, sym, ap, subst, ◌∙◌, drop, map, arith}
+use Rattle.std.proofs.Common.{◌+◌, ◌-◌, ◌∙◌, ◌∷◌, ◌≡◌, [], IsSome, List, None, Option, Some, ap, arith, drop, is_some, map, refl, subst, sym}
 use Rattle.std.specs.List.{All}
-use Rattle.std.specs.Prelude.{IsSome, is_some}
 use Rattle.cell_value.specs.declared.ways_out.WayOut.{WayOut}
-use Rattle.call_tree.specs.declared.records.Call as table
-use Rattle.core_program.specs.declared.program.Routine.{Routine}
-use Rattle.core_program.specs.ProgramRows.{ProgramRows, routine_at}
-use Rattle.core_program.specs.State.{State}
-use Rattle.core_program.specs.Tree.{ActTree}
-use Rattle.core_program.specs.Run.{End, Halted, Result, ends, framed_run, at_work, way_out, result_in, whole, without_frame}
+use Rattle.core_program.proofs.OutcomesCompose.{none_some, some_same}
+use Rattle.core_program.specs.{ProgramRows.ProgramRows, ProgramRows.routine_at, RunLaws.IsMet, State.State, Tree.ActTree, declared.program.Routine.Routine}
 use Rattle.core_program.specs.Replay.{Event, Replaying, in_replaying, on_state, replay_of}
-use Rattle.core_program.proofs.OutcomesCompose.{some_same, none_some}
-use Rattle.core_program.specs.RunLaws.{IsMet}
-use Rattle.eval_ops.specs.Machines.{machine_state}
-use Rattle.eval_ops.specs.Frames.{framing}
+use Rattle.core_program.specs.Run.{End, Halted, Result, at_work, ends, framed_run, result_in, way_out, whole, without_frame}
+use Rattle.call_tree.specs.declared.records.Call as table
+use Rattle.eval_ops.specs.{Frames.framing, Machines.machine_state}
 use Rattle.program_run.specs.declared.history.History.{History}
-use Rattle.body_replay.specs.declared.framed.WorkEnd.{WorkEnd}
-use Rattle.body_replay.specs.Replays.{kept_event}
-use Rattle.body_replay.specs.Again.{LeadsTo, Over, Job, ReplayView, Reached, happened}
-use Rattle.body_replay.specs.Traces.{EndsAs, FrameToMake, FrameMade, changed_result}
 use Rattle.body_replay.proofs.FramesAgain.{fits, framed_again, on_framing, went_fell, work_from}
 use Rattle.body_replay.proofs.WorkBegins.{Before, before_change}
+use Rattle.body_replay.specs.{Replays.kept_event, Traces.EndsAs, Traces.FrameMade, Traces.FrameToMake, Traces.changed_result, declared.framed.WorkEnd.WorkEnd}
+use Rattle.body_replay.specs.Again.{Job, LeadsTo, Over, Reached, ReplayView, happened}
 
 kept_all : (es : List _) → map kept_event (happened es) ≡ map (λ e. kept_event e.event) es
 kept_all [] = refl

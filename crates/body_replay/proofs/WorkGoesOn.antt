@@ -1,33 +1,20 @@
 -- How a call's own work goes on when it is done again, from stop to stop.
-use Rattle.std.proofs.Common.{◌≡◌, ℕ, zero, suc, ◌+◌, ◌-◌, ◌≤◌, List, [], ◌∷◌, ◌++◌, Option, Some, sym, ap, subst, ◌∙◌, length, drop, arith}
-use Rattle.std.proofs.Common.{length-append}
-use Rattle.std.specs.List.{slice_get}
-use Rattle.std.proofs.lemmas.List.{map-append, drop-drop}
-use Rattle.cell_value.specs.declared.values.Value.{Value}
-use Rattle.cell_value.specs.declared.entries.Touch.{Touch}
-use Rattle.cell_value.specs.declared.ways_out.WayOut.{WayOut}
-use Rattle.call_tree.specs.Told.{IsTold}
-use Rattle.call_tree.specs.declared.records.Call as table
-use Rattle.call_tree.specs.declared.events.Event as kept
-use Rattle.call_tree.specs.declared.events.Event.TheVariants.{Line, Child}
-use Rattle.core_program.specs.ProgramRows.{ProgramRows}
-use Rattle.core_program.specs.State.{State}
-use Rattle.core_program.specs.Tree.{Out, ActTree}
-use Rattle.core_program.specs.Run.{End, Call}
-use Rattle.core_program.specs.Apply.{apply}
-use Rattle.core_program.specs.Replay.{Event, LineOf, ChildOf, Replaying, end_of}
+use Rattle.std.proofs.Common.{◌++◌, ◌+◌, ◌-◌, ◌∙◌, ◌∷◌, ◌≡◌, ◌≤◌, [], ℕ, List, Option, Some, ap, arith, drop, length, length-append, subst, suc, sym, zero}
+use Rattle.std.{proofs.lemmas.List.drop-drop, proofs.lemmas.List.map-append, specs.List.slice_get}
+use Rattle.cell_value.specs.declared.{entries.Touch.Touch, values.Value.Value, ways_out.WayOut.WayOut}
 use Rattle.core_program.proofs.OutcomesCompose.{some_same}
-use Rattle.core_program.specs.RunLaws.{IsMet}
+use Rattle.core_program.specs.{Apply.apply, ProgramRows.ProgramRows, Run.Call, Run.End, RunLaws.IsMet, State.State, Tree.ActTree, Tree.Out}
+use Rattle.core_program.specs.Replay.{ChildOf, Event, LineOf, Replaying, end_of}
+use Rattle.call_tree.specs.{Told.IsTold, declared.events.Event.TheVariants.Child, declared.events.Event.TheVariants.Line}
+use Rattle.call_tree.specs.declared.events.Event as kept
+use Rattle.call_tree.specs.declared.records.Call as table
 use Rattle.eval_ops.specs.Machines.{Moment}
-use Rattle.evaluator.specs.Stops.{Stop, AtLine, AtCall, AtEnd, NextStopIs, next_stop}
-use Rattle.program_run.specs.declared.history.History.{History}
-use Rattle.program_run.proofs.ActsKeepCalls.{onward}
-use Rattle.program_run.proofs.LinesTakeSteps.{LeftAt, left_at_stop}
-use Rattle.body_replay.specs.Records.{HasRoomFor, IsRecordOf}
-use Rattle.body_replay.specs.Replays.{kept_event}
-use Rattle.program_run.specs.Tower.{stage_after}
-use Rattle.body_replay.specs.Again.{LeadsTo, Over, Met, Resumed, after_child, KnownCall, Job, ReplayView, Reached}
+use Rattle.evaluator.specs.Stops.{AtCall, AtEnd, AtLine, NextStopIs, Stop, next_stop}
+use Rattle.program_run.proofs.{ActsKeepCalls.onward, LinesTakeSteps.LeftAt, LinesTakeSteps.left_at_stop}
+use Rattle.program_run.specs.{Tower.stage_after, declared.history.History.History}
 use Rattle.body_replay.proofs.StopsAgain.{AllMet, all_met, meets_next, met_among, stops_again}
+use Rattle.body_replay.specs.{Records.HasRoomFor, Records.IsRecordOf, Replays.kept_event}
+use Rattle.body_replay.specs.Again.{Job, KnownCall, LeadsTo, Met, Over, Reached, ReplayView, Resumed, after_child}
 
 get_dropped : (xs : List Call) (i : ℕ) (x : Call) (ys : List Call) → drop i xs ≡ x ∷ ys → slice_get xs i ≡ Some x
 get_dropped xs zero x ys e = ap (λ l. slice_get l 0) e

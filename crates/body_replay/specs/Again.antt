@@ -1,27 +1,20 @@
 -- What is left of a call's own work, while it is done again.
-use Rattle.std.specs.Prelude.{◌≡◌, ◌<◌, ◌≤◌, ℕ, suc, ◌+◌, ◌-◌, List, [], ◌∷◌, ◌++◌, Option, Some, None, map, drop}
-use Rattle.std.specs.Prelude.{length}
-use Rattle.std.specs.List.{All, slice_get}
-use Rattle.cell_value.specs.declared.values.Value.{Value}
-use Rattle.cell_value.specs.declared.ways_out.WayOut.{WayOut}
-use Rattle.call_tree.specs.Told.{IsTold}
-use Rattle.call_tree.specs.declared.records.Call as table
-use Rattle.call_tree.specs.declared.events.Event as kept
-use Rattle.core_program.specs.ProgramRows.{ProgramRows}
+use Rattle.std.specs.Prelude.{◌++◌, ◌+◌, ◌-◌, ◌<◌, ◌∷◌, ◌≡◌, ◌≤◌, [], ℕ, List, None, Option, Some, drop, length, map}
+use Rattle.std.specs.{Prelude.suc, List.All, List.slice_get}
+use Rattle.cell_value.specs.declared.{values.Value.Value, ways_out.WayOut.WayOut}
+use Rattle.core_program.specs.{Apply.apply, ProgramRows.ProgramRows, RunLaws.IsMet, Tree.ActTree, Tree.Out}
+use Rattle.core_program.specs.Replay.{ChildOf, Event, LineOf, Replaying, end_of, next_call, replay_of}
+use Rattle.core_program.specs.Run.{Call, End, Marked, Result, joined}
 use Rattle.core_program.specs.State.{State, most_calls}
-use Rattle.core_program.specs.Tree.{Out, ActTree}
-use Rattle.core_program.specs.Run.{End, Marked, Result, Call, joined}
-use Rattle.core_program.specs.Apply.{apply}
-use Rattle.core_program.specs.Replay.{Event, LineOf, ChildOf, Replaying, end_of, next_call, replay_of}
-use Rattle.core_program.specs.RunLaws.{IsMet}
+use Rattle.call_tree.specs.Told.{IsTold}
+use Rattle.call_tree.specs.declared.events.Event as kept
+use Rattle.call_tree.specs.declared.records.Call as table
 use Rattle.eval_ops.specs.Machines.{machine_state}
-use Rattle.evaluator.specs.Stops.{Stop, AtLine, AtCall, AtEnd}
-use Rattle.evaluator.specs.Rest.{rest_of, waiting}
+use Rattle.evaluator.specs.{Rest.rest_of, Rest.waiting, Stops.AtCall, Stops.AtEnd, Stops.AtLine, Stops.Stop}
+use Rattle.program_run.specs.Tower.{Calls, Ends, Rests, Stage, stage_after}
 use Rattle.program_run.specs.declared.history.History.{History}
-use Rattle.program_run.specs.Tower.{Stage, Rests, Calls, Ends, stage_after}
+use Rattle.body_replay.specs.{Replays.kept_event, declared.replayer.Replayer.Replayer}
 use Rattle.body_replay.specs.Records.{HasRoomFor, IsRecordOf}
-use Rattle.body_replay.specs.Replays.{kept_event}
-use Rattle.body_replay.specs.declared.replayer.Replayer.{Replayer}
 
 -- the events, without their marks
 abbrev pub happened : List (Marked Event) → List Event

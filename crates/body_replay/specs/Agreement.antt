@@ -1,25 +1,18 @@
 -- Whether a state agrees with a call, as a test: the same as `Agrees` of core_program, line by line.
-use Rattle.std.specs.Prelude.{ℕ, zero, suc, ◌+◌, ◌-◌, Bool, true, false, not, nat_eq, nat_le, ◌&&◌, ◌||◌, ◌==◌, List}
-use Rattle.std.specs.Prelude.{[], ◌∷◌, Option, Some, None, is_some, slice_get, take, drop}
-use Rattle.std.specs.Ordering.{nat_cmp}
-use Rattle.std.specs.FinMap.{FinMap, get}
-use Rattle.cell_value.specs.declared.values.Value.{Value}
-use Rattle.cell_value.specs.declared.entries.Seen.{Seen}
-use Rattle.cell_value.specs.declared.entries.Seen.TheVariants.{Held, There, Absent}
-use Rattle.cell_value.specs.declared.ways_out.WayOut.{WayOut}
-use Rattle.cell_value.specs.declared.ways_out.WayOut.TheVariants as way
-use Rattle.cell_value.specs.Effects.{reads_of, made_of, looked_of}
+use Rattle.std.specs.Prelude.{◌&&◌, ◌+◌, ◌-◌, ◌==◌, ◌||◌, ◌∷◌, [], ℕ, Bool, List, None, Option, Some, drop, false}
+use Rattle.std.specs.Prelude.{is_some, nat_eq, nat_le, not, slice_get, suc, take, true, zero}
+use Rattle.std.specs.{FinMap.FinMap, FinMap.get, Ordering.nat_cmp}
+use Rattle.cell_value.specs.Effects.{looked_of, made_of, reads_of}
+use Rattle.cell_value.specs.declared.{values.Value.Value, ways_out.WayOut.WayOut}
+use Rattle.cell_value.specs.declared.entries.Seen.{Seen, TheVariants.Absent, TheVariants.Held, TheVariants.There}
+use Rattle.core_program.specs.{Agree.deepest, Apply.steps_taken, Replay.same_value, Run.Call, Run.Outcome}
 use Rattle.core_program.specs.State.{State, most_calls, most_depth}
-use Rattle.core_program.specs.Run.{Call, Outcome}
-use Rattle.core_program.specs.Apply.{steps_taken}
-use Rattle.core_program.specs.Agree.{deepest}
-use Rattle.core_program.specs.Replay.{same_value}
 use Rattle.body_replay.specs.Replays.{records_of}
 
 -- whether a call ended by itself, by a jump or by a fault
 abbrev pub ended_by_itself : WayOut → Bool
-ended_by_itself way.OutOfSteps = false
-ended_by_itself (way.Limited which) = false
+ended_by_itself WayOut.OutOfSteps = false
+ended_by_itself (WayOut.Limited which) = false
 ended_by_itself way = true
 
 -- whether a cell is as it was seen

@@ -1,17 +1,13 @@
 -- That a state agrees with a call, and what the call's effect makes of it, by what is kept of the run: the call's row
 -- and what is found in its part of the log.
-use Rattle.std.specs.Prelude.{◌≡◌, ◌<◌, ◌≤◌, ℕ, ◌+◌, ◌-◌, List, ◌++◌, drop, fold, max, take}
-use Rattle.std.specs.List.{All, slice_get}
-use Rattle.std.specs.FinMap.{get}
-use Rattle.cell_value.specs.declared.entries.Touch.{Touch}
+use Rattle.std.specs.Prelude.{◌++◌, ◌+◌, ◌-◌, ◌<◌, ◌≡◌, ◌≤◌, ℕ, List, drop, fold, max, take}
+use Rattle.std.specs.{FinMap.get, List.All, List.slice_get}
 use Rattle.cell_value.specs.Effects.{changes_of, given_of, looked_of, made_of, reads_of, taken_of}
+use Rattle.cell_value.specs.declared.entries.Touch.{Touch}
+use Rattle.core_program.specs.{Agree.Shows, Apply.changed_cells, State.State, State.most_calls, State.most_depth}
 use Rattle.effect_log.specs.declared.by_maps.Footprint.{Footprint}
-use Rattle.call_tree.specs.Recording.{depths_of}
+use Rattle.call_tree.specs.{Recording.depths_of, Told.part_of}
 use Rattle.call_tree.specs.declared.records.Call as table
-use Rattle.call_tree.specs.Told.{part_of}
-use Rattle.core_program.specs.State.{State, most_calls, most_depth}
-use Rattle.core_program.specs.Agree.{Shows}
-use Rattle.core_program.specs.Apply.{changed_cells}
 use Rattle.body_replay.specs.declared.kept_state.KeptState.{KeptState}
 
 -- a state has room for what a call took and called, by the call's number and row

@@ -1,11 +1,9 @@
 -- The record of a call of a run, put in place of its run from another state.
-use Rattle.std.specs.Prelude.{◌≡◌, ◌≤◌, ℕ, ◌+◌, List, Some, drop, take}
+use Rattle.std.specs.Prelude.{◌+◌, ◌≡◌, ◌≤◌, ℕ, List, Some, drop, take}
 use Rattle.std.specs.List.{slice_get}
-use Rattle.core_program.specs.ProgramRows.{ProgramRows}
-use Rattle.core_program.specs.State.{State}
+use Rattle.core_program.specs.{ProgramRows.ProgramRows, State.State}
 use Rattle.core_program.specs.Run.{Call, Outcome, Result, call_of, depth_enough, result_in, run, run_of, way_out}
-use Rattle.program_run.specs.declared.history.History.{History}
-use Rattle.program_run.specs.History.{IsOfRun}
+use Rattle.program_run.specs.{History.IsOfRun, declared.history.History.History}
 use Rattle.body_replay.specs.Replays.{records_of}
 
 -- This holds of the call of this number of the run of a program that is kept, and of the calls below it, whatever the

@@ -1,12 +1,9 @@
 -- The steps that a call's own work takes when it is done again.
-use Rattle.std.specs.Prelude.{◌≡◌, ◌≤◌, ℕ, ◌+◌, ◌-◌, List, [], ◌∷◌, Option, Some, None, length}
+use Rattle.std.specs.Prelude.{◌+◌, ◌-◌, ◌∷◌, ◌≡◌, ◌≤◌, [], ℕ, List, None, Option, Some, length}
 use Rattle.std.specs.List.{slice_get}
-use Rattle.cell_value.specs.declared.entries.Touch.{Touch}
-use Rattle.cell_value.specs.Effects.{changes_of}
-use Rattle.call_tree.specs.Told.{part_of}
-use Rattle.call_tree.specs.declared.records.Call.{Call}
-use Rattle.call_tree.specs.declared.events.Event.{Event}
-use Rattle.call_tree.specs.declared.events.Event.TheVariants.{Line, Child}
+use Rattle.cell_value.specs.{Effects.changes_of, declared.entries.Touch.Touch}
+use Rattle.call_tree.specs.{Told.part_of, declared.records.Call.Call}
+use Rattle.call_tree.specs.declared.events.Event.{Event, TheVariants.Child, TheVariants.Line}
 use Rattle.program_run.specs.declared.history.History.{History}
 
 -- the steps that a call took, with those of the calls below it

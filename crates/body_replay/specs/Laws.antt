@@ -1,16 +1,11 @@
 -- What the own work of each call of a run comes to, and that each call agrees with its own entry.
-use Rattle.std.specs.Prelude.{◌≡◌, ◌↔◌, ℕ, IsTrue, List, Some}
+use Rattle.std.specs.Prelude.{◌↔◌, ◌≡◌, ℕ, IsTrue, List, Some}
 use Rattle.std.specs.List.{slice_get}
-use Rattle.core_program.specs.ProgramRows.{ProgramRows}
-use Rattle.core_program.specs.WholeTables.{WholeTables}
-use Rattle.core_program.specs.State.{State}
-use Rattle.core_program.specs.Run.{Call, Result, result_in, run, way_out}
-use Rattle.core_program.specs.Agree.{Agrees, EndedByItself}
-use Rattle.core_program.specs.Apply.{apply}
+use Rattle.core_program.specs.{Agree.Agrees, Agree.EndedByItself, Apply.apply, ProgramRows.ProgramRows}
+use Rattle.core_program.specs.{RunLaws.OfEachCall, State.State, WholeTables.WholeTables}
 use Rattle.core_program.specs.Replay.{Event, Replayed, Replaying}
-use Rattle.core_program.specs.RunLaws.{OfEachCall}
-use Rattle.body_replay.specs.Agreement.{agrees}
-use Rattle.body_replay.specs.Replays.{records_of, work_of}
+use Rattle.core_program.specs.Run.{Call, Result, result_in, run, way_out}
+use Rattle.body_replay.specs.{Agreement.agrees, Replays.records_of, Replays.work_of}
 
 -- The own work of a call, which is its body, run from its recorded entry with the recorded effects of the calls that it
 -- makes, gives exactly its recorded way out, its recorded result and its recorded exit.

@@ -1,12 +1,8 @@
 -- Records of calls in the table of a run, and when the effect of one can be put in place of its run.
-use Rattle.std.specs.Prelude.{◌≡◌, ℕ, ◌+◌, ◌<◌, ◌≤◌, List, Option}
-use Rattle.cell_value.specs.declared.entries.Touch.{Touch}
-use Rattle.cell_value.specs.Effects.{made_of, taken_of}
+use Rattle.std.specs.Prelude.{◌+◌, ◌<◌, ◌≡◌, ◌≤◌, ℕ, List, Option}
+use Rattle.cell_value.specs.{Effects.heap_end, Effects.made_of, Effects.taken_of, declared.entries.Touch.Touch}
+use Rattle.core_program.specs.{Numbering.StandsAt, Run.Call, State.State, State.most_calls}
 use Rattle.call_tree.specs.declared.records.Call as table
-use Rattle.cell_value.specs.Effects.{heap_end}
-use Rattle.core_program.specs.State.{State, most_calls}
-use Rattle.core_program.specs.Run.{Call}
-use Rattle.core_program.specs.Numbering.{StandsAt}
 use Rattle.program_run.specs.Table.{row_with}
 
 -- a row of the table is that of a call with this number, whose part of the log stands where the row says

@@ -1,14 +1,12 @@
 -- The own work of a call of a run, by the call's number, and the state before a call, by what is kept of the run.
-use Rattle.std.specs.Prelude.{ℕ, ◌+◌, List, [], Option, Some, None, map, take, drop}
+use Rattle.std.specs.Prelude.{◌+◌, [], ℕ, List, None, Option, Some, drop, map, take}
 use Rattle.std.specs.List.{slice_get}
-use Rattle.call_tree.specs.declared.records.Call as table
-use Rattle.call_tree.specs.declared.events.Event as kept
-use Rattle.call_tree.specs.declared.events.Event.TheVariants.{Line, Child}
-use Rattle.core_program.specs.ProgramRows.{ProgramRows}
-use Rattle.core_program.specs.State.{State}
+use Rattle.core_program.specs.{Numbering.calls_of, ProgramRows.ProgramRows, State.State}
+use Rattle.core_program.specs.Replay.{ChildOf, Event, LineOf, Replayed, body}
 use Rattle.core_program.specs.Run.{Call, Outcome, depth_enough, run}
-use Rattle.core_program.specs.Numbering.{calls_of}
-use Rattle.core_program.specs.Replay.{Event, LineOf, ChildOf, Replayed, body}
+use Rattle.call_tree.specs.declared.events.Event as kept
+use Rattle.call_tree.specs.declared.events.Event.TheVariants.{Child, Line}
+use Rattle.call_tree.specs.declared.records.Call as table
 use Rattle.program_run.specs.declared.history.History.{History}
 
 -- the calls of a run, in order of entry

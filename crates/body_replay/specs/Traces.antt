@@ -1,25 +1,18 @@
 -- A call's own work in its frame, how it ends, and what is kept of it.
-use Rattle.std.specs.Prelude.{◌≡◌, ◌≤◌, ℕ, ◌+◌, List, Option, Some, None, map}
+use Rattle.std.specs.Prelude.{◌+◌, ◌≡◌, ◌≤◌, ℕ, List, None, Option, Some, map}
 use Rattle.std.specs.Option.{option_map}
-use Rattle.cell_value.specs.declared.entries.Touch.{Touch}
-use Rattle.cell_value.specs.declared.ways_out.WayOut.{WayOut}
-use Rattle.call_tree.specs.declared.records.Call as table
-use Rattle.call_tree.specs.declared.events.Event as kept
-use Rattle.core_program.specs.ProgramRows.{ProgramRows, routine_at}
-use Rattle.core_program.specs.State.{State, most_calls}
-use Rattle.core_program.specs.Acts.{Trouble, ActResult, Went, Stops}
-use Rattle.core_program.specs.Tree.{way_of}
-use Rattle.core_program.specs.Run.{Result, at_work, call_closed, framed_run, way_out, result_in}
+use Rattle.cell_value.specs.declared.{entries.Touch.Touch, ways_out.WayOut.WayOut}
+use Rattle.core_program.specs.{Acts.ActResult, Acts.Stops, Acts.Trouble, Acts.Went, ProgramRows.ProgramRows}
+use Rattle.core_program.specs.{ProgramRows.routine_at, State.State, State.most_calls, Tree.way_of}
 use Rattle.core_program.specs.Replay.{Event, Replayed, Replaying, in_replaying, on_state, replay_of}
-use Rattle.eval_ops.specs.Machines.{machine_state}
-use Rattle.eval_ops.specs.declared.machine.Machine.{Machine}
+use Rattle.core_program.specs.Run.{Result, at_work, call_closed, framed_run, result_in, way_out}
+use Rattle.call_tree.specs.declared.events.Event as kept
+use Rattle.call_tree.specs.declared.records.Call as table
+use Rattle.eval_ops.specs.{Machines.machine_state, declared.machine.Machine.Machine}
 use Rattle.program_run.specs.declared.history.History.{History}
-use Rattle.body_replay.specs.Again.{Job}
-use Rattle.body_replay.specs.Counting.{Tally}
-use Rattle.body_replay.specs.Replays.{events_in, kept_event}
-use Rattle.body_replay.specs.declared.framed.WorkEnd.{WorkEnd}
+use Rattle.body_replay.specs.{Again.Job, Counting.Tally, Replays.events_in, Replays.kept_event}
+use Rattle.body_replay.specs.declared.{framed.WorkEnd.WorkEnd, replayer.Replayer.Replayer}
 use Rattle.body_replay.specs.declared.kept_state.KeptState.{KeptState}
-use Rattle.body_replay.specs.declared.replayer.Replayer.{Replayer}
 
 -- a call was entered, and from this state its frame is to be made, and its routine to be at work in it
 pub record FrameToMake (p : ProgramRows) (h : History) (j : Job h) (row : table.Call) (σ : State) : Type 0 where

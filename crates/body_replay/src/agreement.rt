@@ -1,10 +1,9 @@
 //! Whether a state agrees with a call on all that the call met.
 
-ghost use Rattle.std.specs.Prelude.{◌≡◌, ◌↔◌, ◌+◌, ◌-◌, ◌<◌, ◌≤◌, ℕ, All, IsTrue, drop, fold, length, max, slice_get};
-ghost use Rattle.std.specs.Prelude.{take};
-ghost use Rattle.std.specs.FinMap.{get};
-ghost use Rattle.call_tree.specs.Recording.{depths_of};
+ghost use Rattle.std.specs.Prelude.{◌+◌, ◌-◌, ◌<◌, ◌↔◌, ◌≡◌, ◌≤◌, ℕ, All, IsTrue, drop, fold, length, max, slice_get};
+ghost use Rattle.std.specs.{Prelude.take, FinMap.get};
 ghost use Rattle.core_program.specs.Agree.{EndedByItself, Shows};
+ghost use Rattle.call_tree.specs.Recording.{depths_of};
 ghost use Rattle.body_replay.specs.ByRows.{HasRoomAt, MeetsTheSame};
 
 use crate::kept_state::KeptState;

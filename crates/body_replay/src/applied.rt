@@ -1,13 +1,12 @@
 //! The effect of a recorded call, put in place of its run.
 
-ghost use Rattle.std.specs.Prelude.{◌≡◌, ◌+◌, ◌<◌, ◌++◌, ◌∷◌, [], All, OnOk, length};
-ghost use Rattle.core_program.specs.Run as meaning;
-ghost use Rattle.core_program.specs.Apply as effects;
+ghost use Rattle.std.specs.Prelude.{◌++◌, ◌+◌, ◌<◌, ◌∷◌, ◌≡◌, [], All, OnOk, length};
 ghost use Rattle.core_program.specs.Apply.{changed_cells};
-ghost use Rattle.eval_ops.specs.Machines.{IsReady, machine_state};
+ghost use Rattle.core_program.specs.Apply as effects;
+ghost use Rattle.core_program.specs.Run as meaning;
 ghost use Rattle.call_tree.specs.Told.{IsTold};
-ghost use Rattle.body_replay.specs.Counting.{changes_in};
-ghost use Rattle.body_replay.specs.Records.{HasRoomFor, IsRecordOf};
+ghost use Rattle.eval_ops.specs.Machines.{IsReady, machine_state};
+ghost use Rattle.body_replay.specs.{Counting.changes_in, Records.HasRoomFor, Records.IsRecordOf};
 
 use call_tree::Call;
 use cell_value::{Change, Memory, Steps};

@@ -1,14 +1,10 @@
 //! A call's own work, done again in a frame of its own.
 
-ghost use Rattle.std.specs.Prelude.{◌≡◌, ◌+◌, ◌<◌, ◌≤◌, [], IfOk, OnOk, None};
-ghost use Rattle.core_program.specs.State.{stack_end};
-ghost use Rattle.core_program.specs.Run.{result_in, way_out, without_frame};
-ghost use Rattle.eval_ops.specs.Frames.{framing};
-ghost use Rattle.eval_ops.specs.Machines.{IsReady, machine_state};
-ghost use Rattle.core_program.specs.Replay.{end_of};
-ghost use Rattle.body_replay.specs.Again.{AtBody, Job};
-ghost use Rattle.body_replay.specs.Counting.{CountsEachStep, Tally};
-ghost use Rattle.body_replay.specs.Traces.{EndsAs, FrameToMake, FrameMade, changed_result, tally, tally_of};
+ghost use Rattle.std.specs.Prelude.{◌+◌, ◌<◌, ◌≡◌, ◌≤◌, [], IfOk, None, OnOk};
+ghost use Rattle.core_program.specs.{Replay.end_of, Run.result_in, Run.way_out, Run.without_frame, State.stack_end};
+ghost use Rattle.eval_ops.specs.{Frames.framing, Machines.IsReady, Machines.machine_state};
+ghost use Rattle.body_replay.specs.{Again.AtBody, Again.Job, Counting.CountsEachStep, Counting.Tally};
+ghost use Rattle.body_replay.specs.Traces.{EndsAs, FrameMade, FrameToMake, changed_result, tally, tally_of};
 
 use crate::counted::count_steps;
 use crate::replayer::Replayer;

@@ -1,9 +1,8 @@
 //! The state of a run beside a call, whole.
 
-ghost use Rattle.std.specs.Prelude.{◌≡◌, ◌<◌, ◌≤◌, [], IfOk, length};
+ghost use Rattle.std.specs.Prelude.{◌<◌, ◌≡◌, ◌≤◌, [], IfOk, length};
 ghost use Rattle.eval_ops.specs.Machines.{machine_state};
-ghost use Rattle.body_replay.specs.Replays.{before_of};
-ghost use Rattle.body_replay.specs.Traces.{kept_state};
+ghost use Rattle.body_replay.specs.{Replays.before_of, Traces.kept_state};
 
 use call_tree::Call;
 use cell_value::{Items, Memory};

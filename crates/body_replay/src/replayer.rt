@@ -1,12 +1,11 @@
 //! A body at work again, whose calls do what their records say.
 
-ghost use Rattle.std.specs.Prelude.{◌≡◌, ◌+◌, ◌<◌, IfOk, OnOk, None, Some};
+ghost use Rattle.std.specs.Prelude.{◌+◌, ◌<◌, ◌≡◌, IfOk, None, OnOk, Some};
 ghost use Rattle.core_program.specs.ProgramRows.{ProgramRows};
 ghost use Rattle.eval_ops.specs.Machines.{IsReady};
 ghost use Rattle.program_run.specs.declared.history.History as kept;
-ghost use Rattle.body_replay.specs.Again.{AfterChild, AtChild, AtBody, Job, AfterTurn, work_left};
-ghost use Rattle.body_replay.specs.Counting.{CountsEachStep, Tally};
-ghost use Rattle.body_replay.specs.Traces.{tally_of};
+ghost use Rattle.body_replay.specs.{Counting.CountsEachStep, Counting.Tally, Traces.tally_of};
+ghost use Rattle.body_replay.specs.Again.{AfterChild, AfterTurn, AtBody, AtChild, Job, work_left};
 
 use crate::applied::apply;
 use crate::counted::count_steps;

@@ -1,11 +1,10 @@
 //! The body of a recorded call, done again.
 
-ghost use Rattle.std.specs.Prelude.{◌≡◌, ◌<◌, ◌≤◌, ◌+◌, ℕ, List, IfOk, Some, length, slice_get};
+ghost use Rattle.std.specs.Prelude.{◌+◌, ◌<◌, ◌≡◌, ◌≤◌, ℕ, IfOk, List, Some, length, slice_get};
 ghost use Rattle.std.specs.Option.{option_map};
+ghost use Rattle.core_program.specs.{Run.result_in, Run.way_out, RunLaws.most_bytes};
 ghost use Rattle.call_tree.specs.declared.records.Call as table;
-ghost use Rattle.core_program.specs.Run.{result_in, way_out};
 ghost use Rattle.eval_ops.specs.Machines.{IsReady};
-ghost use Rattle.core_program.specs.RunLaws.{most_bytes};
 ghost use Rattle.program_run.specs.History.{IsOfRun};
 ghost use Rattle.body_replay.specs.Counting.{CountsEachStep, at_entry, changes_met, own_steps};
 ghost use Rattle.body_replay.specs.Replays.{events_in, work_in};

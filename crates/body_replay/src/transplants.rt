@@ -1,18 +1,14 @@
 //! The record of a call, put in place of its run from another state.
 
-ghost use Rattle.std.specs.Prelude.{◌≡◌, ◌↔◌, ◌+◌, ◌<◌, ◌≤◌, ℕ, All, IfOk, IfSome, IsSome, List, Some, length};
+ghost use Rattle.std.specs.Prelude.{◌+◌, ◌<◌, ◌↔◌, ◌≡◌, ◌≤◌, ℕ, All, IfOk, IfSome, IsSome, List, Some, length};
 ghost use Rattle.std.specs.Prelude.{slice_get};
-ghost use Rattle.call_tree.specs.Told.{IsTold};
-ghost use Rattle.core_program.specs.Agree.{Agrees};
+ghost use Rattle.core_program.specs.{Agree.Agrees, RunLaws.most_bytes, State.IsSound};
 ghost use Rattle.core_program.specs.Apply as effects;
 ghost use Rattle.core_program.specs.Run as meaning;
-ghost use Rattle.core_program.specs.State.{IsSound};
-ghost use Rattle.core_program.specs.RunLaws.{most_bytes};
+ghost use Rattle.call_tree.specs.Told.{IsTold};
 ghost use Rattle.program_run.specs.History.{IsOfRun};
-ghost use Rattle.body_replay.specs.Agreement.{carries};
+ghost use Rattle.body_replay.specs.{Agreement.carries, Carried.OfCall, Carried.RunsTo, Traces.kept_state};
 ghost use Rattle.body_replay.specs.ByRows.{IsEffectOf, applied};
-ghost use Rattle.body_replay.specs.Carried.{OfCall, RunsTo};
-ghost use Rattle.body_replay.specs.Traces.{kept_state};
 
 use crate::agreement::{ended_by_itself, has_room, meets_the_same};
 use crate::applied::change_cells;

@@ -1,18 +1,12 @@
 -- A call that is entered stands last, under the innermost open call.
-use Rattle.std.proofs.Common.{◌≡◌, ◌≢◌, ℕ, ◌<◌, ◌≤◌, ◌+◌, List, [], ◌∷◌, ◌++◌, length, length-append, Option, Some, None, refl, ap, sym, ◌∙◌, arith, inl, inr}
-use Rattle.std.proofs.Common.{◌⊎◌, get_or}
-use Rattle.std.specs.Prelude.{reverse, slice_get, ◌-◌}
-use Rattle.std.proofs.lemmas.Option.{slice_get_within}
-use Rattle.std.proofs.lemmas.Bool.{cases_lt}
-use Rattle.std.proofs.Math.ListN.{get_or-append}
-use Rattle.std.proofs.Math.Seq.{get_or-append_seam}
-use Rattle.std.proofs.lemmas.List.{length-map, length-reverse, map-append, reverse-append}
-use Rattle.call_tree.specs.declared.records.Call.{Call}
-use Rattle.call_tree.specs.Recording.{depths_of, lasts_of, parents_of}
-use Rattle.call_tree.specs.Nesting.{IsNested, IsOpen, IsUnder, IsChain, IsRooted}
-use Rattle.call_tree.specs.Numbering.{IsParent}
-use Rattle.call_tree.proofs.Places.{get_snoc, get_snoc_before, get_snoc_last, last_is_first_reversed}
+use Rattle.std.proofs.Common.{◌++◌, ◌+◌, ◌-◌, ◌<◌, ◌∙◌, ◌∷◌, ◌≡◌, ◌≢◌, ◌≤◌, ◌⊎◌, [], ℕ, List, None, Option, Some, ap, arith, get_or, inl, inr, length}
+use Rattle.std.proofs.Common.{length-append, refl, reverse, slice_get, sym}
+use Rattle.std.proofs.Math.{ListN.get_or-append, Seq.get_or-append_seam}
+use Rattle.std.proofs.lemmas.{Bool.cases_lt, List.length-map, List.length-reverse, List.map-append, List.reverse-append, Option.slice_get_within}
 use Rattle.call_tree.proofs.OpenCalls.{chain_goes_on, innermost_depth, innermost_is_open, open_is_call, open_to_innermost}
+use Rattle.call_tree.proofs.Places.{get_snoc, get_snoc_before, get_snoc_last, last_is_first_reversed}
+use Rattle.call_tree.specs.{Numbering.IsParent, Recording.depths_of, Recording.lasts_of, Recording.parents_of, declared.records.Call.Call}
+use Rattle.call_tree.specs.Nesting.{IsChain, IsNested, IsOpen, IsRooted, IsUnder}
 
 -- a list that is not empty has a first element
 first_there : (xs : List ℕ) → 0 < length xs → (x : ℕ) × (slice_get xs 0 ≡ Some x)

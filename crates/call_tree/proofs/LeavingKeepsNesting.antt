@@ -1,19 +1,12 @@
 -- A call that is left ends with the last call entered.
-use Rattle.std.proofs.Common.{◌≡◌, ◌≢◌, ℕ, ◌<◌, ◌≤◌, ◌-◌, List, [], ◌∷◌, ◌++◌, length, Option, Some, refl, ap, sym, ◌∙◌, arith, inl, inr, get_or, set}
-use Rattle.std.proofs.Common.{get_or-set_same, get_or-set_other}
-use Rattle.std.specs.Prelude.{reverse, slice_get}
-use Rattle.std.proofs.lemmas.Option.{slice_get_read, slice_get_within}
-use Rattle.std.proofs.lemmas.Bool.{cases_eq, cases_lt}
+use Rattle.std.proofs.Common.{◌++◌, ◌-◌, ◌<◌, ◌∙◌, ◌∷◌, ◌≡◌, ◌≢◌, ◌≤◌, [], ℕ, List, Option, Some, ap, arith, get_or, get_or-set_other, get_or-set_same, inl}
+use Rattle.std.proofs.Common.{inr, length, refl, reverse, set, slice_get, sym}
+use Rattle.std.proofs.{Math.Seq.map-set_same, lemmas.Bool.cases_eq, lemmas.Bool.cases_lt, lemmas.Option.slice_get_read, lemmas.Option.slice_get_within}
 use Rattle.std.proofs.lemmas.List.{get_or_past, length-map, length-set, map-set, reverse-append}
-use Rattle.std.proofs.Math.Seq.{map-set_same}
-use Rattle.cell_value.specs.declared.values.Value.{Value}
-use Rattle.cell_value.specs.declared.ways_out.WayOut.{WayOut}
-use Rattle.call_tree.specs.declared.records.Call.{Call}
-use Rattle.call_tree.specs.declared.records.Side.{Side}
-use Rattle.call_tree.specs.Recording.{depths_of, lasts_of, left, left_call, parents_of}
-use Rattle.call_tree.specs.Nesting.{IsNested, IsOpen}
-use Rattle.call_tree.specs.Numbering.{IsNumbered, IsParent}
+use Rattle.cell_value.specs.declared.{values.Value.Value, ways_out.WayOut.WayOut}
 use Rattle.call_tree.proofs.OpenCalls.{innermost_is_open}
+use Rattle.call_tree.specs.{Nesting.IsNested, Nesting.IsOpen, Numbering.IsNumbered, Numbering.IsParent, declared.records.Call.Call, declared.records.Side.Side}
+use Rattle.call_tree.specs.Recording.{depths_of, lasts_of, left, left_call, parents_of}
 
 module _ (parent : List (Option ℕ)) (last depth : List ℕ) (number : ℕ) (outer : List ℕ) (nested : IsNested parent last depth (number ∷ outer)) where
   abbrev last' : List ℕ

@@ -1,10 +1,8 @@
 -- The open calls follow one another.
-use Rattle.std.proofs.Common.{◌≡◌, ℕ, ◌<◌, ◌≤◌, List, [], ◌∷◌, ◌++◌, length, length-append, Option, Some, ◌∙◌, arith, inl, inr, get_or, ◌+◌}
-use Rattle.std.specs.Prelude.{slice_get}
+use Rattle.std.proofs.Common.{◌++◌, ◌+◌, ◌<◌, ◌∙◌, ◌∷◌, ◌≡◌, ◌≤◌, [], ℕ, List, Option, Some, arith, get_or, inl, inr, length, length-append, slice_get}
 use Rattle.std.proofs.Math.ListN.{get_or-append}
-use Rattle.call_tree.specs.Nesting.{IsOpen, IsChain}
-use Rattle.call_tree.specs.Numbering.{IsParent}
 use Rattle.call_tree.proofs.Places.{get_snoc_before}
+use Rattle.call_tree.specs.{Nesting.IsChain, Nesting.IsOpen, Numbering.IsParent}
 
 -- each is a call
 pub open_is_call : (parent : List (Option ℕ)) (depth open_calls : List ℕ) (call : ℕ) → IsChain parent depth open_calls → IsOpen call open_calls

@@ -1,8 +1,6 @@
 -- What stands at a place of a list to whose end one more is put.
-use Rattle.std.proofs.Common.{◌≡◌, ℕ, ◌<◌, suc, zero, List, [], ◌∷◌, ◌++◌, length, Some, refl, ap, sym, ◌∙◌, get_or, arith, inl, inr, ◌⊎◌}
-use Rattle.std.specs.Prelude.{reverse, slice_get, ◌-◌}
-use Rattle.std.proofs.lemmas.List.{get_or-reverse, length-reverse}
-use Rattle.std.proofs.lemmas.Option.{slice_get-get_or}
+use Rattle.std.proofs.Common.{◌++◌, ◌-◌, ◌<◌, ◌∙◌, ◌∷◌, ◌≡◌, ◌⊎◌, [], ℕ, List, Some, ap, arith, get_or, inl, inr, length, refl, reverse, slice_get, suc, sym}
+use Rattle.std.proofs.{Common.zero, lemmas.List.get_or-reverse, lemmas.List.length-reverse, lemmas.Option.slice_get-get_or}
 
 pub get_snoc : {X : Type 0} (xs : List X) (y : X) (k : ℕ) (z : X) → slice_get (xs ++ y ∷ []) k ≡ Some z → ((k < length xs) × (slice_get xs k ≡ Some z))
     ⊎ ((k ≡ length xs) × (y ≡ z))

@@ -1,7 +1,7 @@
 -- What a mark says.
-use Rattle.std.specs.Prelude.{Bool, true, false}
+use Rattle.std.specs.Prelude.{Bool, false, true}
 use Rattle.call_tree.specs.declared.records.Mark.{Mark}
-use Rattle.call_tree.specs.declared.records.Mark.TheVariants.{Unjudged, Right, Unknown, Trusted}
+use Rattle.call_tree.specs.declared.records.Mark.TheVariants.{Right, Trusted, Unjudged, Unknown}
 
 -- whether a call is right or trusted, so that nothing below it need be searched
 abbrev pub is_clear : Mark → Bool

@@ -1,6 +1,6 @@
 -- How the calls of a run stand in one another, while it goes on: their parents, the last calls of their subtrees and
 -- their depths, as columns in order of entry, and the open calls, the innermost first.
-use Rattle.std.specs.Prelude.{◌≡◌, ℕ, ◌+◌, ◌<◌, ◌≤◌, ◌⊎◌, List, [], ◌∷◌, Option, Some, None, length, slice_get}
+use Rattle.std.specs.Prelude.{◌+◌, ◌<◌, ◌∷◌, ◌≡◌, ◌≤◌, ◌⊎◌, [], ℕ, List, None, Option, Some, length, slice_get}
 use Rattle.std.specs.Prelude.{slice_index}
 use Rattle.call_tree.specs.Numbering.{IsParent}
 

@@ -1,5 +1,5 @@
 -- Calls numbered from 0 in order of entry, each with the last call of its subtree and its parent.
-use Rattle.std.specs.Prelude.{◌≡◌, ℕ, ◌<◌, ◌≤◌, List, Option, Some, length, slice_get, slice_index}
+use Rattle.std.specs.Prelude.{◌<◌, ◌≡◌, ◌≤◌, ℕ, List, Option, Some, length, slice_get, slice_index}
 
 -- the last call of each call's subtree is a call, and none before the call itself
 pub record AreIntervals (last : List ℕ) : Type 0 where

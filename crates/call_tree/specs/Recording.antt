@@ -1,13 +1,10 @@
 -- What is recorded of the calls of a run while it goes on, and how a call is entered and left.
-use Rattle.std.specs.Prelude.{ℕ, ◌-◌, List, [], ◌∷◌, ◌++◌, Option, Some, None, drop, length, map, refl, slice_get}
+use Rattle.std.specs.Prelude.{◌++◌, ◌-◌, ◌∷◌, [], ℕ, List, None, Option, Some, drop, length, map, refl, slice_get}
 use Rattle.std.specs.Prelude.{slice_set}
-use Rattle.std.specs.Coded.{Coded, code_by, coded×, coded_list, coded_ℕ}
+use Rattle.std.specs.Coded.{Coded, code_by, coded_list, coded_ℕ, coded×}
 use Rattle.std.specs.FinMap as map
-use Rattle.cell_value.specs.declared.values.Value.{Value}
-use Rattle.cell_value.specs.declared.ways_out.WayOut.{WayOut}
-use Rattle.cell_value.specs.declared.ways_out.WayOut.TheVariants.{Returned}
-use Rattle.call_tree.specs.declared.records.Call.{Call}
-use Rattle.call_tree.specs.declared.records.Side.{Side}
+use Rattle.cell_value.specs.declared.{values.Value.Value, ways_out.WayOut.WayOut, ways_out.WayOut.TheVariants.Returned}
+use Rattle.call_tree.specs.declared.records.{Call.Call, FrameStart.FrameStart, Side.Side}
 
 -- the calls that were entered so far, in order of entry; the numbers of those that are open, each under the next one;
 -- and the number of routines
@@ -28,6 +25,13 @@ depths_of calls = map (λ call. call.depth) calls
 
 abbrev pub parents_of : List Call → List (Option ℕ)
 parents_of calls = map (λ call. call.parent) calls
+
+-- where the frame of a call begins, and the call that called it
+abbrev pub start_of : Call → FrameStart
+start_of call = record { top = call.entry.top; parent = call.parent }
+
+abbrev pub starts_of : List Call → List FrameStart
+starts_of calls = map start_of calls
 
 -- a recording is stored as the tuple of its fields
 abbrev pub recording_code : Coded Call → Coded Recording

@@ -1,7 +1,6 @@
 -- What can be told of a call, by the log and the items of the run's input.
-use Rattle.std.specs.Prelude.{ℕ, ◌+◌, ◌^◌, ◌<◌, ◌≤◌, All, List, length, slice_range}
-use Rattle.cell_value.specs.declared.entries.Touch.{Touch}
-use Rattle.cell_value.specs.Effects.{IsCountable, made_of, taken_of}
+use Rattle.std.specs.Prelude.{◌+◌, ◌<◌, ◌^◌, ◌≤◌, ℕ, All, List, length, slice_range}
+use Rattle.cell_value.specs.{Effects.IsCountable, Effects.made_of, Effects.taken_of, declared.entries.Touch.Touch}
 use Rattle.call_tree.specs.declared.records.Call.{Call}
 
 -- what the log has between the marks before a call and after it

@@ -1,11 +1,10 @@
 //! The calls of a run as they are recorded.
-ghost use Rattle.std.specs.Prelude.{◌≡◌, ◌<◌, ◌≤◌, ◌↔◌, [], All, IsTrue, IfOk, OnOk, OnErr, Some, length, slice_get};
-ghost use Rattle.call_tree.specs.Numbering.{IsNumbered};
+ghost use Rattle.std.specs.Prelude.{◌<◌, ◌↔◌, ◌≡◌, ◌≤◌, [], All, IfOk, IsTrue, OnErr, OnOk, Some, length, slice_get};
+ghost use Rattle.call_tree.specs.{Nesting.IsRooted, Numbering.IsNumbered};
 ghost use Rattle.call_tree.specs.Recording.{blank_side, depths_of, entered, lasts_of, left, nothing_entered};
-ghost use Rattle.call_tree.specs.Recording.{parents_of, routines_of};
-ghost use Rattle.call_tree.specs.Nesting.{IsRooted};
+ghost use Rattle.call_tree.specs.Recording.{parents_of, routines_of, starts_of};
 
-use crate::records::{Call, Side};
+use crate::records::{Call, FrameStart, Side};
 use cell_value::{Cells, Memory, Value, WayOut};
 use persistent_store::Store;
 use std::alloc::Global;
@@ -23,12 +22,12 @@ pub struct Calls {
     routine_column: Vec<u32>,
     last_column: Vec<u32>,
     open_calls: Vec<u32>,
+    start_column: Vec<FrameStart>,
     routines: u32,
 }
 
 impl Model for Calls {
-    ghost use Rattle.call_tree.specs.Recording.{Recording};
-    ghost use Rattle.call_tree.specs.Recording.{recording_code};
+    ghost use Rattle.call_tree.specs.Recording.{Recording, recording_code};
     ghost use Rattle.call_tree.specs.contracts.records.Call as call;
 
     ghost Value = { Recording };
@@ -68,6 +67,7 @@ impl Calls {
             routine_column: Vec::new(alloc),
             last_column: Vec::new(alloc),
             open_calls: Vec::new(alloc),
+            start_column: Vec::new(alloc),
             routines,
         }
     }
@@ -86,9 +86,15 @@ impl Calls {
         self.routine_column.reserve(1)?;
         self.last_column.reserve(1)?;
         self.open_calls.reserve(1)?;
+        self.start_column.reserve(1)?;
+        let parent = self.open_calls.last().copied();
+        let start = FrameStart {
+            top: entry.top,
+            parent,
+        };
         let call = Call {
             routine,
-            parent: self.open_calls.last().copied(),
+            parent,
             depth: self.open_calls.len() as u32,
             last: number,
             args,
@@ -101,6 +107,7 @@ impl Calls {
         self.routine_column.push(routine)?;
         self.last_column.push(number)?;
         self.open_calls.push(number)?;
+        self.start_column.push(start)?;
         Ok(number)
     }
 
@@ -164,6 +171,13 @@ impl Calls {
         &self.last_column
     }
 
+    /// Where the frame of each call begins, and the call that called it.
+    pub fn start_column(&self) -> &[FrameStart]
+        ensures { result.now ≡ starts_of self.now.calls }
+    {
+        &self.start_column
+    }
+
     /// A law for callers: once all calls are left, they are numbered so that the subtree of each is the
     /// interval from it to its last call, the first call is the root, and depths count from it.
     pub fn are_numbered(&self)
@@ -177,6 +191,6 @@ impl Calls {
     }
 }
 
-// A call takes at most 256 bytes beside its args and its stores: its record, its place in the two columns, and its
+// A call takes at most 256 bytes beside its args and its stores: its record, its places in the three columns, and its
 // place among the open calls.
-const _: () = prove!(size_of::<Call>() + 12 <= 256);
+const _: () = prove!(size_of::<Call>() + size_of::<FrameStart>() + 12 <= 256);

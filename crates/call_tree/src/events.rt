@@ -1,5 +1,5 @@
 //! What happens in the body of one call.
-ghost use Rattle.std.specs.Prelude.{◌≡◌, ◌<◌, [], ◌∷◌, ◌++◌, length, OnOk, OnErr, Some, slice_get};
+ghost use Rattle.std.specs.Prelude.{◌++◌, ◌<◌, ◌∷◌, ◌≡◌, [], OnErr, OnOk, Some, length, slice_get};
 
 use cell_value::Memory;
 use std::alloc::Global;
@@ -21,7 +21,7 @@ pub struct Events {
 }
 
 impl Model for Events {
-    ghost use Rattle.std.specs.Prelude.{List, ◌<◌, ◌^◌, vec_len};
+    ghost use Rattle.std.specs.Prelude.{◌<◌, ◌^◌, List, vec_len};
     ghost use Rattle.call_tree.specs.declared.events.Event.{Event};
 
     ghost Value = { List Event };

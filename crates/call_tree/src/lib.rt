@@ -9,4 +9,4 @@ mod records;
 
 pub use calls::Calls;
 pub use events::{Event, Events};
-pub use records::{Call, Mark, Side};
+pub use records::{Call, FrameStart, Mark, Side};

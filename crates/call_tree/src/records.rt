@@ -43,6 +43,13 @@ pub struct Call {
     pub result: Option<Value>,
 }
 
+/// Where the frame of a call begins on the stack, and the call that called it.
+#[derive(Clone, Copy)]
+pub struct FrameStart {
+    pub top: u32,
+    pub parent: Option<u32>,
+}
+
 /// What is said of a call.
 #[derive(Clone, Copy, Debug, PartialEq, Eq)]
 pub enum Mark {

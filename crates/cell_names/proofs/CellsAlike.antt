@@ -1,28 +1,14 @@
 -- Cells that stand one after another in the same component, field or variable.
-use Rattle.std.proofs.Common.{◌≡◌, ℕ, zero, suc, ◌+◌, ◌-◌, ◌*◌, ◌/◌, ◌%◌, ◌<◌, ◌≤◌, ◌==◌, Bool, true, false, Option, Some, None, if◌then◌else◌}
-use Rattle.std.proofs.Common.{refl, sym, ap, ◌∙◌, arith, mod-lt}
-use Rattle.std.specs.Prelude.{pos, ◌+ℤ◌}
-use Rattle.std.specs.Prelude.{min, nat_lt, nat_le}
-use Rattle.std.proofs.lemmas.Bool.Decides.{nat_tests}
-use Rattle.std.proofs.lemmas.Nat.{div-add-mod', div-mul-add, mod-mul-add}
-use Rattle.core_program.specs.declared.program.Routine.{Routine}
-use Rattle.core_program.specs.declared.rows.Row.{Row}
-use Rattle.core_program.specs.declared.rows.Row.TheVariants as rows
-use Rattle.core_program.specs.declared.rows.NameRow.TheVariants as names
-use Rattle.core_program.specs.declared.rows.Mode.TheVariants as modes
-use Rattle.core_program.specs.declared.rows.TypeRow.{TypeRow}
-use Rattle.core_program.specs.declared.rows.TypeRow.TheVariants as kinds
+use Rattle.std.proofs.Common.{if◌then◌else◌, ◌%◌, ◌*◌, ◌+ℤ◌, ◌+◌, ◌-◌, ◌/◌, ◌<◌, ◌==◌, ◌∙◌, ◌≡◌, ◌≤◌, ℕ, Bool, None, Option, Some, ap, arith, false, min}
+use Rattle.std.proofs.Common.{mod-lt, nat_le, nat_lt, pos, refl, suc, sym, true, zero}
+use Rattle.std.proofs.lemmas.{Bool.Decides.nat_tests, Nat.div-add-mod', Nat.div-mul-add, Nat.mod-mul-add}
 use Rattle.core_program.specs.ProgramRows.{ProgramRows, row_at, size_of, type_at}
-use Rattle.cell_names.specs.declared.places.PlacedPart.{PlacedPart}
-use Rattle.cell_names.specs.declared.names.Held.TheVariants as held
-use Rattle.cell_names.specs.declared.names.Spot.{Spot}
-use Rattle.cell_names.specs.declared.names.Step.{Step}
-use Rattle.cell_names.specs.declared.names.Selector.TheVariants as selector
-use Rattle.cell_names.specs.Places.{is_begun_by}
-use Rattle.cell_names.specs.Values.{bounds_of}
+use Rattle.core_program.specs.declared.{program.Routine.Routine, rows.Mode.Mode, rows.NameRow.NameRow, rows.Row.Row, rows.TypeRow.TypeRow}
+use Rattle.cell_names.specs.{Places.is_begun_by, Values.bounds_of}
 use Rattle.cell_names.specs.Names.{Scene, component_step, field_step, is_result, least_in, local_in, named_local, part_local, record_step, result_local}
 use Rattle.cell_names.specs.Names.{result_of, spot, step, step_by, step_down, typed_step}
 use Rattle.cell_names.specs.Walks.{before_result, left_of_component, moved, moved_local, moved_step}
+use Rattle.cell_names.specs.declared.{names.Held.Held, names.Selector.Selector, names.Spot.Spot, names.Step.Step, places.PlacedPart.PlacedPart}
 
 pub same_row : (place size k : ℕ) → k ≤ size - place % suc size → place % suc size ≤ size → (place + k) / suc size ≡ place / suc size
 same_row place size k below in_row =
@@ -38,7 +24,7 @@ same_column place size k below in_row =
 
 abbrev in_array : ProgramRows → (index component which place : ℕ) → Option Step
 in_array p index component which place =
-    Some (step (selector.Index index (least_in (bounds_of p index) +ℤ pos which)) (spot (held.Variable component) place))
+    Some (step (Selector.Index index (least_in (bounds_of p index) +ℤ pos which)) (spot (Held.Variable component) place))
 
 pub mod_le : (a n : ℕ) → a % suc n ≤ n
 mod_le a n = let h : a % suc n < suc n = mod-lt a (omega arith) in omega (arith, h)
@@ -54,9 +40,9 @@ component_moves p index component place k (suc n) below =
 
 -- cells of one field or tag
 field_moves : (number place k : ℕ) (r : Row) → field_step number (place + k) r ≡ moved_step k (field_step number place r)
-field_moves number place k (rows.Name (names.Field of' offset holder)) = refl
-field_moves number place k (rows.Name (names.Tag of' offset holder variants)) = refl
-field_moves number place k (rows.Part r) = refl
+field_moves number place k (Row.Name (NameRow.Field of' offset holder)) = refl
+field_moves number place k (Row.Name (NameRow.Tag of' offset holder variants)) = refl
+field_moves number place k (Row.Part r) = refl
 field_moves number place k r = refl
 
 pub after_begin : (at place k : ℕ) → nat_le at place ≡ true → (place + k) - at ≡ (place - at) + k
@@ -70,10 +56,10 @@ record_moves p place k (Some x) e =
 
 -- cells of one variable of a frame
 named_moves : (token place k : ℕ) (r : Row) → named_local token (place + k) r ≡ moved_local k (named_local token place r)
-named_moves token place k (rows.Name (names.Variable modes.Place of' at level)) = refl
-named_moves token place k (rows.Name (names.Variable modes.Own of' at level)) = refl
-named_moves token place k (rows.Name (names.Variable modes.Value of' at level)) = refl
-named_moves token place k (rows.Name (names.RoutineFormal at level heading)) = refl
+named_moves token place k (Row.Name (NameRow.Variable Mode.Place of' at level)) = refl
+named_moves token place k (Row.Name (NameRow.Variable Mode.Own of' at level)) = refl
+named_moves token place k (Row.Name (NameRow.Variable Mode.Value of' at level)) = refl
+named_moves token place k (Row.Name (NameRow.RoutineFormal at level heading)) = refl
 named_moves token place k r = refl
 
 part_moves : (p : ProgramRows) (place k : ℕ) (part : Option PlacedPart) → is_begun_by place part ≡ true
@@ -82,7 +68,7 @@ part_moves p place k None e = refl
 part_moves p place k (Some x) e =
     ap (λ n. named_local x.number n (row_at p x.number)) (after_begin x.place place k e) ∙ named_moves x.number (place - x.place) k (row_at p x.number)
 
-plain_local : (s : Scene) (number place : ℕ) (r : Routine) → (place == 0) ≡ false → is_result r.result place ≡ false
+pub plain_local : (s : Scene) (number place : ℕ) (r : Routine) → (place == 0) ≡ false → is_result r.result place ≡ false
     → local_in s number place (Some r) ≡ part_local s.program place (s.finding.frame number place)
 plain_local s number place r first other =
     let own = part_local s.program place (s.finding.frame number place) in
@@ -95,7 +81,7 @@ result_before : (at place k more : ℕ) (b : Bool) → nat_lt place at ≡ b →
 result_before at place k more true e other below = grind (arith, nat_tests, e, other, below)
 result_before at place k more false e other below = grind (arith, nat_tests, e, other, below)
 
-not_result : (result : Option ℕ) (place k more : ℕ) → is_result result place ≡ false → k ≤ before_result result place more
+pub not_result : (result : Option ℕ) (place k more : ℕ) → is_result result place ≡ false → k ≤ before_result result place more
     → (k ≤ more) × (is_result result (place + k) ≡ false)
 not_result None place k more other below = (below, refl)
 not_result (Some at) place k more other below = result_before at place k more (nat_lt place at) refl other below
@@ -124,14 +110,14 @@ moved_none at = let e : at.place + 0 ≡ at.place = omega arith in ap (λ n. spo
 pub moved_twice : (k m : ℕ) (at : Spot) → moved k (moved m at) ≡ moved (m + k) at
 moved_twice k m at = let e : (at.place + m) + k ≡ at.place + (m + k) = omega arith in ap (λ n. spot at.held n) e
 
-by_type : (s : Scene) (at : Spot) (of' : ℕ) (t : Option TypeRow) → at.held ≡ held.Variable of' → type_at s.program of' ≡ t
+by_type : (s : Scene) (at : Spot) (of' : ℕ) (t : Option TypeRow) → at.held ≡ Held.Variable of' → type_at s.program of' ≡ t
     → step_down s at ≡ typed_step s of' at.place t
 unfolding step_down
 by_type s at of' t e f = ap (step_by s at.place) e ∙ ap (typed_step s of' at.place) f
 
 -- cells of one component of an array
-pub array_below : (s : Scene) (at : Spot) (of' k index component cells : ℕ) (packed : Bool) → at.held ≡ held.Variable of'
-    → type_at s.program of' ≡ Some (kinds.Array packed index component cells) → k ≤ left_of_component at.place (size_of s.program component)
+pub array_below : (s : Scene) (at : Spot) (of' k index component cells : ℕ) (packed : Bool) → at.held ≡ Held.Variable of'
+    → type_at s.program of' ≡ Some (TypeRow.Array packed index component cells) → k ≤ left_of_component at.place (size_of s.program component)
     → step_down s (moved k at) ≡ moved_step k (step_down s at)
 array_below s at of' k index component cells packed e f below =
     by_type s (moved k at) of' _ e f ∙ component_moves s.program index component at.place k (size_of s.program component) below
@@ -139,7 +125,7 @@ array_below s at of' k index component cells packed e f below =
 
 -- cells of one field of a record
 pub record_below : (s : Scene) (at : Spot) (of' k more region cells : ℕ) (variants : Option ℕ) (packed : Bool) (part : Option PlacedPart)
-    → at.held ≡ held.Variable of' → type_at s.program of' ≡ Some (kinds.Record packed region cells variants)
+    → at.held ≡ Held.Variable of' → type_at s.program of' ≡ Some (TypeRow.Record packed region cells variants)
     → ((m : ℕ) → m ≤ more → s.finding.component of' (at.place + m) ≡ part) → is_begun_by at.place part ≡ true → k ≤ more
     → step_down s (moved k at) ≡ moved_step k (step_down s at)
 record_below s at of' k more region cells variants packed part e f same begun below =

@@ -1,15 +1,10 @@
 -- Numbers in decimal, and texts that are compared with them from the last digit on.
-use Rattle.std.proofs.Common.{◌≡◌, ℕ, zero, suc, ◌+◌, ◌-◌, ◌*◌, ◌/◌, ◌%◌, ◌<◌, ◌≤◌, Bool, true, false, List, [], ◌∷◌, ◌++◌, Some}
-use Rattle.std.proofs.Common.{nat_eq, length, take, get_or, decimal, refl, sym, ap, ◌∙◌, arith, bytes_eq, mod-lt}
-use Rattle.std.proofs.Math.Seq.{take-length, take-suc}
-use Rattle.std.proofs.lemmas.Fmt.{decimal_digit, decimal_step}
-use Rattle.std.proofs.lemmas.List.{append_cancel_right}
-use Rattle.std.proofs.lemmas.Nat.{div-add-mod'}
-use Rattle.std.proofs.lemmas.Bool.Decides.{nat_tests}
-use Rattle.std.proofs.lemmas.Slice.Eq.{bytes_eq-Decides}
+use Rattle.std.proofs.Common.{◌%◌, ◌*◌, ◌++◌, ◌+◌, ◌-◌, ◌/◌, ◌<◌, ◌∙◌, ◌∷◌, ◌≡◌, ◌≤◌, [], ℕ, Bool, List, Some, ap, arith, bytes_eq, decimal, false, get_or}
+use Rattle.std.proofs.Common.{length, mod-lt, nat_eq, refl, suc, sym, take, true, zero}
+use Rattle.std.proofs.{Math.Seq.take-length, Math.Seq.take-suc, lemmas.Fmt.decimal_digit, lemmas.Fmt.decimal_step}
+use Rattle.std.proofs.lemmas.{Bool.Decides.nat_tests, List.append_cancel_right, Nat.div-add-mod', Slice.Eq.bytes_eq-Decides}
 use Rattle.cell_value.specs.Effects.{last_of}
-use Rattle.cell_names.proofs.NameParts.{alike}
-use Rattle.cell_names.proofs.PartsSplit.{last_pushed}
+use Rattle.cell_names.proofs.{NameParts.alike, PartsSplit.last_pushed}
 
 length_next : {X : Type 0} (xs : List X) (x : X) → length (xs ++ x ∷ []) ≡ suc (length xs)
 length_next [] x = refl

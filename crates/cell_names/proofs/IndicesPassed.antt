@@ -1,21 +1,12 @@
 -- The indices of an array that a name does not go on with.
-use Rattle.std.proofs.Common.{◌≡◌, ℕ, zero, suc, ◌+◌, ◌-◌, ◌/◌, ◌%◌, ◌<◌, ◌≤◌, Bool, true, false, List, ◌++◌, Option, Some, None, codes, refl, sym, ap, subst}
-use Rattle.std.proofs.Common.{◌∙◌, arith}
-use Rattle.std.specs.Prelude.{pos, ◌+ℤ◌, is_some}
-use Rattle.core_program.specs.declared.rows.TypeRow.{TypeRow}
-use Rattle.core_program.specs.declared.rows.TypeRow.TheVariants as kinds
-use Rattle.core_program.specs.ProgramRows.{ProgramRows, size_of, type_at}
-use Rattle.cell_names.specs.declared.names.Held.{Held}
-use Rattle.cell_names.specs.declared.names.Held.TheVariants as held
-use Rattle.cell_names.specs.declared.names.Spot.{Spot}
-use Rattle.cell_names.specs.declared.values.Bounds.{Bounds}
-use Rattle.cell_names.specs.declared.walks.Components.{Components}
-use Rattle.cell_names.specs.Values.{bounds_of, within_bounds}
+use Rattle.std.proofs.Common.{◌%◌, ◌++◌, ◌+ℤ◌, ◌+◌, ◌-◌, ◌/◌, ◌<◌, ◌∙◌, ◌≡◌, ◌≤◌, ℕ, Bool, List, None, Option, Some, ap, arith, codes, false, is_some, pos}
+use Rattle.std.proofs.Common.{refl, subst, suc, sym, true, zero}
+use Rattle.core_program.specs.{ProgramRows.ProgramRows, ProgramRows.size_of, ProgramRows.type_at, declared.rows.TypeRow.TypeRow}
+use Rattle.cell_names.proofs.{CellsAlike.mod_le, CellsAlike.same_row, NamesPassed.nothing_by}
+use Rattle.cell_names.specs.{NamedBy.after_part, NamedBy.leads_by, NamedBy.leads_on, Values.bounds_of, Values.within_bounds}
 use Rattle.cell_names.specs.Names.{Scene, component_step, least_in, spot, step_by, step_down, typed_step}
-use Rattle.cell_names.specs.NamedBy.{after_part, leads_by, leads_on}
 use Rattle.cell_names.specs.Walks.{components_in, components_of, index_text, is_indexed, is_indexed_by, left_of_component, moved}
-use Rattle.cell_names.proofs.CellsAlike.{mod_le, same_row}
-use Rattle.cell_names.proofs.RootsPassed.{nothing_by}
+use Rattle.cell_names.specs.declared.{names.Held.Held, names.Spot.Spot, values.Bounds.Bounds, walks.Components.Components}
 
 pub sized : (p : ProgramRows) (a : Components) (place size : ℕ) (name : List ℕ) → (size ≡ 0 → ⊥)
     → is_some (after_part (index_text p a (place / size)) name) ≡ is_indexed_by p a place size name
@@ -40,14 +31,14 @@ none_indexed p a place more next left passed name is none alike within k above b
 
 typed_array : (s : Scene) (of' place : ℕ) (t : Option TypeRow) (a : Components) → components_in s.program t ≡ Some a
     → typed_step s of' place t ≡ component_step s.program a.index a.component place a.size
-typed_array s of' place (Some (kinds.Array packed index component cells)) a e =
+typed_array s of' place (Some (TypeRow.Array packed index component cells)) a e =
     ap (λ (x : Components). component_step s.program x.index x.component place x.size)
     (let f : record { index = index; bounds = bounds_of s.program index; component = component; size = size_of s.program component } ≡ a = cc in f)
 typed_array s of' place t a e = absurd (let z : ◌≡◌ {A = Option Components} None (Some a) = e in cc)
 
 held_array : (s : Scene) (place : ℕ) (h : Held) (a : Components) → components_of s.program h ≡ Some a
     → step_by s place h ≡ component_step s.program a.index a.component place a.size
-held_array s place (held.Variable of') a e = typed_array s of' place (type_at s.program of') a e
+held_array s place (Held.Variable of') a e = typed_array s of' place (type_at s.program of') a e
 held_array s place h a e = absurd (let z : ◌≡◌ {A = Option Components} None (Some a) = e in cc)
 
 step_in_array : (s : Scene) (at : Spot) (a : Components) (k : ℕ) → components_of s.program at.held ≡ Some a
@@ -56,13 +47,13 @@ unfolding step_down
 step_in_array s at a k e = held_array s (at.place + k) at.held a e
 
 typed_bounds : (p : ProgramRows) (t : Option TypeRow) (a : Components) → components_in p t ≡ Some a → a.bounds ≡ bounds_of p a.index
-typed_bounds p (Some (kinds.Array packed index component cells)) a e =
+typed_bounds p (Some (TypeRow.Array packed index component cells)) a e =
     let f : record { index = index; bounds = bounds_of p index; component = component; size = size_of p component } ≡ a = cc in
     ap (λ (x : Components). x.bounds) (sym f) ∙ ap (λ (x : Components). bounds_of p x.index) f
 typed_bounds p t a e = absurd (let z : ◌≡◌ {A = Option Components} None (Some a) = e in cc)
 
 held_bounds : (p : ProgramRows) (h : Held) (a : Components) → components_of p h ≡ Some a → a.bounds ≡ bounds_of p a.index
-held_bounds p (held.Variable of') a e = typed_bounds p (type_at p of') a e
+held_bounds p (Held.Variable of') a e = typed_bounds p (type_at p of') a e
 held_bounds p h a e = absurd (let z : ◌≡◌ {A = Option Components} None (Some a) = e in cc)
 
 abbrev text_within : ProgramRows → Option Bounds → (which : ℕ) → List ℕ
@@ -72,7 +63,7 @@ not_led : (p : ProgramRows) (a : Components) (place size : ℕ) (name : List ℕ
     → is_indexed_by p a place size name ≡ false → leads_by p go name (component_step p a.index a.component place size) ≡ false
 not_led p a place zero name go is none = refl
 not_led p a place (suc n) name go is none =
-    let at = spot (held.Variable a.component) (place % suc n) in
+    let at = spot (Held.Variable a.component) (place % suc n) in
     ap (λ b. leads_on (go at) (after_part (text_within p b (place / suc n)) name)) (sym is)
     ∙ ap (leads_on (go at)) (nothing_by (after_part (index_text p a (place / suc n)) name) none)
 

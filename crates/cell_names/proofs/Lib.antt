@@ -1,13 +1,17 @@
 mod CellsAlike
 pub mod Decimals
+mod FieldsPassed
 mod IndicesPassed
 mod MembersInTurn
 pub mod NameParts
 mod NamesMade
 mod NamesPassed
 pub mod PartsInTurn
+mod PartsPassed
+mod PartsPushed
 mod PartsSplit
 mod RecordsInTurn
 mod RootsPassed
+mod VariablesPassed
 mod WaysDown
 pub mod WrittenInTurn

@@ -1,9 +1,7 @@
 -- The members of a set, one after another.
-use Rattle.std.proofs.Common.{◌≡◌, ℕ, suc, ◌+◌, ◌-◌, ◌<◌, ◌≤◌, Bool, true, false, List, [], ◌∷◌, ◌++◌, refl, sym, ap, ◌∙◌, arith, append_assoc, append-nil}
-use Rattle.std.specs.Prelude.{filter, flat_map}
-use Rattle.std.specs.List.{range_with_len}
-use Rattle.cell_value.specs.declared.values.SetBits.{SetBits}
-use Rattle.cell_value.specs.Sets.{has}
+use Rattle.std.proofs.Common.{◌++◌, ◌+◌, ◌-◌, ◌<◌, ◌∙◌, ◌∷◌, ◌≡◌, ◌≤◌, [], ℕ, Bool, List, ap, append-nil, append_assoc, arith, false, filter, flat_map, refl}
+use Rattle.std.{proofs.Common.suc, proofs.Common.sym, proofs.Common.true, specs.List.range_with_len}
+use Rattle.cell_value.specs.{Sets.has, declared.values.SetBits.SetBits}
 use Rattle.core_program.specs.ProgramRows.{ProgramRows}
 use Rattle.cell_names.specs.Values.{member_text, members_from, members_text}
 

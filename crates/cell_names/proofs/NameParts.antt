@@ -1,13 +1,10 @@
 -- What is left of a name after one part and then the next.
-use Rattle.std.proofs.Common.{◌≡◌, ℕ, ◌==◌, Bool, true, false, ◌&&◌, List, [], ◌∷◌, ◌++◌, Option, Some, None, if◌then◌else◌, length, take, drop}
-use Rattle.std.proofs.Common.{nat_eq, codes, decimal, refl, sym, ap, subst, ◌∙◌, arith, bytes_eq, append-nil}
+use Rattle.std.proofs.Common.{if◌then◌else◌, ◌&&◌, ◌++◌, ◌==◌, ◌∙◌, ◌∷◌, ◌≡◌, [], ℕ, Bool, List, None, Option, Some, ap, append-nil, arith, bytes_eq, codes}
+use Rattle.std.proofs.Common.{decimal, drop, false, length, nat_eq, refl, subst, sym, take, true}
+use Rattle.std.proofs.lemmas.{Bool.Decides.nat_tests, List.append_cancel_right, List.drop_all, List.take-append-drop, List.take_all, Slice.Eq.bytes_eq-Decides}
 use Rattle.std.specs.List.{starts_with}
-use Rattle.std.proofs.lemmas.List.{append_cancel_right, take_all, drop_all, take-append-drop}
-use Rattle.std.proofs.lemmas.Bool.Decides.{nat_tests}
-use Rattle.std.proofs.lemmas.Slice.Eq.{bytes_eq-Decides}
 use Rattle.core_program.specs.ProgramRows.{ProgramRows, name_of, text_at}
-use Rattle.cell_names.specs.declared.names.Origin.TheVariants as origins
-use Rattle.cell_names.specs.Names.{origin_text, whose_text}
+use Rattle.cell_names.specs.{Names.origin_text, Names.whose_text, declared.names.Origin.Origin}
 use Rattle.cell_names.specs.NamedBy.{after_part, block_text, call_text, is_all, is_over, then_part}
 
 if_both : {X : Type 0} (a b : Bool) (x : Option X) → (if a && b then x else None) ≡ (if a then (if b then x else None) else None)
@@ -61,7 +58,7 @@ pub heap_in_parts : (base : ℕ) (o : Option (List ℕ))
 heap_in_parts base o = then_both (block_text base) (codes "^") o
 
 pub local_in_parts : (p : ProgramRows) (call routine token : ℕ) (o : Option (List ℕ))
-    → then_part (origin_text p (origins.Local call routine token)) o ≡ then_part (text_at p token) (then_part (whose_text p call routine) o)
+    → then_part (origin_text p (Origin.Local call routine token)) o ≡ then_part (text_at p token) (then_part (whose_text p call routine) o)
 local_in_parts p call routine token o = then_both (whose_text p call routine) (text_at p token) o
 
 -- what the way down to a cell begins at

@@ -1,19 +1,12 @@
 -- What is found by its place is made once, list by list.
-use Rattle.std.proofs.Common.{◌≡◌, ℕ, suc, ◌+◌, ◌<◌, ◌≤◌, Bool, true, false, List, [], ◌∷◌, ◌++◌, length, drop, Some}
-use Rattle.std.proofs.Common.{slice_get, refl, sym, ap, ◌∙◌, arith, add-one, length-append}
-use Rattle.std.specs.Prelude.{nat_lt, unwrap_or}
-use Rattle.std.proofs.lemmas.List.{get_or_append_left}
-use Rattle.std.proofs.lemmas.Option.{slice_get_past, unwrap_or-slice_get}
-use Rattle.std.proofs.lemmas.Bool.Decides.{nat_tests}
+use Rattle.std.proofs.Common.{◌++◌, ◌+◌, ◌<◌, ◌∙◌, ◌∷◌, ◌≡◌, ◌≤◌, [], ℕ, Bool, List, Some, add-one, ap, arith, drop, false, length, length-append, nat_lt, refl}
+use Rattle.std.{proofs.Common.slice_get, proofs.Common.suc, proofs.Common.sym, proofs.Common.true, specs.Prelude.unwrap_or}
+use Rattle.std.proofs.lemmas.{Bool.Decides.nat_tests, List.get_or_append_left, Option.slice_get_past, Option.unwrap_or-slice_get}
 use Rattle.cell_value.specs.declared.entries.Touch.{Touch}
 use Rattle.core_program.specs.ProgramRows.{ProgramRows}
-use Rattle.cell_names.specs.declared.places.PlacedPart.{PlacedPart}
-use Rattle.cell_names.specs.Places.{finds}
-use Rattle.cell_names.specs.Layouts.{frame_parts, frame_parts_in}
-use Rattle.cell_names.specs.Records.{record_parts}
-use Rattle.cell_names.specs.Finding.{NameLists, block_by, blocks_of, finding_of, finding_in, list_at}
-use Rattle.cell_names.proofs.PartsInTurn.{finds_on}
-use Rattle.cell_names.proofs.WrittenInTurn.{drop_get}
+use Rattle.cell_names.proofs.{PartsInTurn.finds_on, WrittenInTurn.drop_get}
+use Rattle.cell_names.specs.{Layouts.frame_parts, Layouts.frame_parts_in, Places.finds, Records.record_parts, declared.places.PlacedPart.PlacedPart}
+use Rattle.cell_names.specs.Finding.{NameLists, block_by, blocks_of, finding_in, finding_of, list_at}
 
 -- one more touch is gone over
 pub blocks_on : (old new all : List PlacedPart) (log : List Touch) (at : ℕ) (touch : Touch) → slice_get log at ≡ Some touch

@@ -1,17 +1,13 @@
 -- What a name does not lead to, from one cell on.
-use Rattle.std.proofs.Common.{◌≡◌, ℕ, zero, suc, ◌+◌, ◌-◌, ◌<◌, ◌≤◌, ◌==◌, Bool, true, false, ◌||◌, List, Option, Some, None, if◌then◌else◌}
-use Rattle.std.proofs.Common.{codes, refl, sym, ap, ◌∙◌, arith}
+use Rattle.std.proofs.Common.{if◌then◌else◌, ◌+◌, ◌-◌, ◌<◌, ◌==◌, ◌||◌, ◌∙◌, ◌≡◌, ◌≤◌, ℕ, Bool, List, None, Option, Some, ap, arith, codes, false, is_some}
+use Rattle.std.proofs.Common.{refl, suc, sym, true, zero}
 use Rattle.core_program.specs.ProgramRows.{ProgramRows, text_at}
-use Rattle.cell_names.specs.declared.names.Spot.{Spot}
-use Rattle.cell_names.specs.declared.names.Step.{Step}
-use Rattle.cell_names.specs.declared.names.Origin.TheVariants as origins
-use Rattle.cell_names.specs.declared.names.Root.{Root}
-use Rattle.cell_names.specs.Names.{Scene, most_types, origin_text, root, step_down}
-use Rattle.cell_names.specs.NamedBy.{after_part, block_text, call_text, is_all, is_named_by, is_of_all, is_over, leads_by, leads_on, leads_within, then_part}
-use Rattle.cell_names.specs.Walks.{moved, moved_step}
-use Rattle.cell_names.proofs.CellsAlike.{moved_none, moved_twice}
+use Rattle.cell_names.proofs.{CellsAlike.moved_none, WaysDown.left}
 use Rattle.cell_names.proofs.NameParts.{block_is_all, call_is_all, heap_in_parts, local_in_parts, whose_in_parts}
-use Rattle.cell_names.proofs.WaysDown.{left}
+use Rattle.cell_names.specs.NamedBy.{after_part, block_text, call_text, is_all, is_named_by, is_of_all, is_over, leads_by, leads_on, leads_within, then_part}
+use Rattle.cell_names.specs.Names.{Scene, most_types, origin_text, root, step_down}
+use Rattle.cell_names.specs.Walks.{ends_or_dots, moved, moved_step}
+use Rattle.cell_names.specs.declared.names.{Origin.Origin, Root.Root, Spot.Spot, Step.Step}
 
 -- a name goes on to a cell as it does to another of the same component
 pub by_moved : (p : ProgramRows) (go : Spot → List ℕ → Bool) (name : List ℕ) (k : ℕ) (o : Option Step)
@@ -29,18 +25,6 @@ pub none_alike : (s : Scene) (at : Spot) (name : List ℕ) (alike : ℕ) → Sta
     → (go : Spot → List ℕ → Bool) (k : ℕ) → k ≤ alike → leads_by s.program go name (step_down s (moved k at)) ≡ false
 none_alike s at name alike stays none go k below =
     ap (leads_by s.program go name) (stays k below) ∙ by_moved s.program go name k (step_down s at) ∙ none (λ a. go (moved k a))
-
--- nor to those after others
-pub none_further : (s : Scene) (at next : Spot) (name : List ℕ) (more alike passed : ℕ) → next ≡ moved (more + 1) at → StaysAlike s next alike
-    → ((go : Spot → List ℕ → Bool) → leads_by s.program go name (step_down s next) ≡ false)
-    → passed ≤ more + 1 + alike
-    → (go : Spot → List ℕ → Bool) (k : ℕ) → more < k → k ≤ passed → leads_by s.program go name (step_down s (moved k at)) ≡ false
-none_further s at next name more alike passed is stays none within go k above below =
-    let same : moved (k - (more + 1)) next ≡ moved k at =
-    ap (moved (k - (more + 1))) is ∙ moved_twice (k - (more + 1)) (more + 1) at
-    ∙ (let e : (more + 1) + (k - (more + 1)) ≡ k = omega (arith, above) in ap (λ n. moved n at) e) in
-    ap (λ a. leads_by s.program go name (step_down s a)) (sym same)
-    ∙ none_alike s next name alike stays none go (k - (more + 1)) (omega (arith, above, below, within))
 
 -- so far the cells after the one that the way began at are led to as those after the one that it has come to
 pub IsLedAlike : Scene → (taken : ℕ) → (from at : Spot) → (name left : List ℕ) → (alike : ℕ) → Type 0
@@ -131,24 +115,41 @@ unnamed_part s r name rest e some leads =
     ap (λ b. b || leads_on (leads_within s most_types r.spot) (after_part (origin_text s.program r.origin) name)) e
     ∙ ap (leads_on (leads_within s most_types r.spot)) some ∙ leads
 
--- no name of a call goes on so
+pub neither : (a b : Bool) → (a || b) ≡ false → (a ≡ false) × (b ≡ false)
+neither true b e = absurd (let z : true ≡ false = e in cc)
+neither false b e = (refl, e)
+
+pub nothing_by : {X : Type 0} (o : Option X) → is_some o ≡ false → o ≡ None
+nothing_by None e = refl
+nothing_by (Some x) e = absurd (let z : true ≡ false = e in cc)
+
+not_whole : (o : Option (List ℕ)) → ends_or_dots o ≡ false → is_all o ≡ false
+not_whole None e = refl
+not_whole (Some rest) e = (neither (is_over rest) (is_some (after_part (codes ".") rest)) e).0
+
+not_dotted : (o : Option (List ℕ)) → ends_or_dots o ≡ false → then_part (codes ".") o ≡ None
+not_dotted None e = refl
+not_dotted (Some rest) e = nothing_by (after_part (codes ".") rest) (neither (is_over rest) (is_some (after_part (codes ".") rest)) e).1
+
+-- the name is not the call's, nor one of a variable of its frame
 pub call_unnamed : (s : Scene) (call routine token : ℕ) (at : Spot) (name : List ℕ) → (call == 0) ≡ false
-    → after_part (call_text s.program call routine) name ≡ None → is_named_by s (root (origins.Local call routine token) at) name ≡ false
+    → ends_or_dots (after_part (call_text s.program call routine) name) ≡ false
+    → is_named_by s (root (Origin.Local call routine token) at) name ≡ false
 call_unnamed s call routine token at name first none =
     let p = s.program in
-    let called : then_part (call_text p call routine) (Some name) ≡ None = none in
-    unnamed_whole s (root (origins.Local call routine token) at) name
+    let called = after_part (call_text p call routine) name in
+    unnamed_whole s (root (Origin.Local call routine token) at) name
     (call_is_all p call routine name ∙ ap (λ (b : Bool). if b then false else is_all (then_part (call_text p call routine) (Some name))) first
-    ∙ ap is_all called)
+    ∙ not_whole called none)
     (local_in_parts p call routine token (Some name)
     ∙ ap (then_part (text_at p token)) (whose_in_parts p call routine (Some name)
     ∙ ap (λ (b : Bool). if b then Some name else then_part (codes ".") (then_part (call_text p call routine) (Some name))) first
-    ∙ ap (then_part (codes ".")) called))
+    ∙ not_dotted called none))
 
 -- no name of a variable of the heap goes on so
 pub block_unnamed : (s : Scene) (base : ℕ) (at : Spot) (name : List ℕ) → after_part (block_text base) name ≡ None
-    → is_named_by s (root (origins.Heap base) at) name ≡ false
+    → is_named_by s (root (Origin.Heap base) at) name ≡ false
 block_unnamed s base at name none =
     let gone : then_part (block_text base) (Some name) ≡ None = none in
-    unnamed_whole s (root (origins.Heap base) at) name (block_is_all base name ∙ ap is_all gone)
+    unnamed_whole s (root (Origin.Heap base) at) name (block_is_all base name ∙ ap is_all gone)
     (heap_in_parts base (Some name) ∙ ap (then_part (codes "^")) gone)

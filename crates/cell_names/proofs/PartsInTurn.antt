@@ -1,15 +1,12 @@
 -- Which parts have each place, as one list of parts after another is added.
-use Rattle.std.proofs.Common.{◌≡◌, ℕ, zero, suc, ◌+◌, ◌-◌, ◌<◌, ◌≤◌, Bool, true, false, List, [], ◌∷◌, ◌++◌, Option, Some, None, refl, sym, ap, ◌∙◌, arith}
-use Rattle.std.proofs.Common.{append_assoc, append-nil}
-use Rattle.std.specs.Prelude.{filter, filter_map, option_to_list}
-use Rattle.std.specs.List.{cons_option, range_with_len}
-use Rattle.std.proofs.lemmas.List.Elements.{filter-append}
+use Rattle.std.proofs.Common.{◌++◌, ◌+◌, ◌-◌, ◌<◌, ◌∙◌, ◌∷◌, ◌≡◌, ◌≤◌, [], ℕ, Bool, List, None, Option, Some, ap, append-nil, append_assoc, arith, false}
+use Rattle.std.proofs.Common.{filter, filter_map, option_to_list, refl, suc, sym, true, zero}
+use Rattle.std.{proofs.lemmas.List.Elements.filter-append, specs.List.cons_option, specs.List.range_with_len}
 use Rattle.cell_value.specs.Effects.{last_of}
 use Rattle.core_program.specs.ProgramRows.{ProgramRows, row_at}
-use Rattle.cell_names.specs.declared.places.PlacedPart.{PlacedPart}
-use Rattle.cell_names.specs.Places.{finds, is_begun, last_at}
-use Rattle.cell_names.specs.Layouts.{block_start, is_name_of, most_sections, next_name, section_after, own_between, own_in, parts_at, parts_after}
-use Rattle.cell_names.specs.Layouts.{section_of, section_parts, sections_parts, token_or_zero}
+use Rattle.cell_names.specs.{Places.finds, Places.is_begun, Places.last_at, declared.places.PlacedPart.PlacedPart}
+use Rattle.cell_names.specs.Layouts.{block_start, is_name_of, most_sections, next_name, own_between, own_in, parts_after, parts_at, section_after, section_of}
+use Rattle.cell_names.specs.Layouts.{section_parts, sections_parts, token_or_zero}
 
 later : {X : Type 0} → Option X → Option X → Option X
 later None earlier = earlier

@@ -1,12 +1,9 @@
 -- A list of parts whose places rise, split at a place.
-use Rattle.std.proofs.Common.{◌≡◌, ℕ, zero, suc, ◌+◌, ◌-◌, ◌<◌, ◌≤◌, Bool, true, false, List, [], ◌∷◌, ◌++◌, length, take, get_or, Some, None, refl, sym, ap}
-use Rattle.std.proofs.Common.{◌∙◌, arith, append-nil}
-use Rattle.std.specs.Prelude.{filter, nat_le, nat_lt, slice_index_or}
-use Rattle.std.proofs.lemmas.List.Elements.{filter-append}
-use Rattle.std.proofs.lemmas.Bool.Decides.{nat_tests}
+use Rattle.std.proofs.Common.{◌++◌, ◌+◌, ◌-◌, ◌<◌, ◌∙◌, ◌∷◌, ◌≡◌, ◌≤◌, [], ℕ, Bool, List, None, Some, ap, append-nil, arith, false, filter, get_or, length}
+use Rattle.std.proofs.Common.{nat_le, nat_lt, refl, slice_index_or, suc, sym, take, true, zero}
+use Rattle.std.proofs.lemmas.{Bool.Decides.nat_tests, List.Elements.filter-append}
 use Rattle.cell_value.specs.Effects.{last_of}
-use Rattle.cell_names.specs.declared.places.PlacedPart.{PlacedPart}
-use Rattle.cell_names.specs.Places.{IsRising, IsSplit, is_begun, last_at}
+use Rattle.cell_names.specs.{Places.IsRising, Places.IsSplit, Places.is_begun, Places.last_at, declared.places.PlacedPart.PlacedPart}
 
 pub get_or_any : {X : Type 0} (xs : List X) (k : ℕ) (d e : X) → k < length xs → get_or xs k d ≡ get_or xs k e
 get_or_any [] k d e h = absurd (omega (arith, h))
@@ -96,9 +93,49 @@ rises_by parts rising k m d h inside false e =
     omega (arith, t)
 
 -- no part before one begins after it
-rises_to : (parts : List PlacedPart) → IsRising parts → (k m : ℕ) (d : PlacedPart) → k ≤ m → m < length parts
+pub rises_to : (parts : List PlacedPart) → IsRising parts → (k m : ℕ) (d : PlacedPart) → k ≤ m → m < length parts
     → (slice_index_or parts k d).place ≤ (slice_index_or parts m d).place
 rises_to parts rising k m d h inside = rises_by parts rising k m d h inside (nat_lt k m) refl
+
+-- one part rises
+pub rises_first : (parts : List PlacedPart) (i j : ℕ) (d : PlacedPart) → i < j → j < 1
+    → (slice_index_or parts i d).place < (slice_index_or parts j d).place
+rises_first parts i j d below end = absurd (omega (arith, below, end))
+
+rises_from : (parts : List PlacedPart) (at : ℕ) (e : PlacedPart) (i : ℕ) (d : PlacedPart) → 1 ≤ at → i < at
+    → (slice_index_or parts (at - 1) d).place ≡ (slice_index_or parts (at - 1) e).place
+    → (slice_index_or parts at d).place ≡ (slice_index_or parts at e).place
+    → (slice_index_or parts (at - 1) e).place < (slice_index_or parts at e).place
+    → (i < at - 1 → at - 1 < at → (slice_index_or parts i d).place < (slice_index_or parts (at - 1) d).place)
+    → (b : Bool) → nat_lt i (at - 1) ≡ b → (slice_index_or parts i d).place < (slice_index_or parts at d).place
+rises_from parts at e i d some below last here less earlier true t =
+    let h : i < at - 1 = grind (arith, nat_tests, t) in
+    let r = earlier h (omega (arith, some)) in omega (arith, r, last, here, less)
+rises_from parts at e i d some below last here less earlier false t =
+    let same : i ≡ at - 1 = grind (arith, nat_tests, t, below) in
+    let s : (slice_index_or parts i d).place ≡ (slice_index_or parts (at - 1) d).place = ap (λ n. (slice_index_or parts n d).place) same in
+    omega (arith, s, last, here, less)
+
+-- the parts before a place in their list rise
+abbrev RisesTo : List PlacedPart → (at : ℕ) → Type 0
+RisesTo parts at = (i j : ℕ) (d : PlacedPart) → i < j → j < at → (slice_index_or parts i d).place < (slice_index_or parts j d).place
+
+rises_until : (parts : List PlacedPart) (at : ℕ) (e : PlacedPart) → 1 ≤ at → at < length parts
+    → (slice_index_or parts (at - 1) e).place < (slice_index_or parts at e).place → RisesTo parts at
+    → (i j : ℕ) (d : PlacedPart) → i < j → j < at + 1 → (b : Bool) → nat_lt j at ≡ b
+    → (slice_index_or parts i d).place < (slice_index_or parts j d).place
+rises_until parts at e some inside less so_far i j d below end true t = so_far i j d below (grind (arith, nat_tests, t))
+rises_until parts at e some inside less so_far i j d below end false t =
+    let same : j ≡ at = grind (arith, nat_tests, t, end) in
+    let s : (slice_index_or parts j d).place ≡ (slice_index_or parts at d).place = ap (λ n. (slice_index_or parts n d).place) same in
+    let r = rises_from parts at e i d some (omega (arith, below, same)) (ap (λ x. x.place) (get_or_any parts (at - 1) d e (omega (arith, inside))))
+    (ap (λ x. x.place) (get_or_any parts at d e inside)) less (so_far i (at - 1) d) (nat_lt i (at - 1)) refl in
+    omega (arith, r, s)
+
+-- and one more, where it begins after the one before it
+pub rises_on : (parts : List PlacedPart) (at : ℕ) (e : PlacedPart) → 1 ≤ at → at < length parts
+    → (slice_index_or parts (at - 1) e).place < (slice_index_or parts at e).place → RisesTo parts at → RisesTo parts (at + 1)
+rises_on parts at e some inside less so_far = λ i j d below end. rises_until parts at e some inside less so_far i j d below end (nat_lt j at) refl
 
 pub go_up : (place : ℕ) (parts : List PlacedPart) (low high middle : ℕ) (d : PlacedPart) → IsRising parts → IsHalved place parts low high → middle < high
     → (slice_index_or parts middle d).place < place → IsHalved place parts (middle + 1) high

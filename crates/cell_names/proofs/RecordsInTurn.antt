@@ -1,18 +1,12 @@
 -- The fields and tags of records, as one token after another is gone over.
-use Rattle.std.proofs.Common.{◌≡◌, ℕ, zero, suc, ◌+◌, ◌-◌, ◌<◌, ◌≤◌, Bool, true, false, List, [], ◌∷◌, ◌++◌, length, Option, Some, None, refl, sym, ap}
-use Rattle.std.proofs.Common.{◌∙◌, arith, append-nil}
-use Rattle.std.specs.Prelude.{◌==◌, ◌&&◌, if◌then◌else◌, flat_map, nat_lt, slice_index_or, slice_set}
+use Rattle.std.proofs.Common.{if◌then◌else◌, ◌&&◌, ◌++◌, ◌+◌, ◌-◌, ◌<◌, ◌==◌, ◌∙◌, ◌∷◌, ◌≡◌, ◌≤◌, [], ℕ, Bool, List, None, Option, Some, ap, append-nil, arith}
+use Rattle.std.proofs.Common.{false, flat_map, length, nat_lt, refl, slice_index_or, slice_set, suc, sym, true, zero}
+use Rattle.std.proofs.lemmas.{Bool.Decides.nat_tests, List.get_or-set_other, List.get_or-set_same, List.length-set}
 use Rattle.std.specs.List.{range_with_len}
-use Rattle.std.proofs.lemmas.List.{get_or-set_same, get_or-set_other, length-set}
-use Rattle.std.proofs.lemmas.Bool.Decides.{nat_tests}
 use Rattle.core_program.specs.ProgramRows.{ProgramRows, row_at}
-use Rattle.cell_names.specs.declared.places.PlacedPart.{PlacedPart}
-use Rattle.cell_names.specs.declared.records.Placed.{Placed}
-use Rattle.cell_names.specs.Places.{finds}
-use Rattle.cell_names.specs.Finding.{Adds, list_at}
-use Rattle.cell_names.specs.Records.{further_holder, holder_around, is_record, most_nesting, placed_at, holding_record, record_parts_from, within}
-use Rattle.cell_names.proofs.PartsInTurn.{finds_all, finds_on}
-use Rattle.cell_names.proofs.PartsSplit.{get_or_any}
+use Rattle.cell_names.proofs.{PartsInTurn.finds_all, PartsInTurn.finds_on, PartsSplit.get_or_any}
+use Rattle.cell_names.specs.{Finding.Adds, Finding.list_at, Places.finds, declared.places.PlacedPart.PlacedPart, declared.records.Placed.Placed}
+use Rattle.cell_names.specs.Records.{further_holder, holder_around, holding_record, is_record, most_nesting, placed_at, record_parts_from, within}
 
 deeper : (counter : ℕ) → counter < 200 → most_nesting - counter ≡ suc (most_nesting - (counter + 1))
 unfolding most_nesting

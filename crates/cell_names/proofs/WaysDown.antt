@@ -1,8 +1,7 @@
 -- The way down to a cell, step by step.
-use Rattle.std.proofs.Common.{◌≡◌, ℕ, zero, suc, ◌+◌, ◌-◌, ◌<◌, ◌≤◌, List, ◌++◌, Option, Some, None, sym, ap, ◌∙◌, arith, append_assoc, append-nil}
-use Rattle.cell_names.specs.declared.names.Spot.{Spot}
-use Rattle.cell_names.specs.declared.names.Step.{Step}
-use Rattle.cell_names.specs.Names.{Scene, WayDown, WentDown, way_after, way_here, most_types, next_step, selector_text, way_by, way_down, way_within}
+use Rattle.std.proofs.Common.{◌++◌, ◌+◌, ◌-◌, ◌<◌, ◌∙◌, ◌≡◌, ◌≤◌, ℕ, List, None, Option, Some, ap, append-nil, append_assoc, arith, suc, sym, zero}
+use Rattle.cell_names.specs.Names.{Scene, WayDown, WentDown, most_types, next_step, selector_text, way_after, way_by, way_down, way_here, way_within}
+use Rattle.cell_names.specs.declared.names.{Spot.Spot, Step.Step}
 
 -- this many steps were taken, and what is left of the way begins here
 pub record IsOnWay (s : Scene) (wanted : Option ℕ) (from : Spot) (before now : List ℕ) (at : Spot) (taken : ℕ) : Type 0 where

@@ -1,7 +1,6 @@
 -- Texts of the items of a list, written one after another.
-use Rattle.std.proofs.Common.{◌≡◌, ℕ, zero, suc, ◌+◌, ◌-◌, ◌<◌, List, [], ◌∷◌, ◌++◌, drop, take, Some, slice_get, sym, ap, ◌∙◌, arith}
-use Rattle.std.proofs.Common.{append_assoc, add-one}
-use Rattle.std.specs.Prelude.{flat_map, slice_range}
+use Rattle.std.proofs.Common.{◌++◌, ◌+◌, ◌-◌, ◌<◌, ◌∙◌, ◌∷◌, ◌≡◌, [], ℕ, List, Some, add-one, ap, append_assoc, arith, drop, flat_map, slice_get, slice_range}
+use Rattle.std.proofs.Common.{suc, sym, take, zero}
 
 pub drop_get : {X : Type 0} (xs : List X) (at : ℕ) (x : X) → slice_get xs at ≡ Some x → drop at xs ≡ x ∷ drop (suc at) xs
 drop_get [] at x e = absurd (let z : ⊥ = cc in z)

@@ -1,12 +1,9 @@
 -- What is found in frames, in records and in the heap by its place.
-use Rattle.std.specs.Prelude.{◌≡◌, ℕ, List, [], ◌∷◌, ◌++◌, flat_map, length, Option, slice_index_or}
-use Rattle.cell_value.specs.declared.entries.Touch.{Touch}
-use Rattle.cell_value.specs.declared.entries.Touch.TheVariants.{Make}
+use Rattle.std.specs.Prelude.{◌++◌, ◌∷◌, ◌≡◌, [], ℕ, List, Option, flat_map, length, slice_index_or}
+use Rattle.cell_value.specs.declared.entries.Touch.{Touch, TheVariants.Make}
 use Rattle.core_program.specs.ProgramRows.{ProgramRows}
+use Rattle.cell_names.specs.{Layouts.frame_parts, Layouts.part, Places.finds, Records.record_parts}
 use Rattle.cell_names.specs.declared.places.PlacedPart.{PlacedPart}
-use Rattle.cell_names.specs.Places.{finds}
-use Rattle.cell_names.specs.Layouts.{part, frame_parts}
-use Rattle.cell_names.specs.Records.{record_parts}
 
 -- the block of the heap that a touch makes, with its type as its number
 abbrev pub block_by : Touch → List PlacedPart

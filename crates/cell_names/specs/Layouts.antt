@@ -1,25 +1,19 @@
 -- What frames are made of, from the tables of a program (ISO 7185, 6.2.1, 6.4.3.3, 6.6.3).
-use Rattle.std.specs.Prelude.{ℕ, zero, suc, ◌+◌, ◌-◌, ◌==◌, Bool, false, min, List, [], ◌++◌, filter}
-use Rattle.std.specs.Prelude.{filter_map}
-use Rattle.std.specs.Prelude.{Option, Some, None, option_to_list, if◌then◌else◌}
+use Rattle.std.specs.Prelude.{if◌then◌else◌, ◌++◌, ◌+◌, ◌-◌, ◌==◌, [], ℕ, Bool, List, None, Option, Some, false, filter}
+use Rattle.std.specs.Prelude.{filter_map, min, option_to_list, suc, zero}
 use Rattle.std.specs.List.{range_with_len}
 use Rattle.cell_value.specs.Effects.{last_of}
+use Rattle.core_program.specs.ProgramRows.{ProgramRows, routine_at, row_at}
 use Rattle.core_program.specs.declared.program.Routine.{Routine}
-use Rattle.core_program.specs.declared.rows.Row.{Row}
-use Rattle.core_program.specs.declared.rows.Row.TheVariants as row
-use Rattle.core_program.specs.declared.rows.NameRow.TheVariants as named
-use Rattle.core_program.specs.declared.rows.PartRow.TheVariants as constituent
-use Rattle.core_program.specs.declared.rows.ItemRow.TheVariants as item
-use Rattle.core_program.specs.declared.rows.Mode.TheVariants as mode
-use Rattle.core_program.specs.ProgramRows.{ProgramRows, row_at, routine_at}
+use Rattle.core_program.specs.declared.rows.{ItemRow.ItemRow, Mode.Mode, NameRow.NameRow, PartRow.PartRow, Row.Row}
 use Rattle.cell_names.specs.declared.places.PlacedPart.{PlacedPart}
 
 abbrev pub part : (place number : ℕ) → PlacedPart
 part place number = record { place = place; number = number }
 
 abbrev pub named_part : (number : ℕ) → Row → Option PlacedPart
-named_part number (row.Name (named.Variable mode' of' place level)) = Some (part place number)
-named_part number (row.Name (named.RoutineFormal place level heading)) = Some (part place number)
+named_part number (Row.Name (NameRow.Variable mode' of' place level)) = Some (part place number)
+named_part number (Row.Name (NameRow.RoutineFormal place level heading)) = Some (part place number)
 named_part number r = None
 
 -- what the name at a token is in its frame
@@ -37,19 +31,19 @@ section_parts p (suc count) token = parts_at p token ++ section_parts p count (n
 
 -- a procedure or function as a parameter, by its heading
 abbrev pub heading_part : ProgramRows → Row → List PlacedPart
-heading_part p (row.Part (constituent.Heading name sections result)) = parts_at p name
+heading_part p (Row.Part (PartRow.Heading name sections result)) = parts_at p name
 heading_part p r = []
 
 -- the parameters of a section
 abbrev pub section_of : ProgramRows → Row → List PlacedPart
-section_of p (row.Item (item.Section mode' first count next)) = section_parts p count first
-section_of p (row.Item (item.RoutineSection heading next)) = heading_part p (row_at p heading)
+section_of p (Row.Item (ItemRow.Section mode' first count next)) = section_parts p count first
+section_of p (Row.Item (ItemRow.RoutineSection heading next)) = heading_part p (row_at p heading)
 section_of p r = []
 
 -- where the section after one stands
 abbrev pub section_after : Row → Option ℕ
-section_after (row.Item (item.Section mode' first count next)) = Some next
-section_after (row.Item (item.RoutineSection heading next)) = Some next
+section_after (Row.Item (ItemRow.Section mode' first count next)) = Some next
+section_after (Row.Item (ItemRow.RoutineSection heading next)) = Some next
 section_after r = None
 
 abbrev pub parts_after : (rest : ℕ → List PlacedPart) → Option ℕ → List PlacedPart
@@ -67,7 +61,7 @@ unfoldable pub most_sections : ℕ
 most_sections = 1048576
 
 abbrev pub parameters_in : ProgramRows → Row → List PlacedPart
-parameters_in p (row.Part (constituent.Heading name sections result)) = sections_parts p most_sections sections
+parameters_in p (Row.Part (PartRow.Heading name sections result)) = sections_parts p most_sections sections
 parameters_in p r = []
 
 -- the parameters of a routine, in order
@@ -75,8 +69,8 @@ abbrev pub parameters_of : ProgramRows → Routine → List PlacedPart
 parameters_of p r = parameters_in p (row_at p r.heading)
 
 abbrev pub is_name_of : Row → (number name : ℕ) → Bool
-is_name_of (row.Name (named.Routine assigned n region)) number name = n == number
-is_name_of (row.Part (constituent.Completing first)) number name = first == name
+is_name_of (Row.Name (NameRow.Routine assigned n region)) number name = n == number
+is_name_of (Row.Part (PartRow.Completing first)) number name = first == name
 is_name_of r number name = false
 
 abbrev pub token_or_zero : Option ℕ → ℕ
@@ -90,7 +84,7 @@ block_start p number name before =
     token_or_zero (last_of (filter (λ token. is_name_of (row_at p token) number name) (range_with_len 0 before)))
 
 abbrev pub own_in : (level number : ℕ) → Row → Option PlacedPart
-own_in level number (row.Name (named.Variable mode.Own of' place l)) =
+own_in level number (Row.Name (NameRow.Variable Mode.Own of' place l)) =
     if l == level then Some (part place number) else None
 own_in level number r = None
 

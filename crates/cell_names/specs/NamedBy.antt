@@ -1,17 +1,12 @@
 -- Which cells a name names: the cell that is printed so; or, if it is cut short, all cells of a variable, of a part of
 -- one, or of a frame.
-use Rattle.std.specs.Prelude.{ℕ, zero, suc, ◌==◌, nat_eq, Bool, true, false, ◌||◌, List, ◌++◌, codes, decimal, drop}
-use Rattle.std.specs.Prelude.{length, Option, Some, None, if◌then◌else◌}
-use Rattle.std.specs.List.{starts_with}
-use Rattle.std.specs.Str.{bytes_eq}
+use Rattle.std.specs.Prelude.{if◌then◌else◌, ◌++◌, ◌==◌, ◌||◌, ℕ, Bool, List, None, Option, Some, codes, decimal, drop}
+use Rattle.std.specs.Prelude.{false, length, nat_eq, suc, true, zero}
+use Rattle.std.specs.{List.starts_with, Str.bytes_eq}
 use Rattle.core_program.specs.ProgramRows.{ProgramRows, name_of}
-use Rattle.cell_names.specs.declared.names.Spot.{Spot}
-use Rattle.cell_names.specs.declared.names.Step.{Step}
-use Rattle.cell_names.specs.declared.names.Origin.{Origin}
-use Rattle.cell_names.specs.declared.names.Origin.TheVariants as origin
-use Rattle.cell_names.specs.declared.names.Root.{Root}
-use Rattle.cell_names.specs.Values.{heap_number}
 use Rattle.cell_names.specs.Names.{Scene, most_types, origin_text, selector_text, step_down, whose_text}
+use Rattle.cell_names.specs.Values.{heap_number}
+use Rattle.cell_names.specs.declared.names.{Origin.Origin, Root.Root, Spot.Spot, Step.Step}
 
 -- what is left of a name after its first part, if it begins so
 abbrev pub after_part : (part name : List ℕ) → Option (List ℕ)
@@ -54,8 +49,8 @@ leads_within s (suc most) at name =
 
 -- whether a name is that of all cells of a frame, as `f#3`, or of a variable of the heap before its last `^`
 abbrev pub is_of_all : ProgramRows → Origin → (name : List ℕ) → Bool
-is_of_all p (origin.Heap base) name = bytes_eq (name ++ codes "^") (origin_text p (origin.Heap base))
-is_of_all p (origin.Local call routine token) name = bytes_eq (name ++ codes ".") (whose_text p call routine)
+is_of_all p (Origin.Heap base) name = bytes_eq (name ++ codes "^") (origin_text p (Origin.Heap base))
+is_of_all p (Origin.Local call routine token) name = bytes_eq (name ++ codes ".") (whose_text p call routine)
 
 -- whether a name is that of a cell, or that name cut before one of its selectors, before the variable of a frame, or
 -- before the last `^` of a variable of the heap

@@ -1,32 +1,14 @@
 -- Names of cells: the variable, whose it is, and the selectors on the way down to the cell (ISO 7185, 6.5).
-use Rattle.std.specs.Prelude.{◌≡◌, ℕ, zero, suc, ◌-◌, ◌/◌, ◌%◌, ◌==◌, nat_le, Bool, false, ℤ, pos}
-use Rattle.std.specs.Prelude.{◌+ℤ◌}
-use Rattle.std.specs.Prelude.{List, [], ◌++◌, codes, decimal, Option, Some, None, slice_get, if◌then◌else◌}
+use Rattle.std.specs.Prelude.{if◌then◌else◌, ◌%◌, ◌++◌, ◌+ℤ◌, ◌-◌, ◌/◌, ◌==◌, ◌≡◌, [], ℕ, ℤ, Bool, List, None, Option}
+use Rattle.std.specs.Prelude.{Some, codes, decimal, false, nat_le, pos, slice_get, suc, zero}
 use Rattle.cell_value.specs.Effects.{heap_start}
-use Rattle.core_program.specs.declared.program.Routine.{Routine}
-use Rattle.core_program.specs.declared.rows.Row.{Row}
-use Rattle.core_program.specs.declared.rows.Row.TheVariants as row
-use Rattle.core_program.specs.declared.rows.NameRow.TheVariants as named
-use Rattle.core_program.specs.declared.rows.PartRow.TheVariants as constituent
-use Rattle.core_program.specs.declared.rows.TypeRow.{TypeRow}
-use Rattle.core_program.specs.declared.rows.TypeRow.TheVariants as kind
-use Rattle.core_program.specs.declared.rows.Mode.TheVariants as mode
 use Rattle.core_program.specs.ProgramRows.{ProgramRows, name_of, routine_at, row_at, size_of, text_at, type_at}
-use Rattle.cell_names.specs.declared.places.PlacedPart.{PlacedPart}
-use Rattle.cell_names.specs.declared.values.Bounds.{Bounds}
-use Rattle.cell_names.specs.declared.names.Held.{Held}
-use Rattle.cell_names.specs.declared.names.Held.TheVariants as held
-use Rattle.cell_names.specs.declared.names.Spot.{Spot}
-use Rattle.cell_names.specs.declared.names.Selector.{Selector}
-use Rattle.cell_names.specs.declared.names.Selector.TheVariants as selector
-use Rattle.cell_names.specs.declared.names.Step.{Step}
-use Rattle.cell_names.specs.declared.names.Origin.{Origin}
-use Rattle.cell_names.specs.declared.names.Origin.TheVariants as origin
-use Rattle.cell_names.specs.declared.names.Root.{Root}
-use Rattle.cell_names.specs.declared.names.Local.{Local}
-use Rattle.cell_names.specs.Places.{finds}
-use Rattle.cell_names.specs.Finding.{Finding, NameLists, finding_in}
+use Rattle.core_program.specs.declared.program.Routine.{Routine}
+use Rattle.core_program.specs.declared.rows.{Mode.Mode, NameRow.NameRow, PartRow.PartRow, Row.Row, TypeRow.TypeRow}
+use Rattle.cell_names.specs.{Finding.Finding, Finding.NameLists, Finding.finding_in, Places.finds}
 use Rattle.cell_names.specs.Values.{bounds_of, heap_number, ordinal_text}
+use Rattle.cell_names.specs.declared.{names.Selector.Selector, places.PlacedPart.PlacedPart, values.Bounds.Bounds}
+use Rattle.cell_names.specs.declared.names.{Held.Held, Local.Local, Origin.Origin, Root.Root, Spot.Spot, Step.Step}
 
 -- What the names of cells stand on: a program and what is found in it by its place; of each call of its run the
 -- routine; and the calls that are open, by the places where their frames begin.
@@ -65,15 +47,15 @@ least_in (Some b) = b.least
 abbrev pub component_step : ProgramRows → (index component place : ℕ) → (size : ℕ) → Option Step
 component_step p index component place zero = None
 component_step p index component place (suc n) = Some (step
-    (selector.Index index (least_in (bounds_of p index) +ℤ pos (place / suc n)))
-    (spot (held.Variable component) (place % suc n)))
+    (Selector.Index index (least_in (bounds_of p index) +ℤ pos (place / suc n)))
+    (spot (Held.Variable component) (place % suc n)))
 
 abbrev pub field_step : (number place : ℕ) → Row → Option Step
-field_step number place (row.Name (named.Field of' offset holder)) =
-    Some (step (selector.Field number) (spot (held.Variable of') place))
-field_step number place (row.Name (named.Tag of' offset holder variants)) =
-    Some (step (selector.Field number) (spot (held.Variable of') place))
-field_step number place (row.Part r) = Some (step selector.Case (spot held.HiddenTag place))
+field_step number place (Row.Name (NameRow.Field of' offset holder)) =
+    Some (step (Selector.Field number) (spot (Held.Variable of') place))
+field_step number place (Row.Name (NameRow.Tag of' offset holder variants)) =
+    Some (step (Selector.Field number) (spot (Held.Variable of') place))
+field_step number place (Row.Part r) = Some (step Selector.Case (spot Held.HiddenTag place))
 field_step number place r = None
 
 -- the field or the tag of a record that has a place of it
@@ -82,14 +64,14 @@ record_step p place None = None
 record_step p place (Some part) = field_step part.number (place - part.place) (row_at p part.number)
 
 abbrev pub typed_step : Scene → (of' place : ℕ) → Option TypeRow → Option Step
-typed_step s of' place (Some (kind.Array packed index component cells)) =
+typed_step s of' place (Some (TypeRow.Array packed index component cells)) =
     component_step s.program index component place (size_of s.program component)
-typed_step s of' place (Some (kind.Record packed region cells variants)) =
+typed_step s of' place (Some (TypeRow.Record packed region cells variants)) =
     record_step s.program place (s.finding.component of' place)
 typed_step s of' place t = None
 
 abbrev pub step_by : Scene → (place : ℕ) → Held → Option Step
-step_by s place (held.Variable of') = typed_step s of' place (type_at s.program of')
+step_by s place (Held.Variable of') = typed_step s of' place (type_at s.program of')
 step_by s place h = None
 
 -- one step down to the cell at a place of a variable: the component of an array, or the field or the tag of a record
@@ -98,12 +80,12 @@ step_down s at = step_by s at.place at.held
 
 -- a selector: an index by the text of its value
 abbrev pub selector_text : ProgramRows → Selector → List ℕ
-selector_text p (selector.Index of' value) = codes "[" ++ ordinal_text p of' value ++ codes "]"
-selector_text p (selector.Field number) = codes "." ++ text_at p number
-selector_text p selector.Case = codes ".case"
+selector_text p (Selector.Index of' value) = codes "[" ++ ordinal_text p of' value ++ codes "]"
+selector_text p (Selector.Field number) = codes "." ++ text_at p number
+selector_text p Selector.Case = codes ".case"
 
 abbrev pub is_of_type : (of' : ℕ) → Held → Bool
-is_of_type of' (held.Variable t) = t == of'
+is_of_type of' (Held.Variable t) = t == of'
 is_of_type of' h = false
 
 -- whether the way down ends here, since this is a variable of the type that is wanted
@@ -149,7 +131,7 @@ pub record WentDown (before : List ℕ) (w : WayDown) (after : List ℕ) (end : 
   pub ends : end ≡ w.end
 
 abbrev pub result_of : Row → Option ℕ
-result_of (row.Part (constituent.Heading name sections result)) = result
+result_of (Row.Part (PartRow.Heading name sections result)) = result
 result_of r = None
 
 abbrev pub local : (token : ℕ) → Held → (place : ℕ) → Local
@@ -157,14 +139,14 @@ local token h place = record { token = token; spot = spot h place }
 
 abbrev pub result_local : Routine → Option ℕ → Option Local
 result_local r None = None
-result_local r (Some of') = Some (local r.name (held.Variable of') 0)
+result_local r (Some of') = Some (local r.name (Held.Variable of') 0)
 
 abbrev pub named_local : (token place : ℕ) → Row → Option Local
-named_local token place (row.Name (named.Variable mode.Place of' at level)) =
-    Some (local token (held.Reference of') place)
-named_local token place (row.Name (named.Variable mode' of' at level)) =
-    Some (local token (held.Variable of') place)
-named_local token place (row.Name (named.RoutineFormal at level heading)) = Some (local token held.Routine place)
+named_local token place (Row.Name (NameRow.Variable Mode.Place of' at level)) =
+    Some (local token (Held.Reference of') place)
+named_local token place (Row.Name (NameRow.Variable mode' of' at level)) =
+    Some (local token (Held.Variable of') place)
+named_local token place (Row.Name (NameRow.RoutineFormal at level heading)) = Some (local token Held.Routine place)
 named_local token place r = None
 
 abbrev pub part_local : ProgramRows → (place : ℕ) → Option PlacedPart → Option Local
@@ -192,7 +174,7 @@ root from at = record { origin = from; spot = at }
 
 abbrev pub local_root : (call routine : ℕ) → Option Local → Option Root
 local_root call routine None = None
-local_root call routine (Some l) = Some (root (origin.Local call routine l.token) l.spot)
+local_root call routine (Some l) = Some (root (Origin.Local call routine l.token) l.spot)
 
 abbrev pub root_in : Scene → (call place : ℕ) → (routine : Option ℕ) → Option Root
 root_in s call place None = None
@@ -205,7 +187,7 @@ stack_root s address (Some part) = root_in s part.number (address - part.place) 
 abbrev pub heap_root : (address : ℕ) → Option PlacedPart → Option Root
 heap_root address None = None
 heap_root address (Some part) =
-    Some (root (origin.Heap part.place) (spot (held.Variable part.number) (address - part.place)))
+    Some (root (Origin.Heap part.place) (spot (Held.Variable part.number) (address - part.place)))
 
 -- What has an address: a variable of the heap, or what has its place in the frame of the innermost open call whose
 -- frame begins there or before.
@@ -219,8 +201,8 @@ abbrev pub whose_text : ProgramRows → (call routine : ℕ) → List ℕ
 whose_text p call routine = if call == 0 then [] else name_of p routine ++ codes "#" ++ decimal call ++ codes "."
 
 abbrev pub origin_text : ProgramRows → Origin → List ℕ
-origin_text p (origin.Heap base) = codes "^" ++ decimal (heap_number base) ++ codes "^"
-origin_text p (origin.Local call routine token) = whose_text p call routine ++ text_at p token
+origin_text p (Origin.Heap base) = codes "^" ++ decimal (heap_number base) ++ codes "^"
+origin_text p (Origin.Local call routine token) = whose_text p call routine ++ text_at p token
 
 -- the name of a cell: what the way down begins at, and the selectors
 abbrev pub cell_text : Scene → (wanted : Option ℕ) → Root → List ℕ

@@ -1,6 +1,6 @@
 -- Pieces of text: characters, and what was read and written.
-use Rattle.std.specs.Prelude.{ℕ, ◌+◌, ◌/◌, ◌%◌, ◌==◌, Bool, ◌&&◌, ◌||◌, nat_le, nat_lt, List, [], ◌∷◌, ◌++◌, codes}
-use Rattle.std.specs.Prelude.{decimal, flat_map, if◌then◌else◌}
+use Rattle.std.specs.Prelude.{if◌then◌else◌, ◌%◌, ◌&&◌, ◌++◌, ◌+◌, ◌/◌, ◌==◌, ◌||◌, ◌∷◌, [], ℕ, Bool, List, codes}
+use Rattle.std.specs.Prelude.{decimal, flat_map, nat_le, nat_lt}
 
 -- whether a character is shown as it is: those from the blank to the tilde are
 abbrev pub is_plain : ℕ → Bool

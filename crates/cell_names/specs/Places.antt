@@ -1,5 +1,5 @@
 -- What begins where: lists of parts of a frame, of a record or of the heap.
-use Rattle.std.specs.Prelude.{ℕ, ◌<◌, ◌≤◌, Bool, true, nat_le, List, Option, Some, None, length, filter, slice_index_or}
+use Rattle.std.specs.Prelude.{◌<◌, ◌≤◌, ℕ, Bool, List, None, Option, Some, filter, length, nat_le, slice_index_or, true}
 use Rattle.std.specs.List.{AllPairs}
 use Rattle.cell_value.specs.Effects.{last_of}
 use Rattle.cell_names.specs.declared.places.PlacedPart.{PlacedPart}
@@ -30,3 +30,9 @@ pub record IsSplit (place : ℕ) (parts : List PlacedPart) (n : ℕ) : Type 0 wh
   pub inside : n ≤ length parts
   pub before : (k : ℕ) (d : PlacedPart) → k < n → (slice_index_or parts k d).place < place
   pub after : (k : ℕ) (d : PlacedPart) → n ≤ k → k < length parts → place ≤ (slice_index_or parts k d).place
+
+-- A place before the part of a number, which is none of the first ones. So what has the place, if it is none of those,
+-- is a part before that one.
+pub record IsAmong (parts : List PlacedPart) (first last place : ℕ) : Type 0 where
+  pub some : first < last
+  pub before : (d : PlacedPart) → last < length parts → place < (slice_index_or parts last d).place

@@ -1,38 +1,31 @@
 -- Which record has a field or a tag, and where (ISO 7185, 6.4.3.3).
-use Rattle.std.specs.Prelude.{ℕ, zero, suc, ◌==◌, ◌&&◌, nat_lt, Bool, true, false, List, [], ◌∷◌, flat_map, Option}
-use Rattle.std.specs.Prelude.{Some, None}
-use Rattle.std.specs.Prelude.{if◌then◌else◌, ◌-◌}
+use Rattle.std.specs.Prelude.{if◌then◌else◌, ◌&&◌, ◌-◌, ◌==◌, ◌∷◌, [], ℕ, Bool, List, None, Option, Some, false}
+use Rattle.std.specs.Prelude.{flat_map, nat_lt, suc, true, zero}
 use Rattle.std.specs.List.{range_with_len}
-use Rattle.core_program.specs.declared.rows.Row.{Row}
-use Rattle.core_program.specs.declared.rows.Row.TheVariants as row
-use Rattle.core_program.specs.declared.rows.NameRow.TheVariants as named
-use Rattle.core_program.specs.declared.rows.PartRow.TheVariants as constituent
-use Rattle.core_program.specs.declared.rows.TypeRow.TheVariants as kind
 use Rattle.core_program.specs.ProgramRows.{ProgramRows, row_at}
-use Rattle.cell_names.specs.declared.places.PlacedPart.{PlacedPart}
-use Rattle.cell_names.specs.declared.records.Component.{Component}
-use Rattle.cell_names.specs.declared.records.Placed.{Placed}
+use Rattle.core_program.specs.declared.rows.{NameRow.NameRow, PartRow.PartRow, Row.Row, TypeRow.TypeRow}
 use Rattle.cell_names.specs.Layouts.{part}
+use Rattle.cell_names.specs.declared.{places.PlacedPart.PlacedPart, records.Component.Component, records.Placed.Placed}
 
 -- a field, a tag field or a hidden tag: where it begins, and the record or the variant that holds it
 abbrev pub component_in : Row → Option Component
-component_in (row.Name (named.Field of' offset holder)) = Some (record { offset = offset; holder = holder })
-component_in (row.Name (named.Tag of' offset holder variants)) = Some (record { offset = offset; holder = holder })
-component_in (row.Part (constituent.Variants true offset cells values holder)) =
+component_in (Row.Name (NameRow.Field of' offset holder)) = Some (record { offset = offset; holder = holder })
+component_in (Row.Name (NameRow.Tag of' offset holder variants)) = Some (record { offset = offset; holder = holder })
+component_in (Row.Part (PartRow.Variants true offset cells values holder)) =
     Some (record { offset = offset; holder = holder })
 component_in r = None
 
 abbrev pub is_record : Row → Bool
-is_record (row.Type (kind.Record packed region cells variants)) = true
+is_record (Row.Type (TypeRow.Record packed region cells variants)) = true
 is_record r = false
 
 abbrev pub part_holder : Row → Option ℕ
-part_holder (row.Part (constituent.Variants hidden offset cells values holder)) = Some holder
+part_holder (Row.Part (PartRow.Variants hidden offset cells values holder)) = Some holder
 part_holder r = None
 
 -- the record or the variant that holds the variant part of a variant
 abbrev pub holder_around : ProgramRows → Row → Option ℕ
-holder_around p (row.Part (constituent.Variant variants position)) = part_holder (row_at p variants)
+holder_around p (Row.Part (PartRow.Variant variants position)) = part_holder (row_at p variants)
 holder_around p r = None
 
 abbrev pub further_holder : (go : ℕ → Option ℕ) → Option ℕ → Option ℕ

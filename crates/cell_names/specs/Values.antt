@@ -1,27 +1,20 @@
 -- Values by their types (ISO 7185, 6.4): what is shown of them.
-use Rattle.std.specs.Prelude.{ℕ, ◌+◌, ◌*◌, ◌-◌, ◌==◌, min, ℤ, pos, negsuc, ◌&&◌, int_le, Bool, true, false}
-use Rattle.std.specs.Prelude.{List, [], ◌∷◌, ◌++◌, codes, decimal, filter, flat_map, Option, Some, None}
-use Rattle.std.specs.Prelude.{if◌then◌else◌}
-use Rattle.std.specs.List.{range_with_len}
-use Rattle.std.specs.Fmt.{signed_decimal}
-use Rattle.cell_value.specs.declared.values.Value.{Value}
-use Rattle.cell_value.specs.declared.values.Value.TheVariants as value
-use Rattle.cell_value.specs.declared.values.SetBits.{SetBits}
-use Rattle.cell_value.specs.Sets.{has}
+use Rattle.std.specs.Prelude.{if◌then◌else◌, ◌&&◌, ◌*◌, ◌++◌, ◌+◌, ◌-◌, ◌==◌, ◌∷◌, [], ℕ, ℤ, Bool, List, None, Option}
+use Rattle.std.specs.Prelude.{Some, codes, decimal, false, filter, flat_map, int_le, min, negsuc, pos, true}
+use Rattle.std.specs.{Fmt.signed_decimal, List.range_with_len}
+use Rattle.cell_value.specs.{Sets.has, declared.values.SetBits.SetBits, declared.values.Value.Value}
+use Rattle.core_program.specs.ProgramRows.{ProgramRows, text_at, type_at}
+use Rattle.core_program.specs.declared.rows.TheConstants.{BOOLEAN, CHAR, INTEGER}
 use Rattle.core_program.specs.declared.rows.TypeRow.{TypeRow}
-use Rattle.core_program.specs.declared.rows.TypeRow.TheVariants as kind
-use Rattle.core_program.specs.declared.rows.TheConstants.{INTEGER, BOOLEAN, CHAR}
-use Rattle.core_program.specs.ProgramRows.{ProgramRows, type_at, text_at}
-use Rattle.cell_names.specs.declared.values.Bounds.{Bounds}
-use Rattle.cell_names.specs.Pieces.{shown_char}
+use Rattle.cell_names.specs.{Pieces.shown_char, declared.values.Bounds.Bounds}
 
 -- the text of a cell to which nothing was assigned, or that holds no value of its type
 abbrev pub unknown : List ℕ
 unknown = codes "?"
 
 abbrev pub bounds_in : (of' : ℕ) → Option TypeRow → Option Bounds
-bounds_in of' (Some (kind.Ordinal least greatest)) = Some (record { host = of'; least = least; greatest = greatest })
-bounds_in of' (Some (kind.Subrange host least greatest)) =
+bounds_in of' (Some (TypeRow.Ordinal least greatest)) = Some (record { host = of'; least = least; greatest = greatest })
+bounds_in of' (Some (TypeRow.Subrange host least greatest)) =
     Some (record { host = host; least = least; greatest = greatest })
 bounds_in of' t = None
 
@@ -81,23 +74,23 @@ abbrev pub heap_number : (address : ℕ) → ℕ
 heap_number address = address - 524287
 
 abbrev pub pointer_text : Value → List ℕ
-pointer_text value.Nil = codes "nil"
-pointer_text (value.Heap address) = codes "^" ++ decimal (heap_number address)
+pointer_text Value.Nil = codes "nil"
+pointer_text (Value.Heap address) = codes "^" ++ decimal (heap_number address)
 pointer_text v = unknown
 
 abbrev pub number_text : ProgramRows → (of' : ℕ) → Value → List ℕ
-number_text p of' (value.Number ordinal) = ordinal_text p of' ordinal
+number_text p of' (Value.Number ordinal) = ordinal_text p of' ordinal
 number_text p of' v = unknown
 
 abbrev pub set_value_text : ProgramRows → (base : ℕ) → Value → List ℕ
-set_value_text p base (value.Bits set) = set_text p base set
+set_value_text p base (Value.Bits set) = set_text p base set
 set_value_text p base v = unknown
 
 abbrev pub text_by_type : ProgramRows → (of' : ℕ) → Option TypeRow → Value → List ℕ
-text_by_type p of' (Some (kind.Ordinal least greatest)) v = number_text p of' v
-text_by_type p of' (Some (kind.Subrange host least greatest)) v = number_text p of' v
-text_by_type p of' (Some (kind.Set packed base)) v = set_value_text p base v
-text_by_type p of' (Some (kind.Pointer domain)) v = pointer_text v
+text_by_type p of' (Some (TypeRow.Ordinal least greatest)) v = number_text p of' v
+text_by_type p of' (Some (TypeRow.Subrange host least greatest)) v = number_text p of' v
+text_by_type p of' (Some (TypeRow.Set packed base)) v = set_value_text p base v
+text_by_type p of' (Some (TypeRow.Pointer domain)) v = pointer_text v
 text_by_type p of' t v = unknown
 
 -- a value of a type

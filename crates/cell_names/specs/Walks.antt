@@ -1,22 +1,14 @@
 -- A walk over the addresses of a run in search of the cells that a name names: what it may pass over at once.
-use Rattle.std.specs.Prelude.{◌≡◌, ℕ, zero, suc, ◌+◌, ◌-◌, ◌%◌, ◌≤◌, nat_lt, min, ◌==◌, ◌||◌, Bool, true, false}
-use Rattle.std.specs.Prelude.{List, ◌++◌, codes, pos, ◌+ℤ◌, ◌/◌, Option, Some, None, is_some, if◌then◌else◌}
+use Rattle.std.specs.Prelude.{if◌then◌else◌, ◌%◌, ◌++◌, ◌+ℤ◌, ◌+◌, ◌-◌, ◌/◌, ◌<◌, ◌==◌, ◌||◌, ◌≡◌, ◌≤◌, ℕ, Bool, List}
+use Rattle.std.specs.Prelude.{None, Option, Some, codes, false, is_some, min, nat_lt, pos, slice_get, slice_index_or}
+use Rattle.std.specs.Prelude.{suc, true, zero}
+use Rattle.core_program.specs.ProgramRows.{ProgramRows, size_of, text_at, type_at}
 use Rattle.core_program.specs.declared.rows.TypeRow.{TypeRow}
-use Rattle.core_program.specs.declared.rows.TypeRow.TheVariants as kind
-use Rattle.core_program.specs.ProgramRows.{ProgramRows, size_of, type_at}
-use Rattle.cell_names.specs.declared.places.PlacedPart.{PlacedPart}
-use Rattle.cell_names.specs.declared.names.Held.{Held}
-use Rattle.cell_names.specs.declared.names.Held.TheVariants as held
-use Rattle.cell_names.specs.declared.names.Spot.{Spot}
-use Rattle.cell_names.specs.declared.names.Step.{Step}
-use Rattle.cell_names.specs.declared.names.Local.{Local}
-use Rattle.cell_names.specs.declared.names.Root.{Root}
-use Rattle.cell_names.specs.declared.walks.Components.{Components}
-use Rattle.cell_names.specs.declared.walks.Walked.{Walked}
-use Rattle.cell_names.specs.declared.walks.Walked.TheVariants as walked
+use Rattle.cell_names.specs.NamedBy.{after_part, block_text, call_text, is_named_by, is_over}
+use Rattle.cell_names.specs.Names.{Scene, is_result, least_in, record_step, root, root_at, selector_text, spot, step}
 use Rattle.cell_names.specs.Values.{bounds_of, within_bounds}
-use Rattle.cell_names.specs.Names.{Scene, least_in, local, root, root_at, spot, step}
-use Rattle.cell_names.specs.NamedBy.{after_part, block_text, call_text, is_named_by}
+use Rattle.cell_names.specs.declared.{places.PlacedPart.PlacedPart, walks.Components.Components, walks.Walked.Walked}
+use Rattle.cell_names.specs.declared.names.{Held.Held, Local.Local, Root.Root, Spot.Spot, Step.Step}
 
 -- the cell this many places after another
 abbrev pub moved : (k : ℕ) → Spot → Spot
@@ -42,9 +34,14 @@ is_named_root s name (Some r) = is_named_by s r name
 unfoldable pub is_named_at : Scene → (name : List ℕ) → (address : ℕ) → Bool
 is_named_at s name address = is_named_root s name (root_at s address)
 
--- whether a name goes on after the name of a call, or the call is the program's, whose variables have their own names
+-- whether a name ends here, or goes on with the variable of a frame
+abbrev pub ends_or_dots : (left : Option (List ℕ)) → Bool
+ends_or_dots None = false
+ends_or_dots (Some rest) = is_over rest || is_some (after_part (codes ".") rest)
+
+-- whether a name is a call's, or one of a variable of its frame; those of the program's variables are their own
 abbrev pub is_of_call : ProgramRows → (call routine : ℕ) → (name : List ℕ) → Bool
-is_of_call p call routine name = (call == 0) || is_some (after_part (call_text p call routine) name)
+is_of_call p call routine name = (call == 0) || ends_or_dots (after_part (call_text p call routine) name)
 
 -- whether a name can be that of a variable of the heap, and of one of them
 abbrev pub is_of_heap : (name : List ℕ) → Bool
@@ -56,7 +53,7 @@ is_of_block name (Some part) = is_some (after_part (block_text part.place) name)
 
 -- the components of an array
 abbrev pub components_in : ProgramRows → Option TypeRow → Option Components
-components_in p (Some (kind.Array packed index component cells)) = Some (record {
+components_in p (Some (TypeRow.Array packed index component cells)) = Some (record {
   index = index;
   bounds = bounds_of p index;
   component = component;
@@ -65,7 +62,7 @@ components_in p (Some (kind.Array packed index component cells)) = Some (record 
 components_in p t = None
 
 abbrev pub components_of : ProgramRows → Held → Option Components
-components_of p (held.Variable of') = components_in p (type_at p of')
+components_of p (Held.Variable of') = components_in p (type_at p of')
 components_of p h = None
 
 -- whether a name goes on with the index of the component that has a place of an array
@@ -79,16 +76,64 @@ is_indexed_by p a place (suc n) name = is_some (after_part (index_text p a (plac
 abbrev pub is_indexed : ProgramRows → Components → (place : ℕ) → (name : List ℕ) → Bool
 is_indexed p a place name = is_indexed_by p a place a.size name
 
+-- the type of the record that a cell is of
+abbrev pub record_in : (of' : ℕ) → Option TypeRow → Option ℕ
+record_in of' (Some (TypeRow.Record packed region cells variants)) = Some of'
+record_in of' t = None
+
+abbrev pub record_of : ProgramRows → Held → Option ℕ
+record_of p (Held.Variable of') = record_in of' (type_at p of')
+record_of p h = None
+
+-- whether a name goes on with a field or a tag of a record
+abbrev pub goes_by : ProgramRows → Option Step → (name : List ℕ) → Bool
+goes_by p None name = false
+goes_by p (Some s) name = is_some (after_part (selector_text p s.selector) name)
+
+abbrev pub is_selected : ProgramRows → Option PlacedPart → (name : List ℕ) → Bool
+is_selected p part name = goes_by p (record_step p 0 part) name
+
+-- whether what is left of a name goes on with a variable of a frame
+abbrev pub is_of_local : ProgramRows → (left : List ℕ) → Option PlacedPart → Bool
+is_of_local p left None = false
+is_of_local p left (Some part) = is_some (after_part (text_at p part.number) left)
+
+-- whether a name can be that of a variable of a frame
+abbrev pub is_of_routine : Scene → (call : ℕ) → (routine : Option ℕ) → (name : List ℕ) → Bool
+is_of_routine s call None name = false
+is_of_routine s call (Some routine) name = is_of_call s.program call routine name
+
+abbrev pub is_of_frame : Scene → Option PlacedPart → (name : List ℕ) → Bool
+is_of_frame s None name = false
+is_of_frame s (Some part) name = is_of_routine s part.number (slice_get s.routines part.number) name
+
+-- the same of what has a place of a record, and of a frame whose routine has its result at a place
+abbrev pub is_selected_at : Scene → (owner place : ℕ) → (name : List ℕ) → Bool
+is_selected_at s owner place name = is_selected s.program (s.finding.component owner place) name
+
+abbrev pub is_local_at : Scene → (routine : ℕ) → (result : Option ℕ) → (place : ℕ) → (left : List ℕ) → Bool
+is_local_at s routine result place left =
+    is_result result place || is_of_local s.program left (s.finding.frame routine place)
+
+-- none of the numbers after one, up to another, are such
+abbrev pub NoneAfter : (such : ℕ → Bool) → (first last : ℕ) → Type 0
+NoneAfter such first last = (k : ℕ) → first < k → k ≤ last → such k ≡ false
+
+-- none of some parts is such, from one of them on to before another
+abbrev pub NoneFrom : (such : Option PlacedPart → Bool) → List PlacedPart → (first last : ℕ) → Type 0
+NoneFrom such parts first last =
+    (k : ℕ) (d : PlacedPart) → first ≤ k → k < last → such (Some (slice_index_or parts k d)) ≡ false
+
 -- what was found of the cells from one on, which are told by their distance: the first is named, or this many more
 -- than the first are not
 abbrev pub WalksOver : Scene → (name : List ℕ) → (roots : ℕ → Option Root) → Walked → Type 0
-WalksOver s name roots (walked.Named r) = (roots 0 ≡ Some r) × (is_named_by s r name ≡ true)
-WalksOver s name roots (walked.Unnamed more) = (k : ℕ) → k ≤ more → is_named_root s name (roots k) ≡ false
+WalksOver s name roots (Walked.Named r) = (roots 0 ≡ Some r) × (is_named_by s r name ≡ true)
+WalksOver s name roots (Walked.Unnamed more) = (k : ℕ) → k ≤ more → is_named_root s name (roots k) ≡ false
 
 -- the same of what has an address, and of the addresses after it
 abbrev pub Walks : Scene → (name : List ℕ) → (address : ℕ) → Walked → Type 0
-Walks s name address (walked.Named r) = (root_at s address ≡ Some r) × (is_named_by s r name ≡ true)
-Walks s name address (walked.Unnamed more) = (k : ℕ) → k ≤ more → is_named_at s name (address + k) ≡ false
+Walks s name address (Walked.Named r) = (root_at s address ≡ Some r) × (is_named_by s r name ≡ true)
+Walks s name address (Walked.Unnamed more) = (k : ℕ) → k ≤ more → is_named_at s name (address + k) ≡ false
 
 -- how many cells after one are of the same component of an array
 abbrev pub left_of_component : (place size : ℕ) → ℕ
@@ -102,5 +147,5 @@ before_result (Some at) place more = if nat_lt place at then min more (at - plac
 
 -- no more than this many are passed over
 abbrev pub limited : Walked → (more : ℕ) → Walked
-limited (walked.Named r) more = walked.Named r
-limited (walked.Unnamed m) more = walked.Unnamed (min m more)
+limited (Walked.Named r) more = Walked.Named r
+limited (Walked.Unnamed m) more = Walked.Unnamed (min m more)

@@ -1,9 +1,9 @@
 //! What is found in frames, in records and in the heap by its place: made once for a run.
 
-ghost use Rattle.std.specs.Prelude.{◌≡◌, ◌+◌, ◌≤◌, ◌++◌, ℕ, IfOk, OnOk, true};
-ghost use Rattle.cell_names.specs.Places.{finds, is_begun_by};
-ghost use Rattle.cell_names.specs.Layouts.{frame_parts};
-ghost use Rattle.cell_names.specs.Finding.{block_by, blocks_of, finding_of, finding_in, list_at};
+ghost use Rattle.std.specs.Prelude.{◌++◌, ◌+◌, ◌<◌, ◌≡◌, ◌≤◌, ℕ, IfOk, OnOk, length, slice_index_or, true};
+ghost use Rattle.cell_names.specs.{Layouts.frame_parts, Places.IsRising, Places.finds, Places.is_begun_by};
+ghost use Rattle.cell_names.specs.Finding.{block_by, blocks_of, finding_in, finding_of, list_at};
+ghost use Rattle.cell_names.specs.declared.places.PlacedPart.{PlacedPart as PartValue};
 
 use crate::layouts::frame_places;
 use crate::places::{Found, PlacedPart, PlacedParts};
@@ -85,11 +85,26 @@ fn find_in(lists: &[PlacedParts], number: u32, place: u32) -> Option<PlacedPart>
     }
 }
 
+/// The list of a number.
+fn list_in(lists: &[PlacedParts], number: u32) -> &[PlacedPart]
+    ensures is { result.now ≡ list_at lists.now number }
+    ensures rising { IsRising result.now }
+{
+    let number = number as usize;
+    if number < lists.len() {
+        lists[number].parts()
+    } else {
+        &[]
+    }
+}
+
 /// What has a place in the list of a number, and how far it goes.
 #[tactic(auto, unfolding(crate::specs::Places::last_at))]
 fn find_near_in(lists: &[PlacedParts], number: u32, place: u32) -> Found
     ensures alike { (k : ℕ) → k ≤ result.more → finds (list_at lists.now number) (place + k) ≡ result.part }
     ensures begun { is_begun_by place result.part ≡ true }
+    ensures next { (d : PartValue) → result.begun < length (list_at lists.now number)
+        → (slice_index_or (list_at lists.now number) result.begun d).place ≤ place + result.more + 1 }
 {
     let number = number as usize;
     if number < lists.len() {
@@ -144,10 +159,28 @@ impl NameFinder {
         self.blocks.find(address)
     }
 
+    /// What has places of the frame of a routine.
+    pub(crate) fn locals(&self, routine: u32) -> &[PlacedPart]
+        ensures is { result.now ≡ list_at self.now.frames routine }
+        ensures rising { IsRising result.now }
+    {
+        list_in(&self.frames, routine)
+    }
+
+    /// What has places of a record.
+    pub(crate) fn components(&self, owner: u32) -> &[PlacedPart]
+        ensures is { result.now ≡ list_at self.now.records owner }
+        ensures rising { IsRising result.now }
+    {
+        list_in(&self.records, owner)
+    }
+
     /// What has a place of the frame of a routine, and how far it goes.
     pub(crate) fn local_near(&self, routine: u32, place: u32) -> Found
         ensures alike { (k : ℕ) → k ≤ result.more → (finding_in self.now).frame routine (place + k) ≡ result.part }
         ensures begun { is_begun_by place result.part ≡ true }
+        ensures next { (d : PartValue) → result.begun < length (list_at self.now.frames routine)
+            → (slice_index_or (list_at self.now.frames routine) result.begun d).place ≤ place + result.more + 1 }
     {
         find_near_in(&self.frames, routine, place)
     }
@@ -156,6 +189,8 @@ impl NameFinder {
     pub(crate) fn component_near(&self, owner: u32, place: u32) -> Found
         ensures alike { (k : ℕ) → k ≤ result.more → (finding_in self.now).component owner (place + k) ≡ result.part }
         ensures begun { is_begun_by place result.part ≡ true }
+        ensures next { (d : PartValue) → result.begun < length (list_at self.now.records owner)
+            → (slice_index_or (list_at self.now.records owner) result.begun d).place ≤ place + result.more + 1 }
     {
         find_near_in(&self.records, owner, place)
     }

@@ -1,12 +1,11 @@
 //! What frames are made of, from the tables of a program.
 
-ghost use Rattle.std.specs.Prelude.{◌≡◌, ◌++◌, OnOk, IfOk, option_to_list};
+ghost use Rattle.std.specs.Prelude.{◌++◌, ◌≡◌, IfOk, OnOk, option_to_list};
 ghost use Rattle.core_program.specs.ProgramRows.{row_at};
-ghost use Rattle.cell_names.specs.Places.{finds};
+ghost use Rattle.cell_names.specs.{Layouts.variables_of, Places.finds};
 ghost use Rattle.cell_names.specs.Layouts.{block_start, frame_parts, heading_part, is_name_of, most_sections};
-ghost use Rattle.cell_names.specs.Layouts.{next_name, section_after, own_between, own_in, parameters_in, parameters_of};
-ghost use Rattle.cell_names.specs.Layouts.{named_part, parts_at, section_of, section_parts, sections_parts};
-ghost use Rattle.cell_names.specs.Layouts.{variables_of};
+ghost use Rattle.cell_names.specs.Layouts.{named_part, next_name, own_between, own_in, parameters_in, parameters_of};
+ghost use Rattle.cell_names.specs.Layouts.{parts_at, section_after, section_of, section_parts, sections_parts};
 
 use crate::places::{PlacedPart, PlacedParts};
 use core_program::rows::{ItemRow, Mode, NameRow, PartRow, Row};

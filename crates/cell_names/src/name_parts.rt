@@ -1,13 +1,11 @@
 //! What is left of a name after the parts that it begins with. They are compared where they stand: no text is written.
 
-ghost use Rattle.std.specs.Prelude.{◌≡◌, ◌∷◌, ◌++◌, [], codes, decimal, length, nat_eq, option_copied};
-ghost use Rattle.std.specs.List.{starts_with};
-ghost use Rattle.std.specs.Str.{bytes_eq};
-ghost use Rattle.std.specs.Fmt.{signed_decimal};
+ghost use Rattle.std.specs.Prelude.{◌++◌, ◌∷◌, ◌≡◌, [], codes, decimal, length, nat_eq, option_copied};
+ghost use Rattle.std.specs.{Fmt.signed_decimal, List.starts_with, Str.bytes_eq};
+ghost use Rattle.cell_names.specs.NamedBy.{after_part, block_text, call_text, is_all, then_part};
+ghost use Rattle.cell_names.specs.Names.{origin_text, selector_text, whose_text};
 ghost use Rattle.cell_names.specs.Pieces.{byte_text, shown_char};
 ghost use Rattle.cell_names.specs.Values.{constant_text, heap_number, host_text, within_bounds};
-ghost use Rattle.cell_names.specs.Names.{origin_text, selector_text, whose_text};
-ghost use Rattle.cell_names.specs.NamedBy.{after_part, block_text, call_text, is_all, then_part};
 
 use crate::names::{Origin, Selector};
 use crate::pieces::is_plain;

@@ -1,10 +1,9 @@
 //! Which cells a name names: whether all of a frame, or of a variable of the heap; and one step down by it.
 
-ghost use Rattle.std.specs.Prelude.{◌≡◌, ℕ, Bool, false, List};
+ghost use Rattle.std.specs.Prelude.{◌≡◌, ℕ, Bool, List, false};
 ghost use Rattle.std.specs.Option.{MatchOption};
-ghost use Rattle.cell_names.specs.Names.{scene_in, step_down};
+ghost use Rattle.cell_names.specs.{NamedBy.is_of_all, NamedBy.leads_by, Names.scene_in, Names.step_down};
 ghost use Rattle.cell_names.specs.declared.names.Spot.{Spot as SpotValue};
-ghost use Rattle.cell_names.specs.NamedBy.{is_of_all, leads_by};
 
 use crate::name_parts::{is_all, then_block, then_call, then_selector};
 use crate::names::{Origin, Scene, Spot, step_down};

@@ -1,6 +1,6 @@
 //! Names of cells: the variable, whose it is, and the selectors on the way down to the cell.
 
-ghost use Rattle.std.specs.Prelude.{◌≡◌, ◌++◌, IfOk, OnOk, Some, slice_get};
+ghost use Rattle.std.specs.Prelude.{◌++◌, ◌≡◌, IfOk, OnOk, Some, slice_get};
 ghost use Rattle.core_program.specs.ProgramRows.{type_at};
 ghost use Rattle.cell_names.specs.Names.{WentDown, cell_held, cell_text, component_step, field_step, heap_root};
 ghost use Rattle.cell_names.specs.Names.{is_of_type, is_result, is_wanted, least_in, local_at, local_in, local_root};
@@ -169,7 +169,7 @@ fn field_step(number: u32, place: u32, row: Row) -> Option<Step>
 }
 
 /// The field or the tag of a record that was found for a place of it.
-fn record_step(program: &Program, place: u32, part: Option<PlacedPart>) -> Option<Step>
+pub(crate) fn record_step(program: &Program, place: u32, part: Option<PlacedPart>) -> Option<Step>
     ensures { result ≡ record_step program.now place part }
 {
     match part {

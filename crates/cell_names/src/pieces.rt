@@ -1,9 +1,9 @@
 //! Pieces of text: numbers, characters, and what was read and written.
 
-ghost use Rattle.std.specs.Prelude.{◌≡◌, ◌++◌, ◌≤◌, OnOk, decimal, flat_map, length, slice_range};
+ghost use Rattle.std.specs.Prelude.{◌++◌, ◌≡◌, ◌≤◌, OnOk, decimal, flat_map, length, slice_range};
 ghost use Rattle.std.specs.Fmt.{signed_decimal};
-ghost use Rattle.cell_names.specs.Pieces.{byte_text, shown_char, escaped, hex_digit, hex_of, is_plain};
-ghost use Rattle.cell_names.specs.Pieces.{in_quotation_marks};
+ghost use Rattle.cell_names.specs.Pieces.{byte_text, escaped, hex_digit, hex_of, in_quotation_marks, is_plain};
+ghost use Rattle.cell_names.specs.Pieces.{shown_char};
 
 use cell_value::Items;
 use edge_ports::Bytes;

@@ -1,8 +1,8 @@
 //! What begins where: lists of parts in which the one that has a place is found by halving.
 
-ghost use Rattle.std.specs.Prelude.{◌≡◌, ◌+◌, ◌<◌, ◌≤◌, ◌++◌, ◌∷◌, [], ℕ, OnOk, length, slice_index_or, true};
+ghost use Rattle.std.specs.Prelude.{◌++◌, ◌+◌, ◌<◌, ◌∷◌, ◌≡◌, ◌≤◌, [], ℕ, IfOk, OnOk, length, slice_index_or, true};
+ghost use Rattle.cell_names.specs.Places.{IsAmong, IsRising, IsSplit, finds, is_begun_by};
 ghost use Rattle.cell_names.specs.declared.places.PlacedPart.{PlacedPart as PartValue};
-ghost use Rattle.cell_names.specs.Places.{IsRising, IsSplit, finds, is_begun_by};
 
 use std::alloc::{AllocError, Global};
 use std::marker::Model;
@@ -23,8 +23,7 @@ pub struct PlacedParts {
 
 impl Model for PlacedParts {
     ghost use Rattle.std.specs.Prelude.{List};
-    ghost use Rattle.cell_names.specs.declared.places.PlacedPart.{PlacedPart};
-    ghost use Rattle.cell_names.specs.Places.{IsRising as IsInOrder};
+    ghost use Rattle.cell_names.specs.{Places.IsRising as IsInOrder, declared.places.PlacedPart.PlacedPart};
 
     ghost Value = { List PlacedPart };
 
@@ -122,13 +121,57 @@ fn count_near(parts: &[PlacedPart], place: u64, guess: usize) -> usize
 fn places_left(parts: &[PlacedPart], at: u32, begun: usize) -> u32
     requires rising { IsRising parts.now }
     requires split { IsSplit (at + 1) parts.now begun }
-    ensures { (k : ℕ) → k ≤ result → IsSplit ((at + k) + 1) parts.now begun }
+    ensures split { (k : ℕ) → k ≤ result → IsSplit ((at + k) + 1) parts.now begun }
+    ensures next { (d : PartValue) → begun < length parts.now
+        → (slice_index_or parts.now begun d).place ≤ at + result + 1 }
 {
     if begun < parts.len() {
         parts[begun].place.saturating_sub(at).saturating_sub(1)
     } else {
         u32::MAX - at
     }
+}
+
+/// How many places after one are before the part of a number, if that is none of the first parts, which begin there or
+/// before; or as many as have the same part.
+#[inline]
+pub(crate) fn places_up_to(parts: &[PlacedPart], at: u32, found: Found, last: usize) -> u32
+    ensures { (k : ℕ) → found.more < k → k ≤ result → IsAmong parts.now found.begun last (at + k) }
+{
+    if last <= found.begun {
+        found.more
+    } else if last < parts.len() {
+        parts[last].place.saturating_sub(at).saturating_sub(1)
+    } else {
+        u32::MAX - at
+    }
+}
+
+/// Whether each of some parts begins before the next one.
+fn are_rising(parts: &[PlacedPart]) -> bool
+    ensures { result ≡ true → IsRising parts.now }
+{
+    let mut at = 1usize;
+    'parts: while at < parts.len() {
+        if parts[at].place <= parts[at - 1].place {
+            return false;
+        }
+        at += 1;
+    }
+    true
+}
+
+/// Parts, one after another.
+fn pushed(alloc: Global, parts: &[PlacedPart]) -> Result<PlacedParts, AllocError>
+    ensures { IfOk result (λ places. finds places ≡ finds parts.now) }
+{
+    let mut places = PlacedParts::new(alloc);
+    let mut at = 0usize;
+    'parts: while at < parts.len() {
+        places.push(parts[at])?;
+        at += 1;
+    }
+    Ok(places)
 }
 
 impl PlacedParts {
@@ -139,6 +182,26 @@ impl PlacedParts {
         PlacedParts {
             parts: Vec::new(alloc),
         }
+    }
+
+    /// These parts. It takes memory only where their places do not rise.
+    pub fn of(alloc: Global, parts: Vec<PlacedPart>) -> Result<PlacedParts, AllocError>
+        ensures { IfOk result (λ places. finds places ≡ finds parts.items) }
+    {
+        if are_rising(&parts) {
+            Ok(PlacedParts { parts })
+        } else {
+            pushed(alloc, &parts)
+        }
+    }
+
+    /// The parts that can be found.
+    #[inline]
+    pub(crate) fn parts(&self) -> &[PlacedPart]
+        ensures is { result.now ≡ self.now }
+        ensures rising { IsRising result.now }
+    {
+        &self.parts
     }
 
     /// One more part after the others.
@@ -168,6 +231,8 @@ impl PlacedParts {
     pub(crate) fn find_near(&self, guess: usize, at: u32) -> Found
         ensures alike { (k : ℕ) → k ≤ result.more → finds self.now (at + k) ≡ result.part }
         ensures begun { is_begun_by at result.part ≡ true }
+        ensures next { (d : PartValue) → result.begun < length self.now
+            → (slice_index_or self.now result.begun d).place ≤ at + result.more + 1 }
     {
         let begun = count_near(&self.parts, u64::from(at) + 1, guess);
         let more = places_left(&self.parts, at, begun);

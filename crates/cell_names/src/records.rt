@@ -1,11 +1,9 @@
 //! Which record has a field or a tag, and where.
 
-ghost use Rattle.std.specs.Prelude.{◌≡◌, [], ℕ, IfOk, OnOk, length, replicate, Some};
-ghost use Rattle.cell_names.specs.Places.{finds};
-ghost use Rattle.cell_names.specs.Finding.{Adds, list_at};
-ghost use Rattle.cell_names.specs.Records.{component_in, holder_around, part_holder, is_record, most_nesting};
-ghost use Rattle.cell_names.specs.Records.{placed_at};
-ghost use Rattle.cell_names.specs.Records.{holding_record, record_parts, within};
+ghost use Rattle.std.specs.Prelude.{◌≡◌, [], ℕ, IfOk, OnOk, Some, length, replicate};
+ghost use Rattle.cell_names.specs.{Finding.Adds, Finding.list_at, Places.finds};
+ghost use Rattle.cell_names.specs.Records.{component_in, holder_around, holding_record, is_record, most_nesting};
+ghost use Rattle.cell_names.specs.Records.{part_holder, placed_at, record_parts, within};
 
 use crate::places::{PlacedPart, PlacedParts};
 use core_program::Program;

@@ -1,6 +1,6 @@
 //! Values by their types.
 
-ghost use Rattle.std.specs.Prelude.{◌≡◌, ◌+◌, ◌<◌, ◌++◌, ◌&&◌, IfOk, OnOk, int_le, true};
+ghost use Rattle.std.specs.Prelude.{◌&&◌, ◌++◌, ◌+◌, ◌<◌, ◌≡◌, IfOk, OnOk, int_le, true};
 ghost use Rattle.cell_value.specs.Sets.{has};
 ghost use Rattle.cell_names.specs.Values.{bounds_of, constant_text, constant_token, host_text, member_text};
 ghost use Rattle.cell_names.specs.Values.{members_from, members_text, number_text, ordinal_text, pointer_text};

@@ -1,23 +1,25 @@
 //! A walk over the addresses of a run in search of the cells that a name names: what has another name is passed over at
 //! once, be it a frame, a variable, a component of an array or a field of a record.
 
-ghost use Rattle.std.specs.Prelude.{◌≡◌, ◌+◌, ◌≤◌, ◌<◌, ℕ, Bool, List, IfSome, Some, is_some, pos, true, false};
-ghost use Rattle.std.specs.Prelude.{◌+ℤ◌, slice_get};
-ghost use Rattle.std.specs.Option.{MatchOption};
-ghost use Rattle.cell_names.specs.declared.names.Spot.{Spot as SpotValue};
-ghost use Rattle.cell_names.specs.Places.{is_begun_by};
-ghost use Rattle.cell_names.specs.Finding.{finding_in};
-ghost use Rattle.cell_names.specs.Names.{heap_root, least_in, local_at, local_in, most_types, root_in, scene_in};
-ghost use Rattle.cell_names.specs.Names.{stack_root, step_down};
+ghost use Rattle.std.specs.Prelude.{◌+ℤ◌, ◌+◌, ◌<◌, ◌≡◌, ◌≤◌, ℕ, Bool, IfSome, List, Some, false, is_some, length};
+ghost use Rattle.std.specs.{Prelude.option_copied, Prelude.pos, Prelude.slice_get, Prelude.true, Option.MatchOption};
+ghost use Rattle.cell_names.specs.{Finding.finding_in, Names.stack_root, Names.step_down, Places.is_begun_by};
+ghost use Rattle.cell_names.specs.{Walks.record_of, declared.names.Spot.Spot as SpotValue};
 ghost use Rattle.cell_names.specs.NamedBy.{after_part, leads_by, leads_within};
-ghost use Rattle.cell_names.specs.Walks.{Walks, WalksOver, before_result, components_of, index_text, is_indexed};
-ghost use Rattle.cell_names.specs.Walks.{is_of_block, is_of_call, is_of_heap, left_of_component, limited};
-ghost use Rattle.cell_names.specs.Walks.{moved, moved_local, moved_root, moved_step};
+ghost use Rattle.cell_names.specs.Names.{heap_root, least_in, local_at, local_in, most_types, root_in, scene_in};
+ghost use Rattle.cell_names.specs.Walks.{NoneAfter, NoneFrom, Walks, WalksOver, before_result, components_of};
+ghost use Rattle.cell_names.specs.Walks.{ends_or_dots, index_text, is_indexed, is_local_at, is_named_root, is_of_block};
+ghost use Rattle.cell_names.specs.Walks.{is_of_call, is_of_frame, is_of_heap, is_of_local, is_selected, is_selected_at};
+ghost use Rattle.cell_names.specs.Walks.{left_of_component, limited, moved, moved_local, moved_root, moved_step};
 
-use crate::name_parts::{then_block, then_call, then_index, then_origin, then_sign};
+use crate::name_parts::{
+    then_block, then_call, then_index, then_origin, then_part, then_selector, then_sign, then_whose,
+};
 use crate::named_by::{is_of_all, step_named};
-use crate::names::{Held, Origin, Root, Scene, Spot, heap_root, is_result, least_in, local_at};
-use crate::places::PlacedPart;
+use crate::names::{
+    Held, Origin, Root, Scene, Spot, heap_root, is_result, least_in, local_at, record_step,
+};
+use crate::places::{PlacedPart, places_up_to};
 use crate::values::{Bounds, bounds_of};
 use core_program::rows::TypeRow;
 use core_program::{Program, Routine};
@@ -69,44 +71,6 @@ fn alike_below(scene: &Scene, at: Spot) -> u32
             _ => 0,
         },
         _ => 0,
-    }
-}
-
-/// The cell after the one that stands this many places after another.
-#[inline]
-fn further(at: Spot, more: u32) -> Option<Spot>
-    ensures is { IfSome result (λ next. next ≡ moved (more + 1) at) }
-    ensures fits { IfSome result (λ next. more < 4294967295) }
-{
-    match more.checked_add(1) {
-        None => None,
-        Some(places) => match at.place.checked_add(places) {
-            None => None,
-            Some(place) => Some(Spot {
-                held: at.held,
-                place,
-            }),
-        },
-    }
-}
-
-/// How many cells after one a name does not go on to, where that is known of this many: more than these, or none if it
-/// goes on to the next one.
-#[inline]
-fn passed_next(scene: &Scene, at: Spot, name: &[u8], more: u32) -> Option<u32>
-    ensures further { IfSome result (λ passed. more < passed) }
-    ensures passed { IfSome result (λ passed. (go : SpotValue → List ℕ → Bool) (k : ℕ) → more < k → k ≤ passed
-        → leads_by scene.now.program go name.now (step_down (scene_in scene.now) (moved k at)) ≡ false) }
-{
-    match further(at, more) {
-        None => None,
-        Some(next) => match step_named(scene, next, name) {
-            Some(_) => None,
-            None => Some(
-                more.saturating_add(1)
-                    .saturating_add(alike_below(scene, next)),
-            ),
-        },
     }
 }
 
@@ -239,22 +203,55 @@ fn passed_components(
     more
 }
 
-/// How many cells after one, to which a name does not go on, it does not go on to either, where that is known of this
-/// many. It looks no further than this limit.
-fn passed_fields(scene: &Scene, at: Spot, name: &[u8], first: u32, limit: u32) -> u32
-    requires { (go : SpotValue → List ℕ → Bool) (k : ℕ) → k ≤ first
-        → leads_by scene.now.program go name.now (step_down (scene_in scene.now) (moved k at)) ≡ false }
-    ensures { (go : SpotValue → List ℕ → Bool) (k : ℕ) → k ≤ result
-        → leads_by scene.now.program go name.now (step_down (scene_in scene.now) (moved k at)) ≡ false }
+/// The type of the record that a cell is of, if it is of one.
+#[inline]
+fn record_of(program: &Program, held: Held) -> Option<u32>
+    ensures { result ≡ record_of program.now held }
 {
-    let mut more = first;
-    'components: while more < limit {
-        match passed_next(scene, at, name, more) {
-            None => return more,
-            Some(passed) => more = passed,
-        }
+    match held {
+        Held::Variable(of) => match program.type_row(of) {
+            Some(TypeRow::Record { .. }) => Some(of),
+            _ => None,
+        },
+        _ => None,
     }
-    more
+}
+
+/// Whether a name goes on with a field or a tag of a record.
+#[inline]
+fn is_selected(program: &Program, part: Option<PlacedPart>, name: &[u8]) -> bool
+    ensures { result ≡ is_selected program.now part name.now }
+{
+    match record_step(program, 0, part) {
+        None => false,
+        Some(step) => then_selector(Some(name), program, step.selector).is_some(),
+    }
+}
+
+/// The number of the first field of a record, from one on, with which a name goes on; or how many there are.
+fn first_selected(program: &Program, fields: &[PlacedPart], name: &[u8], from: usize) -> usize
+    ensures inside { from < result → result ≤ length fields.now }
+    ensures none { NoneFrom (λ part. is_selected program.now part name.now) fields.now from result }
+{
+    let mut at = from;
+    'fields: while at < fields.len() {
+        if is_selected(program, Some(fields[at]), name) {
+            return at;
+        }
+        at += 1;
+    }
+    at
+}
+
+/// How many cells after one of a record, to which a name does not go on, it does not go on to either.
+fn passed_fields(scene: &Scene, of: u32, place: u32, name: &[u8]) -> u32
+    requires { is_selected_at (scene_in scene.now) of place name.now ≡ false }
+    ensures { (k : ℕ) → k ≤ result → is_selected_at (scene_in scene.now) of (place + k) name.now ≡ false }
+{
+    let fields = scene.names.components(of);
+    let found = scene.names.component_near(of, place);
+    let last = first_selected(scene.program, fields, name, found.begun);
+    places_up_to(fields, place, found, last)
 }
 
 /// How many cells after one, to which a name does not go on, it does not go on to either. It looks no further than this
@@ -267,8 +264,11 @@ fn passed_over(scene: &Scene, at: Spot, name: &[u8], limit: u32) -> u32
 {
     let first = alike_below(scene, at);
     match components_of(scene.program, at.held) {
-        None => passed_fields(scene, at, name, first, limit),
         Some(array) => passed_components(scene.program, array, at.place, name, first, limit),
+        None => match record_of(scene.program, at.held) {
+            Some(of) => passed_fields(scene, of, at.place, name),
+            None => first,
+        },
     }
 }
 
@@ -362,16 +362,84 @@ fn alike_locals(scene: &Scene, number: u32, place: u32) -> u32
     }
 }
 
-/// A walk over the variables of a call of a routine, from a place of its frame on.
+/// Whether what is left of a name goes on with a variable of a frame.
 #[inline]
-fn walk_locals(
+fn is_of_local(program: &Program, left: &[u8], part: Option<PlacedPart>) -> bool
+    ensures { result ≡ is_of_local program.now left.now part }
+{
+    match part {
+        None => false,
+        Some(part) => then_part(Some(left), program.text(part.number)).is_some(),
+    }
+}
+
+/// The number of the first variable of a frame, from one on, with which what is left of a name goes on; or how many
+/// there are.
+fn first_local(program: &Program, locals: &[PlacedPart], left: &[u8], from: usize) -> usize
+    ensures inside { from < result → result ≤ length locals.now }
+    ensures none { NoneFrom (λ part. is_of_local program.now left.now part) locals.now from result }
+{
+    let mut at = from;
+    'locals: while at < locals.len() {
+        if is_of_local(program, left, Some(locals[at])) {
+            return at;
+        }
+        at += 1;
+    }
+    at
+}
+
+/// How many places of a frame after one have variables with which what is left of a name does not go on, where this
+/// many are passed over already. None are added if these are not all that have the same variable.
+fn passed_locals(
+    scene: &Scene,
+    number: u32,
+    routine: Routine,
+    place: u32,
+    left: &[u8],
+    first: u32,
+) -> u32
+    ensures { NoneAfter
+        (λ k. is_local_at (scene_in scene.now) number routine.result (place + k) left.now) first result }
+{
+    let found = scene.names.local_near(number, place);
+    if first < found.more || is_result(routine.result, place) {
+        return first;
+    }
+    let locals = scene.names.locals(number);
+    let last = first_local(scene.program, locals, left, found.begun);
+    let passed = places_up_to(locals, place, found, last);
+    before_result(routine.result, place, passed)
+}
+
+/// How many places of the frame of a call after one have variables that a name is not of, where that is known of this
+/// many.
+#[inline]
+fn passed_variables(
     scene: &Scene,
     call: u32,
     routine: u32,
     place: u32,
     name: &[u8],
-    limit: u32,
-) -> Walked
+    first: u32,
+) -> u32
+    requires { (k : ℕ) → k ≤ first → is_named_root (scene_in scene.now) name.now
+        (root_in (scene_in scene.now) call (place + k) (Some routine)) ≡ false }
+    ensures { (k : ℕ) → k ≤ result → is_named_root (scene_in scene.now) name.now
+        (root_in (scene_in scene.now) call (place + k) (Some routine)) ≡ false }
+{
+    match scene.program.routine(routine) {
+        None => first,
+        Some(row) => match then_whose(Some(name), scene.program, call, routine) {
+            None => first,
+            Some(left) => passed_locals(scene, routine, row, place, left, first),
+        },
+    }
+}
+
+/// A walk over the variable of a call of a routine that has a place of its frame, from there on.
+#[inline]
+fn walk_local(scene: &Scene, call: u32, routine: u32, place: u32, name: &[u8], limit: u32) -> Walked
     ensures { WalksOver (scene_in scene.now) name.now
         (λ k. root_in (scene_in scene.now) call (place + k) (Some routine)) result }
 {
@@ -392,13 +460,67 @@ fn walk_locals(
     }
 }
 
-/// Whether a name goes on after the name of a call, or the call is the program's, whose variables have no more than
-/// their own names.
+/// A walk over the variables of a call of a routine, from a place of its frame on.
+#[inline]
+fn walk_locals(
+    scene: &Scene,
+    call: u32,
+    routine: u32,
+    place: u32,
+    name: &[u8],
+    limit: u32,
+) -> Walked
+    ensures { WalksOver (scene_in scene.now) name.now
+        (λ k. root_in (scene_in scene.now) call (place + k) (Some routine)) result }
+{
+    match walk_local(scene, call, routine, place, name, limit) {
+        Walked::Named(root) => Walked::Named(root),
+        Walked::Unnamed(more) => {
+            Walked::Unnamed(passed_variables(scene, call, routine, place, name, more))
+        }
+    }
+}
+
+/// Whether a name ends here, or goes on with the variable of a frame.
+#[inline]
+fn ends_or_dots(left: Option<&[u8]>) -> bool
+    ensures { result ≡ ends_or_dots (option_copied left.entry) }
+{
+    match left {
+        None => false,
+        Some(rest) => rest.is_empty() || then_sign(Some(rest), b'.').is_some(),
+    }
+}
+
+/// Whether a name is a call's, or that of a variable of its frame. The program's variables have no more than their own
+/// names.
 #[inline]
 fn is_of_call(program: &Program, call: u32, routine: u32, name: &[u8]) -> bool
     ensures { result ≡ is_of_call program.now call routine name.now }
 {
-    call == 0 || then_call(Some(name), program, call, routine).is_some()
+    call == 0 || ends_or_dots(then_call(Some(name), program, call, routine))
+}
+
+/// The routine of a call.
+#[inline]
+fn routine_of(scene: &Scene, call: u32) -> Option<u32>
+    ensures { result ≡ slice_get scene.now.routines call }
+{
+    scene.routines.get(call as usize).copied()
+}
+
+/// Whether a name can be that of a variable of a frame.
+#[inline]
+fn is_of_frame(scene: &Scene, part: Option<PlacedPart>, name: &[u8]) -> bool
+    ensures { result ≡ is_of_frame (scene_in scene.now) part name.now }
+{
+    match part {
+        None => false,
+        Some(part) => match routine_of(scene, part.number) {
+            None => false,
+            Some(routine) => is_of_call(scene.program, part.number, routine, name),
+        },
+    }
 }
 
 /// A walk over the frame of a call of a routine, if there is one, from a place of it on.
@@ -416,22 +538,8 @@ fn walk_call(
 {
     match routine {
         None => Walked::Unnamed(limit),
-        Some(routine) => {
-            if is_of_call(scene.program, call, routine, name) {
-                walk_locals(scene, call, routine, place, name, limit)
-            } else {
-                Walked::Unnamed(limit)
-            }
-        }
+        Some(routine) => walk_locals(scene, call, routine, place, name, limit),
     }
-}
-
-/// The routine of a call.
-#[inline]
-fn routine_of(scene: &Scene, call: u32) -> Option<u32>
-    ensures { result ≡ slice_get scene.now.routines call }
-{
-    scene.routines.get(call as usize).copied()
 }
 
 /// A walk over the frame that stands at an address, from there on.
@@ -460,6 +568,40 @@ fn walk_part(
     }
 }
 
+/// The number of the first frame, from one on, that a name can be of; or how many there are.
+fn first_frame(scene: &Scene, frames: &[PlacedPart], name: &[u8], from: usize) -> usize
+    ensures inside { from < result → result ≤ length frames.now }
+    ensures none { NoneFrom (λ part. is_of_frame (scene_in scene.now) part name.now) frames.now from result }
+{
+    let mut at = from;
+    'frames: while at < frames.len() {
+        if is_of_frame(scene, Some(frames[at]), name) {
+            return at;
+        }
+        at += 1;
+    }
+    at
+}
+
+/// A walk over addresses of the stack, and a guess at the number of frames that begin at the next one or before.
+#[inline]
+fn walk_stack(scene: &Scene, name: &[u8], address: u32, limit: u32, guess: usize) -> (Walked, usize)
+    ensures { WalksOver (scene_in scene.now) name.now
+        (λ k. stack_root (scene_in scene.now) (address + k) ((scene_in scene.now).opened (address + k))) result.0 }
+{
+    let found = scene.opened.find_near(guess, address);
+    if is_of_frame(scene, found.part, name) {
+        let limit = limit.min(found.more);
+        let walked = walk_part(scene, name, address, limit, found.part);
+        (limited(walked, limit), found.begun)
+    } else {
+        let frames = scene.opened.parts();
+        let last = first_frame(scene, frames, name, found.begun);
+        let more = places_up_to(frames, address, found, last);
+        (Walked::Unnamed(more), last)
+    }
+}
+
 /// A walk over the variable of the heap that stands at an address, from there on.
 #[inline]
 fn walk_block(
@@ -476,18 +618,6 @@ fn walk_block(
         None => Walked::Unnamed(limit),
         Some(root) => walk_root(scene, root, name, limit),
     }
-}
-
-/// A walk over addresses of the stack, and the number of frames that begin at the first or before.
-#[inline]
-fn walk_stack(scene: &Scene, name: &[u8], address: u32, limit: u32, guess: usize) -> (Walked, usize)
-    ensures { WalksOver (scene_in scene.now) name.now
-        (λ k. stack_root (scene_in scene.now) (address + k) ((scene_in scene.now).opened (address + k))) result.0 }
-{
-    let found = scene.opened.find_near(guess, address);
-    let limit = limit.min(found.more);
-    let walked = walk_part(scene, name, address, limit, found.part);
-    (limited(walked, limit), found.begun)
 }
 
 /// Whether a name can be that of a variable of the heap: all of theirs begin with `^`.

@@ -1,15 +1,11 @@
 -- The empty set, inclusion, and what a set holds of a whole number.
-use Rattle.std.proofs.Common.{◌≡◌, ◌+◌, ◌*◌, ◌/◌, ◌%◌, ◌^◌, ◌<◌, ◌≤◌, refl, sym, ◌∙◌, arith, inl, inr}
-use Rattle.std.proofs.Common.{Bool, true, false, ℕ, zero, suc, length, slice_index_or, bit_or, bit_and, lit<, ℤ, pos, negsuc}
-use Rattle.std.specs.Prelude.{◌==◌, ◌||◌, ◌&&◌, ◌⊎◌, not}
-use Rattle.std.specs.Int.{FitsUnsignedBits}
-use Rattle.std.proofs.Math.IntN.{nat_abs}
-use Rattle.std.proofs.lemmas.Bool.{cases_lt}
-use Rattle.std.proofs.lemmas.Nat.Bits.{bit_at-lt, bit_at-zero, same_from_bits_below, shr_and_one}
-use Rattle.std.proofs.lemmas.Nat.{le_or_l, le_or_r}
+use Rattle.std.proofs.Common.{◌%◌, ◌&&◌, ◌*◌, ◌+◌, ◌/◌, ◌<◌, ◌==◌, ◌^◌, ◌||◌, ◌∙◌, ◌≡◌, ◌≤◌, ◌⊎◌, ℕ, ℤ, Bool, arith, bit_and, bit_or, false, inl, inr, length}
+use Rattle.std.proofs.Common.{lit<, negsuc, not, pos, refl, slice_index_or, suc, sym, true, zero}
+use Rattle.std.{proofs.Math.IntN.nat_abs, proofs.lemmas.Bool.cases_lt, specs.Int.FitsUnsignedBits}
+use Rattle.std.proofs.lemmas.Nat.{le_or_l, le_or_r, Bits.bit_at-lt, Bits.bit_at-zero, Bits.same_from_bits_below, Bits.shr_and_one}
+use Rattle.cell_value.proofs.WordsMakeSets.{IsWhole, bit_from_test, each_of_four, has_above, has_at, has_in_word, has_set_of_low, set_of_four}
+use Rattle.cell_value.specs.Sets.{difference_of, has, has_number, holds_below, is_included}
 use Rattle.cell_value.specs.declared.values.SetBits.{SetBits}
-use Rattle.cell_value.specs.Sets.{has, has_number, holds_below, is_included, difference_of}
-use Rattle.cell_value.proofs.WordsMakeSets.{IsWhole, each_of_four, bit_from_test, has_at, has_in_word, has_above, set_of_four, has_set_of_low}
 
 -- ---- the set that holds nothing
 

@@ -1,16 +1,12 @@
 -- The laws of `div` and `mod`, first at whole numbers and then at what `arith_of` gives.
-use Rattle.std.proofs.Common.{◌≡◌, ℕ, zero, suc, ◌/◌, ◌<◌, Bool, true, false, cond, refl, subst, arith, ℤ, pos, negsuc, neg_ℤ, ◌+ℤ◌, ◌-ℤ◌, ◌*ℤ◌, ◌<ℤ◌}
-use Rattle.std.specs.Prelude.{nat_le, ◌==◌, int_le, int_div, int_rem, unsigned_abs, IfOk, Ok, Err}
-use Rattle.std.specs.Int.{int_rem_euclid, int_div_euclid}
-use Rattle.std.proofs.lemmas.Int.{ints, quot-rem, rem_below, unsigned_abs-mul}
-use Rattle.std.proofs.Math.Nat.{div-mul-le_self}
-use Rattle.cell_value.specs.declared.values.Value.{Value}
-use Rattle.cell_value.specs.declared.values.Value.TheVariants.{Number}
-use Rattle.cell_value.specs.declared.faults.OpFault.{OpFault}
-use Rattle.cell_value.specs.declared.faults.OpFault.TheVariants.{Overflow, ZeroDivisor, BadModulus}
-use Rattle.cell_value.specs.declared.arithmetic.ArithOp.{ArithOp}
-use Rattle.cell_value.specs.declared.arithmetic.ArithOp.TheVariants.{Plus, Minus, Times, Div, Mod}
-use Rattle.cell_value.specs.Arithmetic.{maxint, integer, IsInteger, of_numbers, arith_of, IsQuotient, IsRemainder}
+use Rattle.std.proofs.Common.{◌*ℤ◌, ◌+ℤ◌, ◌-ℤ◌, ◌/◌, ◌<ℤ◌, ◌<◌, ◌==◌, ◌≡◌, ℕ, ℤ, Bool, Err, IfOk, Ok, arith, cond, false, int_div, int_le, int_rem, nat_le}
+use Rattle.std.proofs.Common.{neg_ℤ, negsuc, pos, refl, subst, suc, true, unsigned_abs, zero}
+use Rattle.std.proofs.{Math.Nat.div-mul-le_self, lemmas.Int.ints, lemmas.Int.quot-rem, lemmas.Int.rem_below, lemmas.Int.unsigned_abs-mul}
+use Rattle.std.specs.Int.{int_div_euclid, int_rem_euclid}
+use Rattle.cell_value.specs.Arithmetic.{IsInteger, IsQuotient, IsRemainder, arith_of, integer, maxint, of_numbers}
+use Rattle.cell_value.specs.declared.{arithmetic.ArithOp.ArithOp, values.Value.Value, values.Value.TheVariants.Number}
+use Rattle.cell_value.specs.declared.arithmetic.ArithOp.TheVariants.{Div, Minus, Mod, Plus, Times}
+use Rattle.cell_value.specs.declared.faults.OpFault.{OpFault, TheVariants.BadModulus, TheVariants.Overflow, TheVariants.ZeroDivisor}
 
 -- ---- the laws at whole numbers
 

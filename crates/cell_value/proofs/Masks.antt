@@ -1,13 +1,10 @@
 -- Words of which the first bits are set, and the set of the ordinals below a bound.
-use Rattle.std.proofs.Common.{◌≡◌, ℕ, zero, suc, ◌+◌, ◌*◌, ◌^◌, ◌%◌, ◌-◌, ◌<◌, ◌≤◌, refl, sym, ap, ◌∙◌, arith, inl, inr}
-use Rattle.std.proofs.Common.{Bool, true, false, nat_lt, nat_le, int_le, pos, ℤ, [], ◌∷◌}
-use Rattle.std.specs.Prelude.{◌&&◌, ◌⊎◌, not}
-use Rattle.std.proofs.Math.Nat.{pow-suc}
-use Rattle.std.proofs.Math.Pow.{pow-lt}
-use Rattle.std.proofs.lemmas.Bool.{cases_lt}
-use Rattle.cell_value.specs.declared.values.SetBits.{SetBits}
-use Rattle.cell_value.specs.Sets.{has, holds_below, is_between, is_included, is_outside_or_between, lies_between, set_of, bits_where}
+use Rattle.std.proofs.Common.{◌%◌, ◌&&◌, ◌*◌, ◌+◌, ◌-◌, ◌<◌, ◌^◌, ◌∙◌, ◌∷◌, ◌≡◌, ◌≤◌, ◌⊎◌, [], ℕ, ℤ, Bool, ap, arith, false, inl, inr, int_le, nat_le, nat_lt}
+use Rattle.std.proofs.Common.{not, pos, refl, suc, sym, true, zero}
+use Rattle.std.proofs.{Math.Nat.pow-suc, Math.Pow.pow-lt, lemmas.Bool.cases_lt}
 use Rattle.cell_value.proofs.WordsMakeSets.{has_set_of}
+use Rattle.cell_value.specs.Sets.{bits_where, has, holds_below, is_between, is_included, is_outside_or_between, lies_between, set_of}
+use Rattle.cell_value.specs.declared.values.SetBits.{SetBits}
 
 pub is_below : (n count : ℕ) → n < count → nat_lt n count ≡ true
 is_below n count h = grind arith

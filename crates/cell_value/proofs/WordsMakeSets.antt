@@ -1,16 +1,10 @@
 -- A set's words, and the set of the ordinals of which a test holds.
-use Rattle.std.proofs.Common.{◌≡◌, ℕ, zero, suc, ◌+◌, ◌*◌, ◌/◌, ◌%◌, ◌^◌, ◌<◌, ◌≤◌, ◌-◌, refl, zero-add, ap, sym, ◌∙◌, subst, arith, min, max, lit<, inl, inr}
-use Rattle.std.proofs.Common.{Bool, true, false, cond, List, [], ◌∷◌, length, slice_index_or, bit_and, bit_or, w64}
-use Rattle.std.specs.Prelude.{◌==◌, ◌&&◌, ◌||◌, ◌⊎◌, not}
-use Rattle.std.specs.Int.{bit_at}
-use Rattle.std.specs.Int.Bits.{and_lt}
-use Rattle.std.proofs.Math.Nat.{pow-suc}
-use Rattle.std.proofs.lemmas.Nat.{or_lt}
-use Rattle.std.proofs.lemmas.Bool.{cases_lt}
-use Rattle.std.proofs.lemmas.Nat.Bits.{bit_at-lt, bit_at_or, bit_at_and, bit_at_not, bit_at_cat_low, bit_at_cat_high, same_from_bits_below}
-use Rattle.std.proofs.lemmas.Option.{slice_get-get_or, slice_get_past}
-use Rattle.cell_value.specs.declared.values.SetBits.{SetBits}
-use Rattle.cell_value.specs.Sets.{has, bits_where, set_of}
+use Rattle.std.proofs.Common.{◌%◌, ◌&&◌, ◌*◌, ◌+◌, ◌-◌, ◌/◌, ◌<◌, ◌==◌, ◌^◌, ◌||◌, ◌∙◌, ◌∷◌, ◌≡◌, ◌≤◌, ◌⊎◌, [], ℕ, Bool, List, ap, arith, bit_and, bit_or, cond}
+use Rattle.std.proofs.Common.{false, inl, inr, length, lit<, max, min, not, refl, slice_index_or, subst, suc, sym, true, w64, zero, zero-add}
+use Rattle.std.proofs.{Math.Nat.pow-suc, lemmas.Bool.cases_lt, lemmas.Nat.or_lt, lemmas.Option.slice_get-get_or, lemmas.Option.slice_get_past}
+use Rattle.std.proofs.lemmas.Nat.Bits.{bit_at-lt, bit_at_and, bit_at_cat_high, bit_at_cat_low, bit_at_not, bit_at_or, same_from_bits_below}
+use Rattle.std.specs.Int.{bit_at, Bits.and_lt}
+use Rattle.cell_value.specs.{Sets.bits_where, Sets.has, Sets.set_of, declared.values.SetBits.SetBits}
 
 -- ---- one bit
 

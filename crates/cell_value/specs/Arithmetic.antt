@@ -1,15 +1,12 @@
 -- The operators on integers. The integers are the whole numbers from -maxint to maxint, and an
 -- operation whose result is none of them is an error (ISO 7185, clauses 6.4.2.2 and 6.7.2.2).
-use Rattle.std.specs.Prelude.{◌≡◌, ℕ, ◌<◌, ◌≤◌, ◌==◌, nat_le, ℤ, pos, neg_ℤ, ◌+ℤ◌, ◌-ℤ◌, ◌*ℤ◌, ◌≤ℤ◌, ◌<ℤ◌, int_le}
-use Rattle.std.specs.Prelude.{int_div, unsigned_abs, ◌&&◌, if◌then◌else◌, Option, Some, None, Result, Ok, Err}
+use Rattle.std.specs.Prelude.{if◌then◌else◌, ◌&&◌, ◌*ℤ◌, ◌+ℤ◌, ◌-ℤ◌, ◌<ℤ◌, ◌<◌, ◌==◌, ◌≡◌, ◌≤ℤ◌, ◌≤◌, ℕ, ℤ, Err, None}
+use Rattle.std.specs.Prelude.{Ok, Option, Result, Some, int_div, int_le, nat_le, neg_ℤ, pos, unsigned_abs}
 use Rattle.std.specs.Int.{int_rem_euclid}
-use Rattle.cell_value.specs.declared.values.Value.{Value}
-use Rattle.cell_value.specs.declared.values.Value.TheVariants.{Number}
-use Rattle.cell_value.specs.declared.faults.OpFault.{OpFault}
-use Rattle.cell_value.specs.declared.faults.OpFault.TheVariants.{Overflow, ZeroDivisor, BadModulus, OutOfRange}
-use Rattle.cell_value.specs.declared.faults.OpFault.TheVariants.{UndefinedValue}
-use Rattle.cell_value.specs.declared.arithmetic.ArithOp.{ArithOp}
-use Rattle.cell_value.specs.declared.arithmetic.ArithOp.TheVariants.{Plus, Minus, Times, Div, Mod}
+use Rattle.cell_value.specs.declared.{arithmetic.ArithOp.ArithOp, values.Value.Value, values.Value.TheVariants.Number}
+use Rattle.cell_value.specs.declared.arithmetic.ArithOp.TheVariants.{Div, Minus, Mod, Plus, Times}
+use Rattle.cell_value.specs.declared.faults.OpFault.{OpFault, TheVariants.ZeroDivisor}
+use Rattle.cell_value.specs.declared.faults.OpFault.TheVariants.{BadModulus, OutOfRange, Overflow, UndefinedValue}
 
 abbrev pub maxint : ℕ
 maxint = 2147483647

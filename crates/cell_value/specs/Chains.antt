@@ -1,7 +1,6 @@
 -- How many links a chain has.
-use Rattle.std.specs.Prelude.{ℕ, ◌+◌}
-use Rattle.cell_value.specs.declared.steps_taken.Chain.{Chain}
-use Rattle.cell_value.specs.declared.steps_taken.Chain.TheVariants.{Start, Link'}
+use Rattle.std.specs.Prelude.{◌+◌, ℕ}
+use Rattle.cell_value.specs.declared.steps_taken.Chain.{Chain, TheVariants.Link', TheVariants.Start}
 
 abbrev pub links : Chain → ℕ
 links Start = 0

@@ -1,18 +1,13 @@
 -- The effect of a call, which stands for its body where the call is judged: what a list of touches shows of the state
 -- before them, and what they change in it (Fritzson, Shahmehri, Kamkar and Gyimothy, "Generalized Algorithmic
 -- Debugging and Testing", 1992). Each address is looked at by itself.
-use Rattle.std.specs.Prelude.{ℕ, ◌<◌, ◌≤◌, Bool, true, false, ◌+◌, ◌-◌, ◌==◌, ◌&&◌, ◌||◌, if◌then◌else◌, nat_le, nat_lt}
-use Rattle.std.specs.Prelude.{max, is_some, List, [], ◌∷◌, Option, Some, None, map, fold, sum_by}
-use Rattle.std.specs.Option.{option_map}
-use Rattle.std.specs.List.{before_first, filter_map, range_with_len}
-use Rattle.cell_value.specs.declared.values.Value.{Value}
-use Rattle.cell_value.specs.declared.values.Value.TheVariants.{Undefined}
-use Rattle.cell_value.specs.declared.entries.Touch.{Touch}
-use Rattle.cell_value.specs.declared.entries.Touch.TheVariants.{Read, Has, Write, Make, Drop, Look, Take, Give}
-use Rattle.cell_value.specs.declared.entries.Seen.{Seen}
-use Rattle.cell_value.specs.declared.entries.Seen.TheVariants.{Held, There, Absent}
-use Rattle.cell_value.specs.declared.entries.Change.{Change}
-use Rattle.cell_value.specs.declared.entries.Change.TheVariants.{Set, Gone}
+use Rattle.std.specs.Prelude.{if◌then◌else◌, ◌&&◌, ◌+◌, ◌-◌, ◌<◌, ◌==◌, ◌||◌, ◌∷◌, ◌≤◌, [], ℕ, Bool, List, None, Option}
+use Rattle.std.specs.Prelude.{Some, false, fold, is_some, map, max, nat_le, nat_lt, sum_by, true}
+use Rattle.std.specs.{List.before_first, List.filter_map, List.range_with_len, Option.option_map}
+use Rattle.cell_value.specs.declared.{entries.Touch.Touch, values.Value.Value, values.Value.TheVariants.Undefined}
+use Rattle.cell_value.specs.declared.entries.Change.{Change, TheVariants.Gone, TheVariants.Set}
+use Rattle.cell_value.specs.declared.entries.Seen.{Seen, TheVariants.Absent, TheVariants.Held, TheVariants.There}
+use Rattle.cell_value.specs.declared.entries.Touch.TheVariants.{Drop, Give, Has, Look, Make, Read, Take, Write}
 
 -- The stack has the addresses below the first of these, and the heap those from it to below the second.
 abbrev pub heap_start : ℕ

@@ -1,6 +1,6 @@
 -- Sets of ordinals from 0 to 255. A set is known by the ordinals that it holds (ISO 7185, clauses 6.4.3.4 and 6.7.2.4).
-use Rattle.std.specs.Prelude.{◌≡◌, ℕ, zero, suc, ◌+◌, ◌*◌, ◌/◌, ◌%◌, ◌^◌, ℤ, pos, negsuc, Bool, true, false, ◌==◌}
-use Rattle.std.specs.Prelude.{◌&&◌, ◌||◌, not, if◌then◌else◌, nat_le, int_le, Option, Some, None, [], ◌∷◌, slice_get}
+use Rattle.std.specs.Prelude.{if◌then◌else◌, ◌%◌, ◌&&◌, ◌*◌, ◌+◌, ◌/◌, ◌==◌, ◌^◌, ◌||◌, ◌∷◌, ◌≡◌, [], ℕ, ℤ, Bool, None}
+use Rattle.std.specs.Prelude.{Option, Some, false, int_le, nat_le, negsuc, not, pos, slice_get, suc, true, zero}
 use Rattle.std.specs.Int.{bit_at}
 use Rattle.cell_value.specs.declared.values.SetBits.{SetBits}
 

@@ -1,5 +1,5 @@
 //! A list of values.
-ghost use Rattle.std.specs.Prelude.{◌≡◌, ◌<◌, [], ◌∷◌, ◌++◌, length, OnOk, OnErr, Some, slice_get};
+ghost use Rattle.std.specs.Prelude.{◌++◌, ◌<◌, ◌∷◌, ◌≡◌, [], OnErr, OnOk, Some, length, slice_get};
 
 use crate::values::Value;
 use std::alloc::{AllocError, Global};
@@ -15,7 +15,7 @@ pub struct Cells {
 }
 
 impl Model for Cells {
-    ghost use Rattle.std.specs.Prelude.{List, ◌<◌, ◌^◌, vec_len};
+    ghost use Rattle.std.specs.Prelude.{◌<◌, ◌^◌, List, vec_len};
     ghost use Rattle.cell_value.specs.declared.values.Value.{Value as CellValue};
 
     ghost Value = { List CellValue };

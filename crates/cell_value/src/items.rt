@@ -1,5 +1,5 @@
 //! The items of an input.
-ghost use Rattle.std.specs.Prelude.{◌≡◌, ◌<◌, [], ◌∷◌, ◌++◌, length, OnOk, OnErr, Some, slice_get};
+ghost use Rattle.std.specs.Prelude.{◌++◌, ◌<◌, ◌∷◌, ◌≡◌, [], OnErr, OnOk, Some, length, slice_get};
 
 use crate::cell_list::Memory;
 use std::alloc::Global;
@@ -13,7 +13,7 @@ pub struct Items {
 }
 
 impl Model for Items {
-    ghost use Rattle.std.specs.Prelude.{List, ℕ, ◌<◌, ◌^◌, vec_len};
+    ghost use Rattle.std.specs.Prelude.{◌<◌, ◌^◌, ℕ, List, vec_len};
 
     ghost Value = { List ℕ };
 

@@ -1,7 +1,7 @@
 //! The operators on sets.
-ghost use Rattle.std.specs.Prelude.{◌≡◌, ◌<◌, ◌≤◌, ℕ, pos, ◌&&◌, ◌||◌, not, false, int_le, nat_le, nat_lt, IsTrue, ◌↔◌};
-ghost use Rattle.cell_value.specs.Sets.{IsIncluded, difference_of, has, has_number, intersection_of, is_between};
-ghost use Rattle.cell_value.specs.Sets.{is_included, lies_between, set_of, union_of, with_range_of, bits_where};
+ghost use Rattle.std.specs.Prelude.{◌&&◌, ◌<◌, ◌||◌, ◌↔◌, ◌≡◌, ◌≤◌, ℕ, IsTrue, false, int_le, nat_le, nat_lt, not, pos};
+ghost use Rattle.cell_value.specs.Sets.{IsIncluded, bits_where, difference_of, has, has_number, intersection_of};
+ghost use Rattle.cell_value.specs.Sets.{is_between, is_included, lies_between, set_of, union_of, with_range_of};
 
 use crate::values::SetBits;
 

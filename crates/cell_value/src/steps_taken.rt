@@ -1,5 +1,5 @@
 //! A counter of steps that takes no memory.
-ghost use Rattle.std.specs.Prelude.{◌≡◌, ◌+◌};
+ghost use Rattle.std.specs.Prelude.{◌+◌, ◌≡◌};
 
 use std::marker::{Model, PhantomData};
 use std::mem;

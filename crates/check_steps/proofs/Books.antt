@@ -1,15 +1,11 @@
 -- What is kept to tell the innermost frames around one.
-use Rattle.std.proofs.Common.{◌≡◌, ℕ, zero, suc, ◌+◌, ◌<◌, ◌≤◌, Bool, true, false, ◌||◌, List, [], ◌∷◌, ◌++◌, length, fold, Option, Some, None}
-use Rattle.std.proofs.Common.{nat_eq, nat_lt, set, get_or, if◌then◌else◌, refl, ap, sym, subst, ◌∙◌, arith}
-use Rattle.std.proofs.lemmas.Bool.Decides.{nat_tests}
-use Rattle.std.proofs.lemmas.List.{get_or-set_same, get_or-set_other}
-use Rattle.std.proofs.lemmas.Option.{unwrap_or-slice_get}
-use Rattle.std.specs.Prelude.{is_some, unwrap_or, slice_get}
-use Rattle.std.specs.List.{list_any}
-use Rattle.check_steps.specs.declared.regions.Frame.{Frame}
-use Rattle.check_steps.specs.Frames.{frame_in}
-use Rattle.check_steps.specs.Around.{IsBook, IsKept, first_around, around, is_among, is_around, kept_in, later, latest, reach}
+use Rattle.std.proofs.Common.{if◌then◌else◌, ◌++◌, ◌+◌, ◌<◌, ◌||◌, ◌∙◌, ◌∷◌, ◌≡◌, ◌≤◌, [], ℕ, Bool, List, None, Option, Some, ap, arith, false, fold, get_or}
+use Rattle.std.proofs.Common.{is_some, length, nat_eq, nat_lt, refl, set, slice_get, subst, suc, sym, true, zero}
+use Rattle.std.proofs.lemmas.{Bool.Decides.nat_tests, List.get_or-set_other, List.get_or-set_same, Option.unwrap_or-slice_get}
+use Rattle.std.specs.{Prelude.unwrap_or, List.list_any}
 use Rattle.check_steps.proofs.Chains.{got_before}
+use Rattle.check_steps.specs.{Frames.frame_in, declared.regions.Frame.Frame}
+use Rattle.check_steps.specs.Around.{IsBook, IsKept, around, first_around, is_among, is_around, kept_in, later, latest, reach}
 
 -- ---- the first frame outward
 

@@ -1,13 +1,9 @@
 -- Frames of one region in a row, and one more frame.
-use Rattle.std.proofs.Common.{◌≡◌, ℕ, zero, suc, ◌+◌, ◌<◌, List, [], ◌∷◌, ◌++◌, map, length, Option, Some, None, ◌⊎◌, inl, inr}
-use Rattle.std.proofs.Common.{refl, ap, sym, subst, ◌∙◌, add-one, arith}
-use Rattle.std.specs.Prelude.{unwrap_or, slice_get}
-use Rattle.std.specs.Option.{option_map}
-use Rattle.std.proofs.lemmas.List.{map_push}
-use Rattle.std.proofs.lemmas.Option.{slice_get-map, slice_get_within, same_Some}
-use Rattle.check_steps.specs.declared.regions.Frame.{Frame}
-use Rattle.check_steps.specs.declared.frames.KeptFrame.{KeptFrame}
+use Rattle.std.proofs.Common.{◌++◌, ◌+◌, ◌<◌, ◌∙◌, ◌∷◌, ◌≡◌, ◌⊎◌, [], ℕ, List, None, Option, Some, add-one, ap, arith, inl, inr, length, map, refl, slice_get}
+use Rattle.std.{proofs.Common.subst, proofs.Common.suc, proofs.Common.sym, proofs.Common.zero, specs.Prelude.unwrap_or, specs.Option.option_map}
+use Rattle.std.proofs.lemmas.{List.map_push, Option.same_Some, Option.slice_get-map, Option.slice_get_within}
 use Rattle.check_steps.specs.Frames.{IsChained, Leads, frame_in, frame_of}
+use Rattle.check_steps.specs.declared.{frames.KeptFrame.KeptFrame, regions.Frame.Frame}
 
 pub got_before : {A : Type 0} (xs : List A) (y : A) (n : ℕ) → n < length xs → slice_get (xs ++ y ∷ []) n ≡ slice_get xs n
 got_before [] y n below = absurd (omega arith)

@@ -1,12 +1,10 @@
 -- The least of the broken rules is the first of them.
-use Rattle.std.proofs.Common.{◌≡◌, ℕ, suc, ◌⊎◌, inl, inr, true, false, List, [], ◌∷◌, slice_index_or, Some, None}
-use Rattle.std.proofs.Common.{if◌then◌else◌, refl, sym, subst, arith, nat_eq, nat_lt, ◌&&◌, ◌||◌}
-use Rattle.std.proofs.lemmas.Bool.Decides.{nat_tests}
-use Rattle.std.specs.Prelude.{Contains, All}
-use Rattle.std.proofs.lemmas.List.Elements.{All-cons}
+use Rattle.std.proofs.Common.{if◌then◌else◌, ◌&&◌, ◌||◌, ◌∷◌, ◌≡◌, ◌⊎◌, [], ℕ, All, Contains, List, None, Some, arith, false, inl, inr, nat_eq, nat_lt, refl}
+use Rattle.std.proofs.Common.{slice_index_or, subst, suc, sym, true}
+use Rattle.std.proofs.lemmas.{Bool.Decides.nat_tests, List.Elements.All-cons}
+use Rattle.check_steps.proofs.Order.{chain, irreflexive, transitive}
+use Rattle.check_steps.specs.Breaks.{IsFirst, IsOfFirst, fault_of, first_broken, group, is_before, is_early, number}
 use Rattle.check_steps.specs.declared.breaks.Break.{Break}
-use Rattle.check_steps.specs.Breaks.{is_before, is_early, group, number, first_broken, fault_of, IsFirst, IsOfFirst}
-use Rattle.check_steps.proofs.Order.{irreflexive, transitive, chain}
 
 not_before_self : (a b : Break) → b ≡ a → is_before a b ≡ false
 not_before_self a b e = let P : Break → Type 0 = λ c. is_before a c ≡ false in subst P (sym e) (irreflexive (group a.broken) a.token (number a.broken))

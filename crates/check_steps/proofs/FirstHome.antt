@@ -1,11 +1,9 @@
 -- The first frame outward whose region is a home of the name is that of its definition.
-use Rattle.std.proofs.Common.{◌≡◌, ℕ, zero, suc, Bool, true, false, List, length, Option, Some, None, IfSome, if◌then◌else◌, refl, ap, sym, ◌∙◌}
+use Rattle.std.proofs.Common.{if◌then◌else◌, ◌∙◌, ◌≡◌, ℕ, Bool, IfSome, List, None, Option, Some, ap, false, length, refl, suc, sym, true, zero}
 use Rattle.std.proofs.lemmas.Option.{same_Some}
-use Rattle.check_steps.specs.declared.regions.Found.{Found}
-use Rattle.check_steps.specs.Around.{first_around, is_among}
-use Rattle.check_steps.specs.Known.{Known, find, find_from, find_label, find_label_from, found_in, found_with, frame_at}
-use Rattle.check_steps.specs.Regions.{declared_in, defined_in, or_else}
 use Rattle.check_steps.proofs.Outward.{find-outermost, label-outermost}
+use Rattle.check_steps.specs.{Around.first_around, Around.is_among, Regions.declared_in, Regions.defined_in, Regions.or_else, declared.regions.Found.Found}
+use Rattle.check_steps.specs.Known.{Known, find, find_from, find_label, find_label_from, found_in, found_with, frame_at}
 
 -- ---- names
 

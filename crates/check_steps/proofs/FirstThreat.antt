@@ -1,10 +1,8 @@
 -- The first threat of a variable, searched for from where its threats begin.
-use Rattle.std.proofs.Common.{◌≡◌, ℕ, zero, suc, ◌+◌, ◌-◌, ◌<◌, ◌≤◌, Bool, true, false, List, length, get_or, set, replicate, Option}
-use Rattle.std.proofs.Common.{Some, None, if◌then◌else◌, nat_eq, nat_lt, refl, sym, ap, subst, ◌∙◌, arith}
-use Rattle.std.specs.Prelude.{unwrap_or}
-use Rattle.std.proofs.lemmas.Bool.Decides.{nat_tests}
-use Rattle.std.proofs.lemmas.List.{get_or-set_same, get_or-set_other, get_or-replicate, get_or_past, length-replicate, length-set}
-use Rattle.std.proofs.lemmas.Option.{unwrap_or-slice_get}
+use Rattle.std.proofs.Common.{if◌then◌else◌, ◌+◌, ◌-◌, ◌<◌, ◌∙◌, ◌≡◌, ◌≤◌, ℕ, Bool, List, None, Option, Some, ap, arith, false, get_or, length, nat_eq, nat_lt}
+use Rattle.std.proofs.Common.{refl, replicate, set, subst, suc, sym, true, zero}
+use Rattle.std.{specs.Prelude.unwrap_or, proofs.lemmas.Bool.Decides.nat_tests, proofs.lemmas.Option.unwrap_or-slice_get}
+use Rattle.std.proofs.lemmas.List.{get_or-replicate, get_or-set_other, get_or-set_same, get_or_past, length-replicate, length-set}
 use Rattle.check_steps.specs.Threats.{AreUnthreatened, first_threat, is_threat, is_variable_of, lowered}
 
 -- ---- one token more

@@ -1,15 +1,10 @@
 -- The regions that may define a name, or declare a label.
-use Rattle.std.proofs.Common.{◌≡◌, ℕ, zero, suc, ◌<◌, Bool, true, false, cond, ◌||◌, List, [], ◌∷◌, ◌++◌, set, length, get_or, map}
-use Rattle.std.proofs.Common.{nat_eq, Option, Some, None, refl, ap, sym, subst, ◌∙◌, arith}
-use Rattle.std.proofs.lemmas.Bool.Decides.{nat_tests}
-use Rattle.std.proofs.lemmas.List.{map-set}
-use Rattle.std.specs.Map.{lookup}
-use Rattle.std.specs.Global.{Vec}
-use Rattle.check_steps.specs.declared.regions.Region.{Region}
-use Rattle.check_steps.specs.Around.{is_among}
-use Rattle.check_steps.specs.Homes.{AreHomes, homes_of, regions_of, rows_of}
-use Rattle.check_steps.specs.Regions.{RegionRows, fresh_region, region_at}
+use Rattle.std.proofs.Common.{◌++◌, ◌<◌, ◌||◌, ◌∙◌, ◌∷◌, ◌≡◌, [], ℕ, Bool, List, None, Option, Some, ap, arith, cond, false, get_or, length, map, nat_eq, refl}
+use Rattle.std.proofs.Common.{set, subst, suc, sym, true, zero}
+use Rattle.std.{proofs.lemmas.Bool.Decides.nat_tests, proofs.lemmas.List.map-set, specs.Global.Vec, specs.Map.lookup}
 use Rattle.check_steps.proofs.Maps.{region_of}
+use Rattle.check_steps.specs.{Around.is_among, Regions.RegionRows, Regions.fresh_region, Regions.region_at, declared.regions.Region.Region}
+use Rattle.check_steps.specs.Homes.{AreHomes, homes_of, regions_of, rows_of}
 
 -- ---- the lists of regions
 

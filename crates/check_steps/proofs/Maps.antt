@@ -1,9 +1,7 @@
 -- Regions kept in maps.
-use Rattle.std.proofs.Common.{◌≡◌, ℕ, zero, suc, ◌<◌, List, [], ◌∷◌, ◌++◌, map, length, get_or, set, nat_eq, None, sym, ap, ◌∙◌, arith}
-use Rattle.std.proofs.lemmas.List.{map-set}
-use Rattle.std.specs.Map.{lookup}
-use Rattle.indexmap.specs.IndexMap.{insert_entry}
-use Rattle.indexmap.proofs.MapLemmas.{insert_entry-absent, absent_from_lookup}
+use Rattle.std.proofs.Common.{◌++◌, ◌<◌, ◌∙◌, ◌∷◌, ◌≡◌, [], ℕ, List, None, ap, arith, get_or, length, map, nat_eq, set, suc, sym, zero}
+use Rattle.std.{proofs.lemmas.List.map-set, specs.Map.lookup}
+use Rattle.indexmap.{proofs.MapLemmas.absent_from_lookup, proofs.MapLemmas.insert_entry-absent, specs.IndexMap.insert_entry}
 use Rattle.check_steps.specs.Regions.{RegionRows, region_at}
 
 pub region_of : {M : Type 0} (e : M → RegionRows) (maps : List M) (r : ℕ) (m : M) → r < length maps → m ≡ get_or maps r m → region_at (map e maps) r ≡ e m

@@ -1,14 +1,9 @@
 -- Names as a set of vectors keeps them.
-use Rattle.std.proofs.Common.{◌≡◌, ℕ, ◌+◌, Bool, true, false, List, [], ◌∷◌, ◌++◌, map, fold, take, get_or, nat_eq, nat_lt, not, ◌||◌}
-use Rattle.std.proofs.Common.{if◌then◌else◌, Option, Some, None, refl, ap, sym, ◌∙◌}
-use Rattle.std.specs.Prelude.{position, slice_get}
-use Rattle.std.specs.Global.{Vec}
-use Rattle.std.specs.List.{list_any, position_or_len}
-use Rattle.std.specs.Cmp.Lexicographic.{pointwise}
-use Rattle.std.proofs.lemmas.List.{length-map, map_push, take_more}
-use Rattle.std.proofs.lemmas.List.Sums.{fold-append}
-use Rattle.std.proofs.lemmas.Option.{slice_get_within, get_or_from_slice_get}
-use Rattle.check_steps.specs.Words.{texts_in, number_of_name, same_name, with_name}
+use Rattle.std.proofs.Common.{if◌then◌else◌, ◌++◌, ◌+◌, ◌||◌, ◌∙◌, ◌∷◌, ◌≡◌, [], ℕ, Bool, List, None, Option, Some, ap, false, fold, get_or, map, nat_eq}
+use Rattle.std.proofs.Common.{nat_lt, not, position, refl, slice_get, sym, take, true}
+use Rattle.std.proofs.lemmas.{List.length-map, List.map_push, List.take_more, List.Sums.fold-append, Option.get_or_from_slice_get, Option.slice_get_within}
+use Rattle.std.specs.{Cmp.Lexicographic.pointwise, Global.Vec, List.list_any, List.position_or_len}
+use Rattle.check_steps.specs.Words.{number_of_name, same_name, texts_in, with_name}
 
 -- whether a name is among those that vectors hold
 abbrev pub is_kept : List ℕ → List (Vec ℕ) → Bool

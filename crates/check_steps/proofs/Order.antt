@@ -1,5 +1,5 @@
 -- The order by three numbers, of which the first counts most.
-use Rattle.std.proofs.Common.{◌≡◌, ℕ, true, false, nat_lt, nat_eq, ◌&&◌, ◌||◌, arith}
+use Rattle.std.proofs.Common.{◌&&◌, ◌||◌, ◌≡◌, ℕ, arith, false, nat_eq, nat_lt, true}
 use Rattle.std.proofs.lemmas.Bool.Decides.{nat_tests}
 
 pub irreflexive : (g t r : ℕ) → (nat_lt g g || (nat_eq g g && (nat_lt t t || (nat_eq t t && nat_lt r r)))) ≡ false

@@ -1,10 +1,8 @@
 -- Further out, past frames of one region.
-use Rattle.std.proofs.Common.{◌≡◌, ℕ, zero, suc, ◌-◌, ◌<◌, Option, Some, None, refl, ap, sym, ◌∙◌, arith}
-use Rattle.check_steps.specs.declared.regions.Definition.{Definition}
-use Rattle.check_steps.specs.declared.regions.Found.{Found}
-use Rattle.check_steps.specs.Frames.{Leads}
+use Rattle.std.proofs.Common.{◌-◌, ◌<◌, ◌∙◌, ◌≡◌, ℕ, None, Option, Some, ap, arith, refl, suc, sym, zero}
+use Rattle.check_steps.specs.{Frames.Leads, Regions.declared_in, Regions.defined_in, Regions.or_else}
 use Rattle.check_steps.specs.Known.{Known, find_from, find_label_from, found_in, found_with, frame_at}
-use Rattle.check_steps.specs.Regions.{declared_in, defined_in, or_else}
+use Rattle.check_steps.specs.declared.regions.{Definition.Definition, Found.Found}
 
 pub find-outermost : (k : Known) (n name : ℕ) → find_from n k None name ≡ None
 find-outermost k zero name = refl

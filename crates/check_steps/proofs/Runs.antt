@@ -1,14 +1,9 @@
 -- The work after steps in turn.
-use Rattle.std.proofs.Common.{◌≡◌, ℕ, zero, suc, ◌+◌, ◌<◌, ◌≤◌, List, [], ◌∷◌, ◌++◌, length, drop, take, get_or, Bool, if◌then◌else◌, Option}
-use Rattle.std.proofs.Common.{refl, ap, sym, ◌∙◌, add-one, arith}
-use Rattle.std.proofs.Math.Seq.{drop-cons, take-length}
-use Rattle.std.proofs.lemmas.List.{drop_all, append_assoc}
-use Rattle.check_steps.specs.declared.breaks.Break.{Break}
-use Rattle.check_steps.specs.declared.breaks.Broken.{Broken}
-use Rattle.check_steps.specs.declared.work.Work.{Work}
-use Rattle.check_steps.specs.Known.{Known}
-use Rattle.check_steps.specs.Breaks.{first_broken, earlier}
-use Rattle.check_steps.specs.Steps.{Step, ask, change, give, ◌>>=◌, look, run_step, each, each_back}
+use Rattle.std.proofs.Common.{if◌then◌else◌, ◌++◌, ◌+◌, ◌<◌, ◌∙◌, ◌∷◌, ◌≡◌, ◌≤◌, [], ℕ, Bool, List, Option, add-one, ap, arith, drop, get_or, length, refl, suc}
+use Rattle.std.proofs.{Common.sym, Common.take, Common.zero, Math.Seq.drop-cons, Math.Seq.take-length, lemmas.List.append_assoc, lemmas.List.drop_all}
+use Rattle.check_steps.specs.{Breaks.earlier, Breaks.first_broken, Known.Known}
+use Rattle.check_steps.specs.Steps.{◌>>=◌, Step, ask, change, each, each_back, give, look, run_step}
+use Rattle.check_steps.specs.declared.{breaks.Break.Break, breaks.Broken.Broken, work.Work.Work}
 
 pub first_of-append : (xs ys : List Break) (known : Option Break) → first_broken (xs ++ ys) known ≡ first_broken ys (first_broken xs known)
 first_of-append [] ys known = refl

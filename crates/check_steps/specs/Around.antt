@@ -1,9 +1,8 @@
 -- The innermost frame of a region around a frame, and what is kept to tell it at once.
-use Rattle.std.specs.Prelude.{◌≡◌, ℕ, zero, suc, ◌<◌, ◌≤◌, Bool, true, false, List, Option, Some, None, length}
-use Rattle.std.specs.Prelude.{⊤, fold, is_some, nat_eq, nat_lt, unwrap_or, slice_get, if◌then◌else◌}
+use Rattle.std.specs.Prelude.{if◌then◌else◌, ◌<◌, ◌≡◌, ◌≤◌, ℕ, ⊤, Bool, List, None, Option, Some, false, fold, is_some}
+use Rattle.std.specs.Prelude.{length, nat_eq, nat_lt, slice_get, suc, true, unwrap_or, zero}
 use Rattle.std.specs.List.{list_any}
-use Rattle.check_steps.specs.declared.regions.Frame.{Frame}
-use Rattle.check_steps.specs.Frames.{frame_in}
+use Rattle.check_steps.specs.{Frames.frame_in, declared.regions.Frame.Frame}
 
 -- the first of at most this many frames outward whose region passes the test
 abbrev pub first_around : ℕ → List Frame → (ℕ → Bool) → Option ℕ → Option ℕ

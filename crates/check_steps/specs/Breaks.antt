@@ -1,11 +1,8 @@
 -- Broken rules, their order, and the first of them.
-use Rattle.std.specs.Prelude.{◌≡◌, ℕ, Bool, false, List, [], ◌∷◌, Option, Some, None, nat_lt, nat_eq, ◌&&◌, ◌||◌}
-use Rattle.std.specs.Prelude.{if◌then◌else◌, Contains, All}
-use Rattle.check_steps.specs.declared.breaks.Broken.{Broken}
-use Rattle.check_steps.specs.declared.breaks.Broken.TheVariants.{Early, Late, TooBig}
-use Rattle.check_steps.specs.declared.breaks.Break.{Break}
-use Rattle.check_steps.specs.declared.breaks.CheckFault.{CheckFault}
-use Rattle.check_steps.specs.declared.breaks.CheckFault.TheVariants as fault
+use Rattle.std.specs.Prelude.{if◌then◌else◌, ◌&&◌, ◌||◌, ◌∷◌, ◌≡◌, [], ℕ, All, Bool, Contains, List, None, Option, Some}
+use Rattle.std.specs.Prelude.{false, nat_eq, nat_lt}
+use Rattle.check_steps.specs.declared.breaks.{Break.Break, CheckFault.CheckFault}
+use Rattle.check_steps.specs.declared.breaks.Broken.{Broken, TheVariants.Early, TheVariants.Late, TheVariants.TooBig}
 
 -- Rules that can be told from declarations and names alone come first. Too many cells count where no rule is broken.
 abbrev pub group : Broken → ℕ
@@ -42,9 +39,9 @@ first_broken (b ∷ bs) known = first_broken bs (earlier b known)
 
 -- what is answered of a broken rule
 abbrev pub fault_at : Broken → ℕ → CheckFault
-fault_at (Early rule) token = fault.Rule rule token
-fault_at (Late rule) token = fault.Rule rule token
-fault_at TooBig token = fault.TooBig token
+fault_at (Early rule) token = CheckFault.Rule rule token
+fault_at (Late rule) token = CheckFault.Rule rule token
+fault_at TooBig token = CheckFault.TooBig token
 
 abbrev pub fault_of : Break → CheckFault
 fault_of b = fault_at b.broken b.token
@@ -55,6 +52,6 @@ IsOfFirst bs e = (b : Break) × IsFirst bs b × (e ≡ fault_of b)
 
 -- The answer is of the first of these broken rules, or that memory ran out.
 abbrev pub FaultIs : List Break → CheckFault → Type 0
-FaultIs bs (fault.Rule rule token) = IsOfFirst bs (fault.Rule rule token)
-FaultIs bs (fault.TooBig token) = IsOfFirst bs (fault.TooBig token)
-FaultIs bs fault.Memory = Unit {0}
+FaultIs bs (CheckFault.Rule rule token) = IsOfFirst bs (CheckFault.Rule rule token)
+FaultIs bs (CheckFault.TooBig token) = IsOfFirst bs (CheckFault.TooBig token)
+FaultIs bs CheckFault.Memory = Unit {0}

@@ -1,7 +1,6 @@
 -- Frames by their numbers, and frames of one region in a row.
-use Rattle.std.specs.Prelude.{◌≡◌, ℕ, zero, suc, ◌<◌, List, Option, Some, None, length, map, unwrap_or, slice_get}
-use Rattle.check_steps.specs.declared.regions.Frame.{Frame}
-use Rattle.check_steps.specs.declared.frames.KeptFrame.{KeptFrame}
+use Rattle.std.specs.Prelude.{◌<◌, ◌≡◌, ℕ, List, None, Option, Some, length, map, slice_get, suc, unwrap_or, zero}
+use Rattle.check_steps.specs.declared.{frames.KeptFrame.KeptFrame, regions.Frame.Frame}
 
 -- the frame of a number, and the outermost where there is none
 abbrev pub frame_in : List Frame → ℕ → Frame

@@ -1,11 +1,8 @@
 -- By a name, or by a label's value, the regions that may define it.
-use Rattle.std.specs.Prelude.{◌≡◌, ℕ, false, List, [], ◌∷◌, ◌++◌, Option, None, Some, nat_eq, slice_set}
-use Rattle.std.specs.Global.{Vec}
-use Rattle.std.specs.Map.{lookup}
-use Rattle.check_steps.specs.declared.regions.Definition.{Definition}
-use Rattle.check_steps.specs.declared.regions.Region.{Region}
-use Rattle.check_steps.specs.Around.{is_among}
-use Rattle.check_steps.specs.Regions.{RegionRows, region_at}
+use Rattle.std.specs.Prelude.{◌++◌, ◌∷◌, ◌≡◌, [], ℕ, List, None, Option, Some, false, nat_eq, slice_set}
+use Rattle.std.specs.{Global.Vec, Map.lookup}
+use Rattle.check_steps.specs.{Around.is_among, Regions.RegionRows, Regions.region_at}
+use Rattle.check_steps.specs.declared.regions.{Definition.Definition, Region.Region}
 
 abbrev pub regions_of : Option (Vec ℕ) → List ℕ
 regions_of None = []

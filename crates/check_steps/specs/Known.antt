@@ -1,25 +1,15 @@
 -- What the tables of a check say.
-use Rattle.std.specs.Prelude.{ℕ, zero, suc, List, [], ◌∷◌, ◌++◌, Option, Some, None, length}
-use Rattle.std.specs.Prelude.{unwrap_or, ◌-◌, Bool, nat_eq, take}
-use Rattle.std.specs.Prelude.{slice_get, slice_set}
-use Rattle.std.specs.List.{list_any}
-use Rattle.std.specs.Ordering.{int_eq}
-use Rattle.std.specs.Prelude.{ℤ, ◌&&◌}
+use Rattle.std.specs.Prelude.{◌&&◌, ◌++◌, ◌-◌, ◌∷◌, [], ℕ, ℤ, Bool, List, None, Option, Some, length, nat_eq, slice_get}
+use Rattle.std.specs.Prelude.{slice_set, suc, take, unwrap_or, zero}
+use Rattle.std.specs.{List.list_any, Ordering.int_eq}
 use Rattle.indexmap.specs.IndexSet.{insert_key}
-use Rattle.core_program.specs.declared.rows.Row.{Row}
-use Rattle.core_program.specs.declared.rows.TypeRow.{TypeRow}
-use Rattle.core_program.specs.declared.program.Routine.{Routine}
 use Rattle.core_program.specs.ProgramRows.{ProgramRows}
 use Rattle.core_program.specs.ProgramRows as program
-use Rattle.check_steps.specs.declared.words.Spelled.{Spelled}
-use Rattle.check_steps.specs.declared.words.Spelled.TheVariants as spelled
-use Rattle.check_steps.specs.declared.words.SpelledToken.{SpelledToken}
-use Rattle.check_steps.specs.declared.regions.Definition.{Definition}
-use Rattle.check_steps.specs.declared.regions.Found.{Found}
-use Rattle.check_steps.specs.declared.regions.Frame.{Frame}
-use Rattle.check_steps.specs.declared.regions.Span.{Span}
+use Rattle.core_program.specs.declared.{program.Routine.Routine, rows.Row.Row, rows.TypeRow.TypeRow}
+use Rattle.check_steps.specs.Regions.{RegionRows, declared_in, defined_in, fresh_region, or_else, region_at}
 use Rattle.check_steps.specs.Threats.{first_threat}
-use Rattle.check_steps.specs.Regions.{RegionRows, region_at, fresh_region, defined_in, declared_in, or_else}
+use Rattle.check_steps.specs.declared.regions.{Definition.Definition, Found.Found, Frame.Frame, Span.Span}
+use Rattle.check_steps.specs.declared.words.{Spelled.Spelled, SpelledToken.SpelledToken}
 
 pub record Known : Type 0 where
   -- the spellings of names, each once; a name's number is its place here
@@ -42,7 +32,7 @@ pub record Known : Type 0 where
 -- ---- words
 
 abbrev pub word_at : Known → ℕ → SpelledToken
-word_at k token = unwrap_or (slice_get k.words token) (record { spelled = spelled.Other; line = 0 })
+word_at k token = unwrap_or (slice_get k.words token) (record { spelled = Spelled.Other; line = 0 })
 
 abbrev pub spelled_at : Known → ℕ → Spelled
 spelled_at k token = (word_at k token).spelled
@@ -52,7 +42,7 @@ abbrev pub line_at : Known → ℕ → ℕ
 line_at k token = (word_at k token).line
 
 abbrev pub name_in : Spelled → ℕ
-name_in (spelled.Name name) = name
+name_in (Spelled.Name name) = name
 name_in s = 0
 
 -- the number of the name that a token spells
@@ -60,7 +50,7 @@ abbrev pub name_at : Known → ℕ → ℕ
 name_at k token = name_in (spelled_at k token)
 
 abbrev pub label_in : Spelled → ℕ
-label_in (spelled.Number value) = value
+label_in (Spelled.Number value) = value
 label_in s = 0
 
 -- the value of a label, by which labels are told apart

@@ -1,10 +1,8 @@
 -- Definitions of names and labels, and uses of names.
-use Rattle.std.specs.Prelude.{ℕ, Bool, false, Option, Some, None, nat_le, is_none, if◌then◌else◌}
-use Rattle.check_steps.specs.declared.regions.Definition.{Definition}
-use Rattle.check_steps.specs.declared.regions.Found.{Found}
-use Rattle.check_steps.specs.Known.{find, name_at}
-use Rattle.check_steps.specs.Regions.{declared_in, defined_in}
-use Rattle.check_steps.specs.Steps.{Step, give, ◌>>=◌, look, early, when, add_definition, add_label}
+use Rattle.std.specs.Prelude.{if◌then◌else◌, ℕ, Bool, None, Option, Some, false, is_none, nat_le}
+use Rattle.check_steps.specs.{Known.find, Known.name_at, Regions.declared_in, Regions.defined_in}
+use Rattle.check_steps.specs.Steps.{◌>>=◌, Step, add_definition, add_label, early, give, look, when}
+use Rattle.check_steps.specs.declared.regions.{Definition.Definition, Found.Found}
 
 -- rule 2: a region defines a name a second time
 unfoldable pub define_in : ℕ → Definition → Step (Unit {0})

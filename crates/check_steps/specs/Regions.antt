@@ -1,5 +1,5 @@
 -- Regions as a contract sees them.
-use Rattle.std.specs.Prelude.{ℕ, List, [], Option, Some, None, nat_eq, unwrap_or, slice_get}
+use Rattle.std.specs.Prelude.{[], ℕ, List, None, Option, Some, nat_eq, slice_get, unwrap_or}
 use Rattle.std.specs.Map.{lookup}
 use Rattle.check_steps.specs.declared.regions.Definition.{Definition}
 

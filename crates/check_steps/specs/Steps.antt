@@ -1,18 +1,11 @@
 -- Steps of a check: what a part of a tree does to the tables, and the rules that it breaks.
-use Rattle.std.specs.Prelude.{◌≡◌, ℕ, ℤ, Bool, List, [], ◌∷◌, ◌++◌, Option, length, if◌then◌else◌}
-use Rattle.core_program.specs.declared.rows.Row.{Row}
-use Rattle.core_program.specs.declared.program.Routine.{Routine}
-use Rattle.check_steps.specs.declared.breaks.Broken.{Broken}
-use Rattle.check_steps.specs.declared.breaks.Broken.TheVariants.{Early, Late, TooBig}
-use Rattle.check_steps.specs.declared.breaks.Break.{Break}
-use Rattle.check_steps.specs.declared.regions.Definition.{Definition}
-use Rattle.check_steps.specs.declared.regions.Frame.{Frame}
-use Rattle.check_steps.specs.declared.regions.Span.{Span}
-use Rattle.check_steps.specs.declared.work.Work.{Work}
-use Rattle.check_steps.specs.Breaks.{first_broken}
-use Rattle.check_steps.specs.Known.{Known, and_choice, and_control, and_definition, and_frame}
-use Rattle.check_steps.specs.Known.{and_label, and_region, and_routine}
-use Rattle.check_steps.specs.Known.{and_threat, in_block, with_routine, with_row, without_control}
+use Rattle.std.specs.Prelude.{if◌then◌else◌, ◌++◌, ◌∷◌, ◌≡◌, [], ℕ, ℤ, Bool, List, Option, length}
+use Rattle.core_program.specs.declared.{program.Routine.Routine, rows.Row.Row}
+use Rattle.check_steps.specs.{Breaks.first_broken, declared.breaks.Break.Break, declared.work.Work.Work}
+use Rattle.check_steps.specs.Known.{Known, and_choice, and_control, and_definition, and_frame, and_label, and_region}
+use Rattle.check_steps.specs.Known.{and_routine, and_threat, in_block, with_routine, with_row, without_control}
+use Rattle.check_steps.specs.declared.breaks.Broken.{Broken, TheVariants.Early, TheVariants.Late, TheVariants.TooBig}
+use Rattle.check_steps.specs.declared.regions.{Definition.Definition, Frame.Frame, Span.Span}
 
 -- what a step gives, what is known after it, and the rules that it breaks
 pub record Done (A : Type 0) : Type 0 where

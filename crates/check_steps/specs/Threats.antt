@@ -1,6 +1,6 @@
 -- Where routines threaten variables of the blocks around them (6.8.3.9).
-use Rattle.std.specs.Prelude.{◌≡◌, ℕ, zero, suc, ◌+◌, ◌<◌, ◌≤◌, length, Bool, false, List, Option, Some, None}
-use Rattle.std.specs.Prelude.{nat_eq, nat_lt, unwrap_or, slice_get, slice_index_or, slice_set, if◌then◌else◌}
+use Rattle.std.specs.Prelude.{if◌then◌else◌, ◌+◌, ◌<◌, ◌≡◌, ◌≤◌, ℕ, Bool, List, None, Option, Some, false, length}
+use Rattle.std.specs.Prelude.{nat_eq, nat_lt, slice_get, slice_index_or, slice_set, suc, unwrap_or, zero}
 
 abbrev pub is_variable_of : Option ℕ → ℕ → Bool
 is_variable_of None variable = false

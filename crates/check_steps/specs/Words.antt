@@ -1,18 +1,11 @@
 -- What the tokens of a source spell, and the numbers of names.
-use Rattle.std.specs.Prelude.{ℕ, ◌+◌, Bool, List, [], ◌∷◌, ◌++◌, map, fold, length, codes, position, replicate, Option}
-use Rattle.std.specs.Prelude.{None, if◌then◌else◌, nat_eq, unwrap_or}
-use Rattle.std.specs.Global.{Vec}
-use Rattle.std.specs.List.{list_any}
-use Rattle.std.specs.Cmp.Lexicographic.{pointwise}
-use Rattle.pas_lexer.specs.declared.kinds.TokenKind.{TokenKind}
-use Rattle.pas_lexer.specs.declared.kinds.TokenKind.TheVariants as kind
-use Rattle.pas_lexer.specs.declared.kinds.Token.{Token}
+use Rattle.std.specs.Prelude.{if◌then◌else◌, ◌++◌, ◌+◌, ◌∷◌, [], ℕ, Bool, List, None, Option, codes, fold, length, map}
+use Rattle.std.specs.Prelude.{nat_eq, position, replicate, unwrap_or}
+use Rattle.std.specs.{Cmp.Lexicographic.pointwise, Global.Vec, List.list_any}
 use Rattle.pas_lexer.specs.Lexed.{Lexed, spelling_of, text_of}
+use Rattle.pas_lexer.specs.declared.kinds.{Token.Token, TokenKind.TokenKind}
 use Rattle.core_program.specs.ProgramRows.{blank_tables}
-use Rattle.check_steps.specs.declared.words.Spelled.{Spelled}
-use Rattle.check_steps.specs.declared.words.Spelled.TheVariants as spelled
-use Rattle.check_steps.specs.declared.words.SpelledToken.{SpelledToken}
-use Rattle.check_steps.specs.Known.{Known}
+use Rattle.check_steps.specs.{Known.Known, declared.words.Spelled.Spelled, declared.words.SpelledToken.SpelledToken}
 
 -- the required names in the order of their numbers: types, constants, functions, procedures, text files
 abbrev pub required_types : List (List ℕ)
@@ -46,7 +39,7 @@ with_name names s = if list_any (same_name s) names then names else names ++ s �
 
 -- these names and the one that a token spells
 abbrev pub with_name_of : TokenKind → List (List ℕ) → List ℕ → List (List ℕ)
-with_name_of kind.Name names s = with_name names s
+with_name_of TokenKind.Name names s = with_name names s
 with_name_of k names s = names
 
 abbrev pub name_from : List ℕ → List (List ℕ) → Token → List (List ℕ)
@@ -70,10 +63,10 @@ texts_in vs = map (λ v. v.items) vs
 -- ---- words
 
 abbrev pub spelled_by : List (List ℕ) → TokenKind → List ℕ → Spelled
-spelled_by names kind.Name s = spelled.Name (name_number names s)
-spelled_by names (kind.Number n) s = spelled.Number n
-spelled_by names kind.Text s = spelled.Text
-spelled_by names k s = spelled.Other
+spelled_by names TokenKind.Name s = Spelled.Name (name_number names s)
+spelled_by names (TokenKind.Number n) s = Spelled.Number n
+spelled_by names TokenKind.Text s = Spelled.Text
+spelled_by names k s = Spelled.Other
 
 abbrev pub word_of : List (List ℕ) → List ℕ → Token → SpelledToken
 word_of names source t = record { spelled = spelled_by names t.kind (spelling_of source t); line = t.line }
@@ -83,8 +76,8 @@ words_of names source tokens = map (word_of names source) tokens
 
 -- of a name its text, of a string its characters, and nothing of another token
 abbrev pub kept_text : TokenKind → List ℕ → List ℕ → List ℕ
-kept_text kind.Name text spelling = text
-kept_text kind.Text text spelling = spelling
+kept_text TokenKind.Name text spelling = text
+kept_text TokenKind.Text text spelling = spelling
 kept_text k text spelling = []
 
 abbrev pub kept_of : List ℕ → Token → List ℕ

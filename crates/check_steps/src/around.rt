@@ -1,6 +1,6 @@
 //! Frames, and for one of them which frames are around it: names are looked up there.
 
-ghost use Rattle.std.specs.Prelude.{◌≡◌, ◌+◌, ◌≤◌, ◌++◌, ◌∷◌, [], None, Some, true, length, slice_set, OnOk, IfSome};
+ghost use Rattle.std.specs.Prelude.{◌++◌, ◌+◌, ◌∷◌, ◌≡◌, ◌≤◌, [], IfSome, None, OnOk, Some, length, slice_set, true};
 ghost use Rattle.check_steps.specs.Around.{first_around, is_among, is_around, kept_in, later, latest};
 ghost use Rattle.check_steps.specs.Frames.{Leads, frame_in};
 
@@ -28,8 +28,7 @@ pub(crate) struct Around {
 
 impl Model for Around {
     ghost use Rattle.std.specs.Prelude.{List};
-    ghost use Rattle.check_steps.specs.declared.regions.Frame.{Frame};
-    ghost use Rattle.check_steps.specs.Around.{IsKept};
+    ghost use Rattle.check_steps.specs.{Around.IsKept, declared.regions.Frame.Frame};
 
     ghost Value = { List Frame };
 

@@ -1,7 +1,7 @@
 //! Broken rules and their order.
 
 ghost use Rattle.std.specs.Prelude.{◌≡◌};
-ghost use Rattle.check_steps.specs.Breaks.{is_before, group, number, fault_of};
+ghost use Rattle.check_steps.specs.Breaks.{fault_of, group, is_before, number};
 
 use std::alloc::AllocError;
 use thiserror::Error;

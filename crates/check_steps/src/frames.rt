@@ -1,6 +1,6 @@
 //! Frames, and how far outward the frames around one have its region.
 
-ghost use Rattle.std.specs.Prelude.{◌≡◌, ◌+◌, ◌≤◌, ◌++◌, ◌∷◌, [], None, Some, length, map, slice_get, OnOk};
+ghost use Rattle.std.specs.Prelude.{◌++◌, ◌+◌, ◌∷◌, ◌≡◌, ◌≤◌, [], None, OnOk, Some, length, map, slice_get};
 ghost use Rattle.check_steps.specs.Frames.{IsChained, Leads, frame_in, frame_of};
 
 use crate::regions::Frame;
@@ -31,8 +31,7 @@ pub(crate) struct Frames {
 
 impl Model for Frames {
     ghost use Rattle.std.specs.Prelude.{List, map};
-    ghost use Rattle.check_steps.specs.declared.regions.Frame.{Frame};
-    ghost use Rattle.check_steps.specs.Frames.{IsChained, frame_of};
+    ghost use Rattle.check_steps.specs.{Frames.IsChained, Frames.frame_of, declared.regions.Frame.Frame};
 
     ghost Value = { List Frame };
 

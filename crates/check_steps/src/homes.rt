@@ -1,9 +1,8 @@
 //! By a number, a name's or a label's value, the regions that may define it.
 
-ghost use Rattle.std.specs.Prelude.{◌≡◌, ℕ, [], None, true, nat_eq, OnOk};
+ghost use Rattle.std.specs.Prelude.{◌≡◌, [], ℕ, None, OnOk, nat_eq, true};
 ghost use Rattle.std.specs.Map.{lookup};
-ghost use Rattle.check_steps.specs.Around.{is_among};
-ghost use Rattle.check_steps.specs.Homes.{homes_of};
+ghost use Rattle.check_steps.specs.{Around.is_among, Homes.homes_of};
 
 use indexmap::IndexMap;
 use std::alloc::{AllocError, Global};
@@ -17,8 +16,7 @@ pub(crate) struct Homes {
 }
 
 impl Model for Homes {
-    ghost use Rattle.std.specs.Prelude.{ℕ, List};
-    ghost use Rattle.std.specs.Global.{Vec};
+    ghost use Rattle.std.specs.{Prelude.ℕ, Prelude.List, Global.Vec};
 
     ghost Value = { List (ℕ × Vec ℕ) };
 

@@ -1,12 +1,10 @@
 //! The required names, defined in the outermost region.
 
-ghost use Rattle.std.specs.Prelude.{◌≡◌, ◌<◌, IfOk};
+ghost use Rattle.std.specs.Prelude.{◌<◌, ◌≡◌, IfOk};
 ghost use Rattle.core_program.specs.declared.rows.NameRow.TheVariants.{Required as Routine};
 ghost use Rattle.check_steps.specs.Required.{all_names, arithmetic_names, constant_names, file_names, moving_names};
-ghost use Rattle.check_steps.specs.Required.{ordinal_names, ordinal_types};
-ghost use Rattle.check_steps.specs.Required.{open_outermost, reading_names, require, required_def, routine_names};
-ghost use Rattle.check_steps.specs.Required.{type_names};
-ghost use Rattle.check_steps.specs.Required.{writing_names};
+ghost use Rattle.check_steps.specs.Required.{open_outermost, ordinal_names, ordinal_types, reading_names, require};
+ghost use Rattle.check_steps.specs.Required.{required_def, routine_names, type_names, writing_names};
 ghost use Rattle.check_steps.specs.Steps.{Does};
 
 use crate::regions::{Def, Definition};

@@ -1,9 +1,8 @@
 //! Regions by their numbers, and which of them may define a name or declare a label.
 
-ghost use Rattle.std.specs.Prelude.{◌≡◌, ◌+◌, ◌≤◌, ◌++◌, ◌∷◌, ℕ, [], None, false, length, slice_set, OnOk};
-ghost use Rattle.check_steps.specs.Around.{is_among};
+ghost use Rattle.std.specs.Prelude.{◌++◌, ◌+◌, ◌∷◌, ◌≡◌, ◌≤◌, [], ℕ, None, OnOk, false, length, slice_set};
+ghost use Rattle.check_steps.specs.{Around.is_among, Homes.with_definition, Homes.with_label};
 ghost use Rattle.check_steps.specs.Regions.{declared_in, defined_in, fresh_region, region_at};
-ghost use Rattle.check_steps.specs.Homes.{with_definition, with_label};
 
 use crate::homes::Homes;
 use crate::regions::{Definition, Region};
@@ -23,8 +22,7 @@ pub(crate) struct Scopes {
 
 impl Model for Scopes {
     ghost use Rattle.std.specs.Prelude.{List, map};
-    ghost use Rattle.check_steps.specs.Regions.{RegionRows};
-    ghost use Rattle.check_steps.specs.Homes.{AreHomes, rows_of};
+    ghost use Rattle.check_steps.specs.{Homes.AreHomes, Homes.rows_of, Regions.RegionRows};
 
     ghost Value = { List RegionRows };
 

@@ -1,17 +1,13 @@
 //! The tables that a check fills.
 
-ghost use Rattle.std.specs.Prelude.{◌≡◌, ◌+◌, ◌<◌, ◌^◌, ◌++◌, ◌∷◌, ℕ, true, None, Some, length, OnOk, IfOk};
-ghost use Rattle.check_steps.specs.declared.regions.Found.{Found};
-ghost use Rattle.check_steps.specs.Known.{and_choice, is_chosen};
-ghost use Rattle.check_steps.specs.Known.{and_control, and_definition, and_frame, and_label, and_region, and_routine};
-ghost use Rattle.check_steps.specs.Known.{and_threat, in_block, is_control, label_at, threat_of, without_control};
-ghost use Rattle.check_steps.specs.Known.{find, find_label, found_in, frame_at, line_at, name_at, row_at, spelled_at};
-ghost use Rattle.check_steps.specs.Known.{type_at, with_routine, with_row, word_at};
-ghost use Rattle.check_steps.specs.Around.{is_around};
-ghost use Rattle.check_steps.specs.Frames.{Leads};
-ghost use Rattle.check_steps.specs.Names.{usable};
+ghost use Rattle.std.specs.Prelude.{◌++◌, ◌+◌, ◌<◌, ◌^◌, ◌∷◌, ◌≡◌, ℕ, IfOk, None, OnOk, Some, length, true};
+ghost use Rattle.check_steps.specs.{Around.is_around, Frames.Leads, Names.usable, declared.regions.Found.Found};
+ghost use Rattle.check_steps.specs.Known.{and_choice, and_control, and_definition, and_frame, and_label, and_region};
+ghost use Rattle.check_steps.specs.Known.{and_routine, and_threat, find, find_label, found_in, frame_at, in_block};
+ghost use Rattle.check_steps.specs.Known.{is_chosen, is_control, label_at, line_at, name_at, row_at, spelled_at};
+ghost use Rattle.check_steps.specs.Known.{threat_of, type_at, with_routine, with_row, without_control, word_at};
 ghost use Rattle.check_steps.specs.Regions.{declared_in, defined_in, region_at};
-ghost use Rattle.check_steps.specs.Words.{number_of_name, known_at_start};
+ghost use Rattle.check_steps.specs.Words.{known_at_start, number_of_name};
 
 use crate::around::Around;
 use crate::frames::Beyond;

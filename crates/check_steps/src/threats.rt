@@ -1,7 +1,7 @@
 //! Where routines threaten variables of the blocks around them (6.8.3.9).
 
-ghost use Rattle.std.specs.Prelude.{◌≡◌, ℕ, ◌-◌, ◌<◌, ◌≤◌, IfOk, false, None, Some, replicate};
-ghost use Rattle.std.specs.Prelude.{slice_get, slice_set, unwrap_or};
+ghost use Rattle.std.specs.Prelude.{◌-◌, ◌<◌, ◌≡◌, ◌≤◌, ℕ, IfOk, None, Some, false, replicate, slice_get, slice_set};
+ghost use Rattle.std.specs.Prelude.{unwrap_or};
 ghost use Rattle.check_steps.specs.Threats.{first_threat, is_threat, is_variable_of, lowered};
 
 use std::alloc::{AllocError, Global};

@@ -1,10 +1,10 @@
 //! What the tokens of a source spell.
 
-ghost use Rattle.std.specs.Prelude.{◌≡◌, ◌<◌, ◌^◌, fold, IfOk, OnOk};
+ghost use Rattle.std.specs.Prelude.{◌<◌, ◌^◌, ◌≡◌, IfOk, OnOk, fold};
 ghost use Rattle.indexmap.specs.IndexSet.{index_set_len};
-ghost use Rattle.check_steps.specs.Words.{texts_in, kept_text, names_of, name_number, required_constants};
-ghost use Rattle.check_steps.specs.Words.{required_files, required_functions, required_names, required_procedures};
-ghost use Rattle.check_steps.specs.Words.{required_types, spelled_by, texts_of, with_name, with_name_of, words_of};
+ghost use Rattle.check_steps.specs.Words.{kept_text, name_number, names_of, required_constants, required_files};
+ghost use Rattle.check_steps.specs.Words.{required_functions, required_names, required_procedures, required_types};
+ghost use Rattle.check_steps.specs.Words.{spelled_by, texts_in, texts_of, with_name, with_name_of, words_of};
 
 use indexmap::IndexSet;
 use pas_lexer::{TokenKind, Tokens};

@@ -1,13 +1,10 @@
 //! What a check has found so far, and the steps that all of it is made of.
 
-ghost use Rattle.std.specs.Prelude.{◌≡◌, None, IfOk};
-ghost use Rattle.check_steps.specs.Regions.{defined_in};
+ghost use Rattle.std.specs.Prelude.{◌≡◌, IfOk, None};
+ghost use Rattle.check_steps.specs.{Known.threat_of, Regions.defined_in, Steps.too_big, Words.known_at_start};
 ghost use Rattle.check_steps.specs.Names.{declare_in, define_in, use_at};
-ghost use Rattle.check_steps.specs.Steps.{Does, add_chosen, add_definition, add_routine, ask};
-ghost use Rattle.check_steps.specs.Known.{threat_of};
-ghost use Rattle.check_steps.specs.Steps.{enter_block, hold, late, look, open_frame};
-ghost use Rattle.check_steps.specs.Steps.{open_region, put, put_routine, release, early, threaten, too_big};
-ghost use Rattle.check_steps.specs.Words.{known_at_start};
+ghost use Rattle.check_steps.specs.Steps.{Does, add_chosen, add_definition, add_routine, ask, early, enter_block, hold};
+ghost use Rattle.check_steps.specs.Steps.{late, look, open_frame, open_region, put, put_routine, release, threaten};
 
 use crate::breaks::{Break, Broken};
 use crate::regions::{Definition, Found, Frame, Span};

@@ -1,12 +1,9 @@
 -- The equations of blocks by the fields of their trees.
-use Rattle.std.proofs.Common.{◌≡◌, ℕ, List, refl, sym, ap, ◌∙◌}
-use Rattle.pas_tree.specs.declared.blocks.Block.{Block, out-Block, is-Block', Row_of-Routine, end_of-Routine, more_of-Routine}
-use Rattle.pas_tree.specs.declared.blocks.Block.{items-the_row-Routine, items_hidden-the_row-Routine-0}
-use Rattle.pas_tree.specs.declared.blocks.RoutineBody.TheBlock.{hidden-the_row-Routine-0}
-use Rattle.pas_tree.specs.declared.blocks.Routine.{Routine}
-use Rattle.pas_tree.specs.declared.statements.Compound.{out-Compound}
-use Rattle.check_steps.specs.Steps.{Step, ◌>>=◌, each}
-use Rattle.pas_tree.specs.HeadingPlaces.{heading_name}
+use Rattle.std.proofs.Common.{◌∙◌, ◌≡◌, ℕ, List, ap, refl, sym}
+use Rattle.pas_tree.specs.{HeadingPlaces.heading_name, declared.statements.Compound.out-Compound}
+use Rattle.pas_tree.specs.declared.blocks.{Block.more_of-Routine, Block.out-Block, Routine.Routine, RoutineBody.TheBlock.hidden-the_row-Routine-0}
+use Rattle.pas_tree.specs.declared.blocks.Block.{Block, Row_of-Routine, end_of-Routine, is-Block', items-the_row-Routine, items_hidden-the_row-Routine-0}
+use Rattle.check_steps.specs.Steps.{◌>>=◌, Step, each}
 use Rattle.denoter_checker.specs.Formals.{is_function}
 use Rattle.statement_checker.specs.Labels.{reach_all}
 use Rattle.code_checker.specs.Blocks.{code_block, code_body, code_routine, code_routines, statement_part}

@@ -1,14 +1,10 @@
 -- What the declarations break is among all that is broken.
-use Rattle.std.proofs.Common.{zero, suc, List, [], ◌∷◌, ◌++◌, arith}
-use Rattle.std.specs.Prelude.{Contains}
+use Rattle.std.proofs.Common.{◌++◌, ◌∷◌, [], Contains, List, arith, suc, zero}
 use Rattle.pas_lexer.specs.Lexed.{Lexed}
 use Rattle.pas_tree.specs.declared.blocks.Tree.{Tree}
-use Rattle.check_steps.specs.declared.breaks.Break.{Break}
-use Rattle.check_steps.specs.Steps.{◌>>=◌}
-use Rattle.check_steps.specs.Words.{known_at_start}
+use Rattle.check_steps.specs.{Steps.◌>>=◌, Words.known_at_start, declared.breaks.Break.Break}
 use Rattle.decl_checker.specs.Programs as declarations
-use Rattle.code_checker.specs.Blocks.{code_block}
-use Rattle.code_checker.specs.CheckedPrograms.{broken, check_step}
+use Rattle.code_checker.specs.{Blocks.code_block, CheckedPrograms.broken, CheckedPrograms.check_step}
 
 among : (xs ys : List Break) (b : Break) → Contains xs b → Contains (xs ++ ys) b
 among [] ys b c = absurd (omega (arith, c.1))

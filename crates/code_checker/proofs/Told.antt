@@ -1,17 +1,12 @@
 -- What the whole check of a program leaves, and what is told of it.
-use Rattle.std.proofs.Common.{◌≡◌, ℕ, List, [], Option, Some, None, Result, Ok, Err, IfOk, IfErr, sym, subst, ap, ◌∙◌}
+use Rattle.std.proofs.Common.{◌∙◌, ◌≡◌, [], ℕ, Err, IfErr, IfOk, List, None, Ok, Option, Result, Some, ap, subst, sym}
 use Rattle.pas_lexer.specs.Lexed.{Lexed}
 use Rattle.pas_tree.specs.declared.blocks.Tree.{Tree}
 use Rattle.core_program.specs.ProgramRows.{ProgramRows}
-use Rattle.check_steps.specs.declared.breaks.Broken.{Broken}
-use Rattle.check_steps.specs.declared.breaks.Broken.TheVariants.{Early, Late, TooBig}
-use Rattle.check_steps.specs.declared.breaks.Break.{Break}
-use Rattle.check_steps.specs.declared.breaks.CheckFault.{CheckFault}
-use Rattle.check_steps.specs.declared.work.Work.{Work}
-use Rattle.check_steps.specs.Breaks.{FaultIs, IsOfFirst, fault_at, fault_of, first_broken}
-use Rattle.check_steps.specs.Steps.{run_step}
-use Rattle.check_steps.specs.Words.{known_at_start}
 use Rattle.check_steps.proofs.First.{fault-first, first_of-none}
+use Rattle.check_steps.specs.{Steps.run_step, Words.known_at_start, declared.breaks.Break.Break, declared.breaks.CheckFault.CheckFault, declared.work.Work.Work}
+use Rattle.check_steps.specs.Breaks.{FaultIs, IsOfFirst, fault_at, fault_of, first_broken}
+use Rattle.check_steps.specs.declared.breaks.Broken.{Broken, TheVariants.Early, TheVariants.Late, TheVariants.TooBig}
 use Rattle.code_checker.specs.CheckedPrograms.{broken, check_step, program_of}
 
 -- the first of what the tree breaks, and its program

@@ -1,19 +1,16 @@
 -- The statements of blocks, those of the routines first, as in the text (6.2.1).
 use Rattle.std.specs.Prelude.{ℕ, Bool}
-use Rattle.pas_tree.specs.declared.blocks.Block.{Block, Block' as BlockTree', Row_of-Routine}
-use Rattle.pas_tree.specs.declared.blocks.Block.{end_of-Routine, more_of-Routine}
-use Rattle.pas_tree.specs.declared.blocks.Routine.{Routine}
-use Rattle.pas_tree.specs.declared.blocks.RoutineBody.{RoutineBody, Directive, Block'}
-use Rattle.pas_tree.specs.declared.statements.Compound.{Compound, out-Compound}
-use Rattle.check_steps.specs.declared.regions.Span.{Span}
-use Rattle.check_steps.specs.Steps.{Step, give, ◌>>=◌, look, enter_block}
 use Rattle.pas_tree.specs.HeadingPlaces.{heading_name}
+use Rattle.pas_tree.specs.declared.blocks.{Block.more_of-Routine, Routine.Routine}
+use Rattle.pas_tree.specs.declared.blocks.Block.{Block, Block' as BlockTree', Row_of-Routine, end_of-Routine}
+use Rattle.pas_tree.specs.declared.blocks.RoutineBody.{Block', Directive, RoutineBody}
+use Rattle.pas_tree.specs.declared.statements.Compound.{Compound, out-Compound}
+use Rattle.check_steps.specs.Steps.{◌>>=◌, Step, enter_block, give, look}
+use Rattle.check_steps.specs.declared.regions.Span.{Span}
 use Rattle.denoter_checker.specs.Formals.{is_function}
-use Rattle.statement_checker.specs.Labels.{reach_all}
-use Rattle.statement_checker.specs.Statements.{compound}
 use Rattle.decl_checker.specs.Routines.{own_frame}
-use Rattle.code_checker.specs.CodePlaces.{span_of}
-use Rattle.code_checker.specs.Results.{function_result, name_in_first}
+use Rattle.statement_checker.specs.{Labels.reach_all, Statements.compound}
+use Rattle.code_checker.specs.{CodePlaces.span_of, Results.function_result, Results.name_in_first}
 
 -- the statement part of a block, seen from the block's frame
 unfoldable pub statement_part : ℕ → Span → Compound → Step (Unit {0})

@@ -3,9 +3,7 @@ use Rattle.std.specs.Prelude.{List}
 use Rattle.pas_lexer.specs.Lexed.{Lexed}
 use Rattle.pas_tree.specs.declared.blocks.Tree.{Tree}
 use Rattle.core_program.specs.ProgramRows.{ProgramRows}
-use Rattle.check_steps.specs.declared.breaks.Break.{Break}
-use Rattle.check_steps.specs.Steps.{Step, ◌>>=◌}
-use Rattle.check_steps.specs.Words.{known_at_start}
+use Rattle.check_steps.specs.{Steps.◌>>=◌, Steps.Step, Words.known_at_start, declared.breaks.Break.Break}
 use Rattle.decl_checker.specs.Programs.{program_step}
 use Rattle.code_checker.specs.Blocks.{code_block}
 

@@ -1,10 +1,7 @@
 -- Where blocks begin (6.2.1).
-use Rattle.std.specs.Prelude.{ℕ, Option, Some, None}
-use Rattle.pas_tree.specs.declared.blocks.Block.{Block, out-Block}
-use Rattle.pas_tree.specs.declared.blocks.LabelPart.{LabelPart}
-use Rattle.pas_tree.specs.declared.blocks.ConstantPart.{ConstantPart}
-use Rattle.pas_tree.specs.declared.blocks.TypePart.{TypePart}
-use Rattle.pas_tree.specs.declared.statements.Compound.{out-Compound}
+use Rattle.std.specs.Prelude.{ℕ, None, Option, Some}
+use Rattle.pas_tree.specs.declared.{blocks.Block.Block, blocks.Block.out-Block, statements.Compound.out-Compound}
+use Rattle.pas_tree.specs.declared.blocks.{ConstantPart.ConstantPart, LabelPart.LabelPart, TypePart.TypePart}
 use Rattle.check_steps.specs.declared.regions.Span.{Span}
 use Rattle.decl_checker.specs.Blocks.{after_types}
 

@@ -1,19 +1,12 @@
 -- What the declarations of a source come to.
-use Rattle.std.specs.Prelude.{◌≡◌, ℕ, List, Err}
+use Rattle.std.specs.Prelude.{◌≡◌, ℕ, Err, List}
+use Rattle.pas_lexer.specs.{Division.IsFault, Division.IsLexed, Lexed.Lexed}
 use Rattle.grammar.specs.Nodes.{spell}
-use Rattle.pas_lexer.specs.Lexed.{Lexed}
-use Rattle.pas_lexer.specs.Division.{IsFault, IsLexed}
-use Rattle.pas_tree.specs.declared.blocks.Tree.{Tree}
-use Rattle.pas_tree.specs.Blocks.{tree_node}
-use Rattle.pas_parser.specs.Exact.{IsExact}
-use Rattle.pas_parser.specs.Formed.{IsFormed, items_of}
-use Rattle.check_steps.specs.Known.{Known}
-use Rattle.check_steps.specs.declared.breaks.CheckFault.TheVariants as fault
-use Rattle.decl_checker.specs.Answers.{EarlyFaultIs, IsWithoutEarly}
-use Rattle.decl_checker.specs.Programs.{broken_early, tables_of}
-use Rattle.code_checker.specs.declared.declarations.DeclarationFault.{DeclarationFault}
-use Rattle.code_checker.specs.declared.declarations.DeclarationFault.TheVariants as declared
-use Rattle.code_checker.specs.Places.{TokenOrLastBegins}
+use Rattle.pas_tree.specs.{Blocks.tree_node, declared.blocks.Tree.Tree}
+use Rattle.pas_parser.specs.{Exact.IsExact, Formed.IsFormed, Formed.items_of}
+use Rattle.check_steps.specs.{Known.Known, declared.breaks.CheckFault.CheckFault}
+use Rattle.decl_checker.specs.{Answers.EarlyFaultIs, Answers.IsWithoutEarly, Programs.broken_early, Programs.tables_of}
+use Rattle.code_checker.specs.{Places.TokenOrLastBegins, declared.declarations.DeclarationFault.DeclarationFault}
 
 -- the source has these tokens
 pub record HasTokens (source : List ℕ) (t : Lexed) : Type 0 where
@@ -36,20 +29,20 @@ IsDeclared source known = (t : Lexed) × (x : Tree) × HasTokens source t × IsT
 -- this is the first of the broken rules, at a token that stands there
 abbrev pub BreaksFirst : Lexed → Tree → (rule line byte : ℕ) → Type 0
 BreaksFirst t x rule line byte =
-    (token : ℕ) × EarlyFaultIs (broken_early t x) (fault.Rule rule token) × TokenOrLastBegins t token line byte
+    (token : ℕ) × EarlyFaultIs (broken_early t x) (CheckFault.Rule rule token) × TokenOrLastBegins t token line byte
 
 -- why a tree gives no tables
 abbrev pub IsUndeclaredBy : Lexed → Tree → DeclarationFault → Type 0
-IsUndeclaredBy t x (declared.Lexis f) = ⊥
-IsUndeclaredBy t x (declared.Grammar f) = ⊥
-IsUndeclaredBy t x (declared.Rule rule line byte) = BreaksFirst t x rule line byte
-IsUndeclaredBy t x declared.Memory = Unit {0}
+IsUndeclaredBy t x (DeclarationFault.Lexis f) = ⊥
+IsUndeclaredBy t x (DeclarationFault.Grammar f) = ⊥
+IsUndeclaredBy t x (DeclarationFault.Rule rule line byte) = BreaksFirst t x rule line byte
+IsUndeclaredBy t x DeclarationFault.Memory = Unit {0}
 
 -- Why a source gives no tables: a piece of it does not fit; or, where all pieces fit, no tree of the grammar spells its
 -- tokens; or, where one does, a rule is broken.
 abbrev pub IsUndeclared : List ℕ → DeclarationFault → Type 0
-IsUndeclared source (declared.Lexis f) = IsFault source f
-IsUndeclared source (declared.Grammar f) = (t : Lexed) × HasTokens source t × IsExact t.tokens (Err f)
-IsUndeclared source (declared.Rule rule line byte) =
+IsUndeclared source (DeclarationFault.Lexis f) = IsFault source f
+IsUndeclared source (DeclarationFault.Grammar f) = (t : Lexed) × HasTokens source t × IsExact t.tokens (Err f)
+IsUndeclared source (DeclarationFault.Rule rule line byte) =
     (t : Lexed) × (x : Tree) × HasTokens source t × IsTextOf t x × BreaksFirst t x rule line byte
-IsUndeclared source declared.Memory = Unit {0}
+IsUndeclared source DeclarationFault.Memory = Unit {0}

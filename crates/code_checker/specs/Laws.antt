@@ -1,11 +1,9 @@
 -- What an answer of `check` tells beyond itself.
-use Rattle.std.specs.Prelude.{◌≡◌, ℕ, ◌≤◌, List, Contains, All}
+use Rattle.std.specs.Prelude.{◌≡◌, ◌≤◌, ℕ, All, Contains, List}
 use Rattle.pas_lexer.specs.Lexed.{Lexed}
 use Rattle.pas_tree.specs.declared.blocks.Tree.{Tree}
-use Rattle.check_steps.specs.declared.breaks.Broken.TheVariants.{TooBig}
-use Rattle.check_steps.specs.declared.breaks.Break.{Break}
-use Rattle.check_steps.specs.declared.breaks.CheckFault.TheVariants as fault
 use Rattle.check_steps.specs.Breaks.{FaultIs}
+use Rattle.check_steps.specs.declared.breaks.{Break.Break, Broken.TheVariants.TooBig, CheckFault.CheckFault}
 use Rattle.decl_checker.specs.Programs as declarations
 use Rattle.code_checker.specs.CheckedPrograms.{broken}
 
@@ -16,7 +14,7 @@ pub record IsTooBigAlone (bs : List Break) (token : ℕ) : Type 0 where
   pub first : All (λ b. token ≤ b.token) bs
 
 abbrev pub TooBigComesLast : Type 0
-TooBigComesLast = (bs : List Break) (token : ℕ) → FaultIs bs (fault.TooBig token) → IsTooBigAlone bs token
+TooBigComesLast = (bs : List Break) (token : ℕ) → FaultIs bs (CheckFault.TooBig token) → IsTooBigAlone bs token
 
 -- What the declarations break is broken.
 abbrev pub DeclarationsCount : Type 0

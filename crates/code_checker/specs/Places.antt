@@ -1,7 +1,6 @@
 -- Where tokens stand in a source.
-use Rattle.std.specs.Prelude.{◌≡◌, ℕ, ◌-◌, min, List, Option, Some, length, slice_get}
-use Rattle.pas_lexer.specs.declared.kinds.Token.{Token}
-use Rattle.pas_lexer.specs.Lexed.{Lexed}
+use Rattle.std.specs.Prelude.{◌-◌, ◌≡◌, ℕ, List, Option, Some, length, min, slice_get}
+use Rattle.pas_lexer.specs.{Lexed.Lexed, declared.kinds.Token.Token}
 
 -- the token of this number begins at this byte, on this line
 pub record TokenBegins (t : Lexed) (number line byte : ℕ) : Type 0 where

@@ -1,19 +1,13 @@
 -- What the tokens of a source come to as a program.
-use Rattle.std.specs.Prelude.{◌≡◌, ℕ, [], Err}
+use Rattle.std.specs.Prelude.{◌≡◌, [], ℕ, Err}
 use Rattle.pas_lexer.specs.Lexed.{Lexed}
 use Rattle.pas_tree.specs.declared.blocks.Tree.{Tree}
 use Rattle.pas_phrases.specs.declared.fault.ParseFault.{ParseFault}
-use Rattle.pas_phrases.specs.declared.fault.ParseFault.TheVariants as parser
-use Rattle.pas_parser.specs.Exact.{IsExact}
-use Rattle.pas_parser.specs.Formed.{IsText}
+use Rattle.pas_parser.specs.{Exact.IsExact, Formed.IsText}
 use Rattle.core_program.specs.ProgramRows.{ProgramRows}
-use Rattle.check_steps.specs.declared.breaks.CheckFault.{CheckFault}
-use Rattle.check_steps.specs.declared.breaks.CheckFault.TheVariants as fault
-use Rattle.check_steps.specs.Breaks.{FaultIs}
+use Rattle.check_steps.specs.{Breaks.FaultIs, declared.breaks.CheckFault.CheckFault}
+use Rattle.code_checker.specs.{Declarations.IsTextOf, declared.programs.ProgramFault.ProgramFault}
 use Rattle.code_checker.specs.CheckedPrograms.{broken, program_of}
-use Rattle.code_checker.specs.declared.programs.ProgramFault.{ProgramFault}
-use Rattle.code_checker.specs.declared.programs.ProgramFault.TheVariants as refused
-use Rattle.code_checker.specs.Declarations.{IsTextOf}
 use Rattle.code_checker.specs.Places.{TokenBegins, TokenOrLastBegins}
 
 -- ---- programs
@@ -39,21 +33,21 @@ IsBrokenAt t x what line byte = (token : ℕ) × FaultIs (broken t x) (what toke
 
 -- why a tree denotes no program
 abbrev pub IsNotDenotedBy : Lexed → Tree → ProgramFault → Type 0
-IsNotDenotedBy t x (refused.NotProgram line byte) = ⊥
-IsNotDenotedBy t x (refused.TooDeep line byte) = ⊥
-IsNotDenotedBy t x (refused.Rule rule line byte) = IsBrokenAt t x (fault.Rule rule) line byte
-IsNotDenotedBy t x (refused.TooBig line byte) = IsBrokenAt t x fault.TooBig line byte
-IsNotDenotedBy t x refused.Memory = Unit {0}
+IsNotDenotedBy t x (ProgramFault.NotProgram line byte) = ⊥
+IsNotDenotedBy t x (ProgramFault.TooDeep line byte) = ⊥
+IsNotDenotedBy t x (ProgramFault.Rule rule line byte) = IsBrokenAt t x (CheckFault.Rule rule) line byte
+IsNotDenotedBy t x (ProgramFault.TooBig line byte) = IsBrokenAt t x CheckFault.TooBig line byte
+IsNotDenotedBy t x ProgramFault.Memory = Unit {0}
 
 -- Why and where tokens are no program: no tree of the grammar spells them; or one does, and a rule is broken; or none
 -- is, and something is too big.
 abbrev pub IsUnchecked : Lexed → ProgramFault → Type 0
-IsUnchecked t (refused.NotProgram line byte) =
-    (number : ℕ) × HasNoTree t (parser.NotProgram number) × TokenBegins t number line byte
-IsUnchecked t (refused.TooDeep line byte) =
-    (number : ℕ) × HasNoTree t (parser.TooDeep number) × TokenBegins t number line byte
-IsUnchecked t (refused.Rule rule line byte) =
-    (x : Tree) × IsTextOf t x × IsBrokenAt t x (fault.Rule rule) line byte
-IsUnchecked t (refused.TooBig line byte) =
-    (x : Tree) × IsTextOf t x × IsBrokenAt t x fault.TooBig line byte
-IsUnchecked t refused.Memory = Unit {0}
+IsUnchecked t (ProgramFault.NotProgram line byte) =
+    (number : ℕ) × HasNoTree t (ParseFault.NotProgram number) × TokenBegins t number line byte
+IsUnchecked t (ProgramFault.TooDeep line byte) =
+    (number : ℕ) × HasNoTree t (ParseFault.TooDeep number) × TokenBegins t number line byte
+IsUnchecked t (ProgramFault.Rule rule line byte) =
+    (x : Tree) × IsTextOf t x × IsBrokenAt t x (CheckFault.Rule rule) line byte
+IsUnchecked t (ProgramFault.TooBig line byte) =
+    (x : Tree) × IsTextOf t x × IsBrokenAt t x CheckFault.TooBig line byte
+IsUnchecked t ProgramFault.Memory = Unit {0}

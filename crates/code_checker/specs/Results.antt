@@ -1,9 +1,8 @@
 -- Functions get a result (6.6.2).
-use Rattle.std.specs.Prelude.{ℕ, Bool, not, ◌||◌, unwrap_or}
-use Rattle.check_steps.specs.Known.{Known, row_at}
-use Rattle.check_steps.specs.Steps.{Step, ◌>>=◌, look, late}
-use Rattle.statement_checker.specs.Assignments.{is_assigned}
+use Rattle.std.specs.Prelude.{◌||◌, ℕ, Bool, not, unwrap_or}
+use Rattle.check_steps.specs.{Known.Known, Known.row_at, Steps.◌>>=◌, Steps.Step, Steps.late, Steps.look}
 use Rattle.decl_checker.specs.Routines.{first_name}
+use Rattle.statement_checker.specs.Assignments.{is_assigned}
 
 -- the name in the first heading of a routine, by the name in this one
 abbrev pub name_in_first : Known → ℕ → ℕ

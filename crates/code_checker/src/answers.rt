@@ -1,8 +1,7 @@
 //! What is answered of a program that was checked.
 
-ghost use Rattle.std.specs.Prelude.{◌≡◌, None, Some, IfOk, IfErr};
-ghost use Rattle.check_steps.specs.declared.breaks.Break.{Break};
-ghost use Rattle.check_steps.specs.Breaks.{fault_of};
+ghost use Rattle.std.specs.Prelude.{◌≡◌, IfErr, IfOk, None, Some};
+ghost use Rattle.check_steps.specs.{Breaks.fault_of, declared.breaks.Break.Break};
 
 use check_steps::{CheckFault, Work};
 use core_program::ProgramTables;

@@ -1,8 +1,7 @@
 //! The whole check of a program (6.10).
 
-ghost use Rattle.std.specs.Prelude.{◌≡◌, [], IfOk, IfErr};
-ghost use Rattle.check_steps.specs.Breaks.{FaultIs};
-ghost use Rattle.check_steps.specs.Steps.{Does};
+ghost use Rattle.std.specs.Prelude.{◌≡◌, [], IfErr, IfOk};
+ghost use Rattle.check_steps.specs.{Breaks.FaultIs, Steps.Does};
 ghost use Rattle.code_checker.specs.CheckedPrograms.{broken, check_step, program_of};
 
 use crate::answers::answer;
@@ -41,7 +40,8 @@ fn known_tables(alloc: Global, tokens: &Tokens, tree: &Tree) -> Result<ProgramTa
 /// `Rule` has the first broken rule and its token. Rules that can be told from declarations and names alone come before
 /// the others, then the order is that of the tokens, and at one token that of the rules' numbers. `TooBig` comes where
 /// no rule is broken: it has the first token of the names of variables and value parameters whose type needs more than
-/// 65,536 cells, and of the arguments of `new` whose pointer's domain does.
+/// 65,536 cells, and of the arguments of `new` whose pointer's domain does. `Memory` comes where memory ran out, and
+/// would come of tables that are not whole: a program has whole ones.
 pub fn check(alloc: Global, tokens: &Tokens, tree: &Tree) -> Result<Program, CheckFault>
     ensures program { IfOk result (λ p. p ≡ program_of tokens.now tree.now) }
     ensures unbroken { IfOk result (λ _. broken tokens.now tree.now ≡ []) }
@@ -49,9 +49,10 @@ pub fn check(alloc: Global, tokens: &Tokens, tree: &Tree) -> Result<Program, Che
 {
     let tables = known_tables(alloc, tokens, tree)?;
     if is_whole(alloc, &tables)? {
-        Ok(Program::new(tables))
+        let program = Program::new(alloc, tables)?;
+        Ok(program)
     } else {
-        // No check is known to leave such tables. One that did would be told as if memory had run out.
+        // No source is known whose tables are not whole. One would be told as if memory had run out.
         Err(CheckFault::Memory)
     }
 }

@@ -1,6 +1,6 @@
 //! From the bytes of a source to the tables of its declarations.
 
-ghost use Rattle.std.specs.Prelude.{◌≤◌, IfOk, IfErr, length};
+ghost use Rattle.std.specs.Prelude.{◌≤◌, IfErr, IfOk, length};
 ghost use Rattle.pas_lexer.specs.Limits.{source_bytes};
 ghost use Rattle.code_checker.specs.Declarations.{IsDeclared, IsDeclaredBy, IsUndeclared, IsUndeclaredBy};
 
@@ -42,7 +42,9 @@ fn declare_tree(alloc: Global, tokens: &Tokens, tree: &Tree) -> Result<Scopes, D
             let (line, byte) = place_of(tokens, token);
             Err(DeclarationFault::Rule { rule, line, byte })
         }
-        Err(CheckFault::TooBig(_)) | Err(CheckFault::Memory) => Err(DeclarationFault::Memory),
+        // What is too big is never told of declarations.
+        Err(CheckFault::TooBig(_)) => unreachable!(),
+        Err(CheckFault::Memory) => Err(DeclarationFault::Memory),
     }
 }
 

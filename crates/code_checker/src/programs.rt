@@ -1,6 +1,6 @@
 //! From the tokens of a source to its program.
 
-ghost use Rattle.std.specs.Prelude.{IfOk, IfErr};
+ghost use Rattle.std.specs.Prelude.{IfErr, IfOk};
 ghost use Rattle.code_checker.specs.Declarations.{IsTextOf};
 ghost use Rattle.code_checker.specs.Programs.{IsChecked, IsDenotedBy, IsNotDenotedBy, IsUnchecked};
 

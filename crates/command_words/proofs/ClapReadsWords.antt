@@ -1,19 +1,11 @@
 -- What clap finds in the words, as what they mean.
-use Rattle.std.proofs.Common.{◌≡◌, inl, inr, true, List, [], ◌∷◌, Option, Some, None, Result, Ok, Err, refl, sym, ap, ◌∙◌}
-use Rattle.std.specs.Prelude.{IfOk, IfSome, option_map}
+use Rattle.std.proofs.Common.{◌∙◌, ◌∷◌, ◌≡◌, [], Err, IfOk, IfSome, List, None, Ok, Option, Result, Some, ap, inl, inr, option_map, refl, sym, true}
 use Rattle.std.specs.Option.{ok_or}
-use Rattle.clap.specs.Words.{App, HasKind, HasMatchesOf, IsAmong, Kinds, Row, Text, fault_of, found_of, is_simple, is_simple_and_free, kind_of}
-use Rattle.clap.specs.Words.{matches_of, rows_of}
-use Rattle.clap.specs.declared.error.Error.{Error}
-use Rattle.clap.specs.declared.error.kind.ErrorKind.{ErrorKind}
-use Rattle.clap.specs.declared.error.kind.ErrorKind.TheVariants as kind
-use Rattle.clap.specs.declared.parser.matches.ArgMatches.{ArgMatches}
-use Rattle.command_words.specs.CommandLine.{command_line}
+use Rattle.clap.specs.{Words.rows_of, declared.error.Error.Error, declared.error.kind.ErrorKind.ErrorKind, declared.parser.matches.ArgMatches.ArgMatches}
+use Rattle.clap.specs.Words.{App, HasKind, HasMatchesOf, IsAmong, Kinds, Row, Text, fault_of, found_of, is_simple, is_simple_and_free, kind_of, matches_of}
+use Rattle.command_words.specs.{CommandLine.command_line, Reading.meant_of}
 use Rattle.command_words.specs.Meaning.{IsWithinLimits, meant, meant_by, unless_fault, value_among}
-use Rattle.command_words.specs.Reading.{meant_of}
-use Rattle.command_words.specs.declared.request.Asked.{Asked}
-use Rattle.command_words.specs.declared.request.WordFault.{WordFault}
-use Rattle.command_words.specs.declared.request.WordFault.TheVariants.{Refused, Memory}
+use Rattle.command_words.specs.declared.request.{Asked.Asked, WordFault.WordFault, WordFault.TheVariants.Memory, WordFault.TheVariants.Refused}
 
 -- clap's clauses speak of this command
 pub simple : is_simple command_line ≡ true
@@ -54,7 +46,7 @@ module _ (a : App) (is : a ≡ command_line) (words : List Text) where
 
   -- where it does not
   pub not_taken : (e : Error) (f : WordFault) → (is_simple_and_free a ≡ true → HasKind (fault_of a words) e)
-      → (kind_of e ≡ kind.OutOfMemory → f ≡ Memory) → f ≡ Refused → meant words ≡ None
+      → (kind_of e ≡ ErrorKind.OutOfMemory → f ≡ Memory) → f ≡ Refused → meant words ≡ None
   not_taken e f kinds memory refused = by (kinds (ap is_simple_and_free is ∙ simple_and_free))
     where
       by : HasKind (fault_of a words) e → meant words ≡ None

@@ -1,11 +1,8 @@
 -- Digits spell a number as std parses them.
-use Rattle.std.proofs.Common.{◌≡◌, ℕ, ◌<◌, ◌≤◌, ◌^◌, Bool, true, false, List, [], ◌∷◌, length, nat_le, nat_eq, cond, if◌then◌else◌}
-use Rattle.std.proofs.Common.{refl, ap, sym, subst, ◌∙◌, arith}
-use Rattle.std.proofs.lemmas.Bool.{and_from}
-use Rattle.std.specs.Prelude.{◌&&◌, Some, None, not, drop, codes}
-use Rattle.std.proofs.lemmas.Bool.Decides.{nat_tests}
-use Rattle.std.specs.Char.{digit_value, is_ascii_digit}
-use Rattle.std.specs.List.{list_all, starts_with}
+use Rattle.std.proofs.Common.{if◌then◌else◌, ◌&&◌, ◌<◌, ◌^◌, ◌∙◌, ◌∷◌, ◌≡◌, ◌≤◌, [], ℕ, Bool, List, None, Some, ap, arith, codes, cond, drop, false, length}
+use Rattle.std.proofs.Common.{nat_eq, nat_le, not, refl, subst, sym, true}
+use Rattle.std.proofs.lemmas.Bool.{and_from, Decides.nat_tests}
+use Rattle.std.specs.{Char.digit_value, Char.is_ascii_digit, List.list_all, List.starts_with}
 use Rattle.std.specs.Str.Parse.{AllDigits, IsNumeral, digits_value, without_leading_plus}
 use Rattle.command_words.specs.Meaning.{budget_spelled, is_plain_number, is_spelled, number_spelled}
 

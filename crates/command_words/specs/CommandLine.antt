@@ -1,5 +1,5 @@
 -- The command line `pasask SOURCE [--input F] [--budget N] [--load F]`, by clap's definition of a command.
-use Rattle.std.specs.Prelude.{Some, true, codes}
+use Rattle.std.specs.Prelude.{Some, codes, true}
 use Rattle.clap.specs.Words.{App, Rule, Text, new_app, new_rule, with_rule}
 
 -- SOURCE, which has to be there

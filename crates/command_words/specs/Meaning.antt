@@ -1,9 +1,7 @@
 -- What the words of the command mean.
-use Rattle.std.specs.Prelude.{◌≤◌, ◌&&◌, ◌||◌, ℕ, Bool, List, [], ◌∷◌, Option, Some, None, option_map, if◌then◌else◌}
-use Rattle.std.specs.Prelude.{is_some, nat_eq, nat_le, not, drop, length, codes}
-use Rattle.std.specs.Char.{is_ascii_digit}
-use Rattle.std.specs.List.{list_all, starts_with}
-use Rattle.std.specs.Str.Parse.{digits_value}
+use Rattle.std.specs.Prelude.{if◌then◌else◌, ◌&&◌, ◌||◌, ◌∷◌, ◌≤◌, [], ℕ, Bool, List, None, Option, Some, codes, drop}
+use Rattle.std.specs.Prelude.{is_some, length, nat_eq, nat_le, not, option_map}
+use Rattle.std.specs.{Char.is_ascii_digit, List.list_all, List.starts_with, Str.Parse.digits_value}
 use Rattle.clap.specs.Words.{Kinds, Row, Text, fault_of, first_of, matches_of}
 use Rattle.command_words.specs.CommandLine.{command_line}
 

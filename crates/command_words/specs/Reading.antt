@@ -1,9 +1,7 @@
 -- What was read, as what the words mean.
 use Rattle.std.specs.Prelude.{option_map}
-use Rattle.command_words.specs.Meaning.{Meant, Requested, Source, Made}
-use Rattle.command_words.specs.declared.request.Request.{Request}
-use Rattle.command_words.specs.declared.request.Asked.{Asked}
-use Rattle.command_words.specs.declared.request.Asked.TheVariants as asked
+use Rattle.command_words.specs.Meaning.{Made, Meant, Requested, Source}
+use Rattle.command_words.specs.declared.request.{Asked.Asked, Request.Request}
 
 -- the source that a request is about
 abbrev pub requested_by : Request → Requested
@@ -15,5 +13,5 @@ requested_by r = record {
 }
 
 abbrev pub meant_of : Asked → Meant
-meant_of (asked.Source request) = Source (requested_by request)
-meant_of (asked.Made number) = Made number
+meant_of (Asked.Source request) = Source (requested_by request)
+meant_of (Asked.Made number) = Made number

@@ -1,6 +1,5 @@
 //! How many steps a run may take.
-ghost use Rattle.std.specs.Prelude.{◌≡◌, IfSome};
-ghost use Rattle.std.specs.Option.{option_map};
+ghost use Rattle.std.specs.{Prelude.◌≡◌, Prelude.IfSome, Option.option_map};
 ghost use Rattle.command_words.specs.Meaning.{IsBudget, budget_meant, budget_spelled};
 
 /// The steps that a run may take where no budget is given.

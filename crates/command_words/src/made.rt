@@ -1,6 +1,5 @@
 //! Which made source the name of a source means.
-ghost use Rattle.std.specs.Prelude.{◌≡◌, IfSome};
-ghost use Rattle.std.specs.Option.{option_map};
+ghost use Rattle.std.specs.{Prelude.◌≡◌, Prelude.IfSome, Option.option_map};
 ghost use Rattle.command_words.specs.Meaning.{IsMadeNumber, after_make, number_spelled};
 
 /// The greatest number of a made source.

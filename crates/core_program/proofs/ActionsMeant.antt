@@ -1,31 +1,19 @@
 -- What an action is meant to do where the tables are whole, and the actions that need no row at all.
-use Rattle.std.proofs.Common.{◌≡◌, ℕ, zero, suc, ◌+◌, ◌*◌, ℤ, Bool, true, false, List, [], ◌∷◌, ◌++◌, Option, Some, None, refl, if◌then◌else◌, nat_lt}
-use Rattle.std.specs.Prelude.{Result, Ok, Err, int_le, int_lt, ◌&&◌, ◌==◌, pos, unsigned_abs}
-use Rattle.cell_value.specs.Arithmetic.{in_range_of, integer}
-use Rattle.cell_value.specs.Sets.{lies_between}
-use Rattle.cell_value.specs.declared.faults.OpFault.{OpFault}
-use Rattle.cell_value.specs.declared.values.Value.{Value}
-use Rattle.cell_value.specs.declared.values.Value.TheVariants as value
-use Rattle.cell_value.specs.declared.ways_out.Kind.TheVariants as kind
-use Rattle.core_program.specs.ProgramRows.{ProgramRows}
-use Rattle.core_program.specs.Headings.{may_stand_for}
-use Rattle.core_program.specs.declared.components.Components.{Components}
-use Rattle.core_program.specs.declared.scan.Scan.{Scan}
-use Rattle.core_program.specs.declared.scan.Scan.TheVariants.{Blanks, Digits}
-use Rattle.core_program.specs.State.{moved}
-use Rattle.core_program.specs.Acts.{Answer, Fault, DropBlock}
-use Rattle.core_program.specs.Actions.{Action, Give, Fail, NoMeaning, Perform, ◌>>=◌}
-use Rattle.core_program.specs.Values.{or_fault, or_undefined, defined, defined_set}
-use Rattle.core_program.specs.Cells.{or_disposed, read_value, if_there, write, read_values, writes, ordinal_at, set_at, frame_of_link, linked, frame_out}
-use Rattle.core_program.specs.Cells.{cell_out}
-use Rattle.core_program.specs.Cells.{variable_of, referred, reference_out, routine_meant, routine_held, routine_out, position_between, component}
-use Rattle.core_program.specs.Heap.{is_pointer, defined_pointer, pointer_at, variable_under, pointed_by, pointed_at, drop_found, dispose, made_variable}
-use Rattle.core_program.specs.Heap.{or_no_pointer, pointer_result_at}
-use Rattle.core_program.specs.Input.{at_end, tells_line_end, at_line_end, char_of, next_char, past_item, integer_read, first_digit, leading, further}
-use Rattle.core_program.specs.Input.{scan_on, signed_number}
-use Rattle.core_program.specs.Input.{is_digit, is_blank, is_sign, is_minus}
-use Rattle.core_program.specs.Output.{Text, gives, width_of, written, end_line, end_page, in_width}
-use Rattle.core_program.specs.Packing.{count_of, start_at, first_moved, copies}
+use Rattle.std.proofs.Common.{if◌then◌else◌, ◌&&◌, ◌*◌, ◌++◌, ◌+◌, ◌==◌, ◌∷◌, ◌≡◌, [], ℕ, ℤ, Bool, Err, List, None, Ok, Option, Result, Some, false, int_le}
+use Rattle.std.proofs.Common.{int_lt, nat_lt, pos, refl, suc, true, unsigned_abs, zero}
+use Rattle.cell_value.specs.{Arithmetic.in_range_of, Arithmetic.integer, Sets.lies_between}
+use Rattle.cell_value.specs.declared.{faults.OpFault.OpFault, values.Value.Value, ways_out.Kind.Kind}
+use Rattle.core_program.specs.{Acts.Answer, Acts.DropBlock, Acts.Fault, Headings.may_stand_for, Heap.pointer_result_at, Heap.variable_under, Packing.copies}
+use Rattle.core_program.specs.{Packing.count_of, Packing.first_moved, Packing.start_at, ProgramRows.ProgramRows, State.moved}
+use Rattle.core_program.specs.Actions.{◌>>=◌, Action, Fail, Give, NoMeaning, Perform}
+use Rattle.core_program.specs.Cells.{cell_out, component, frame_of_link, frame_out, if_there, linked, or_disposed, ordinal_at, position_between, read_value}
+use Rattle.core_program.specs.Cells.{read_values, reference_out, referred, routine_held, routine_meant, routine_out, set_at, variable_of, write, writes}
+use Rattle.core_program.specs.Heap.{defined_pointer, dispose, drop_found, is_pointer, made_variable, or_no_pointer, pointed_at, pointed_by, pointer_at}
+use Rattle.core_program.specs.Input.{at_end, at_line_end, char_of, first_digit, further, integer_read, is_blank, is_digit, is_minus, is_sign, leading}
+use Rattle.core_program.specs.Input.{next_char, past_item, scan_on, signed_number, tells_line_end}
+use Rattle.core_program.specs.Output.{Text, end_line, end_page, gives, in_width, width_of, written}
+use Rattle.core_program.specs.Values.{defined, defined_set, or_fault, or_undefined}
+use Rattle.core_program.specs.declared.{components.Components.Components, scan.Scan.Scan, scan.Scan.TheVariants.Blanks, scan.Scan.TheVariants.Digits}
 
 pub no : {A : Type 0} → false ≡ true → A
 no h = absurd (let z : false ≡ true = h in cc)
@@ -94,14 +82,14 @@ pub ordinal_meant : (least greatest : ℤ) (addr : ℕ) → IsMeant (ordinal_at 
 ordinal_meant least greatest addr = next (read_value addr) (defined least greatest) (read_meant addr) (λ v. undefined_meant (in_range_of v least greatest))
 
 defined_set_meant : (least greatest : ℤ) (v : Value) → IsMeant (defined_set least greatest v)
-defined_set_meant least greatest (value.Bits set) = if_meant (λ _. Unit {0}) (lies_between set least greatest) _ _ tt tt
+defined_set_meant least greatest (Value.Bits set) = if_meant (λ _. Unit {0}) (lies_between set least greatest) _ _ tt tt
 defined_set_meant least greatest v = tt
 
 pub set_meant : (least greatest : ℤ) (addr : ℕ) → IsMeant (set_at least greatest addr)
 set_meant least greatest addr = next (read_value addr) (defined_set least greatest) (read_meant addr) (defined_set_meant least greatest)
 
 link_meant : (v : Value) → IsMeant (frame_of_link v)
-link_meant (value.Frame base) = tt
+link_meant (Value.Frame base) = tt
 link_meant v = tt
 
 pub frame_meant : (levels base : ℕ) → IsMeant (frame_out levels base)
@@ -112,7 +100,7 @@ pub cell_meant : (levels base place : ℕ) → IsMeant (cell_out levels base pla
 cell_meant levels base place = next (frame_out levels base) (λ frame. Give (moved frame place)) (frame_meant levels base) (λ _. tt)
 
 variable_meant : (v : Value) → IsMeant (variable_of v)
-variable_meant (value.Place addr) = tt
+variable_meant (Value.Place addr) = tt
 variable_meant v = tt
 
 pub reference_meant : (levels base place : ℕ) → IsMeant (reference_out levels base place)
@@ -124,9 +112,9 @@ abbrev pub MayStand : ProgramRows → (heading : ℕ) → ℕ × ℕ → Type 0
 MayStand p heading x = may_stand_for p heading x.0 ≡ true
 
 routine_value_meant : (p : ProgramRows) (heading : ℕ) (v : Value) → Meant (MayStand p heading) (routine_meant p heading v)
-routine_value_meant p heading (value.Routine routine frame) = by (may_stand_for p heading routine) refl
+routine_value_meant p heading (Value.Routine routine frame) = by (may_stand_for p heading routine) refl
   where
-    by : (b : Bool) → may_stand_for p heading routine ≡ b → Meant (MayStand p heading) (if b then Give (routine, frame) else Fail (Fault kind.Undefined))
+    by : (b : Bool) → may_stand_for p heading routine ≡ b → Meant (MayStand p heading) (if b then Give (routine, frame) else Fail (Fault Kind.Undefined))
     by true e = e
     by false e = tt
 routine_value_meant p heading v = tt
@@ -136,7 +124,7 @@ routine_cell_meant p heading levels base place = after (MayStand p heading) (cel
     (λ addr. after (MayStand p heading) (read_value addr) (routine_meant p heading) (read_meant addr) (routine_value_meant p heading))
 
 pub position_meant : (least greatest : ℤ) (v : Value) → IsMeant (position_between least greatest v)
-position_meant least greatest (value.Number n) = if_meant (λ _. Unit {0}) (int_le least n && int_le n greatest) _ _ tt tt
+position_meant least greatest (Value.Number n) = if_meant (λ _. Unit {0}) (int_le least n && int_le n greatest) _ _ tt tt
 position_meant least greatest v = tt
 
 pub component_meant : (a : Components) (addr : ℕ) (v : Value) → IsMeant (component a addr v)
@@ -151,8 +139,8 @@ pub pointer_meant : (addr : ℕ) → IsMeant (pointer_at addr)
 pointer_meant addr = next (read_value addr) defined_pointer (read_meant addr) pointer_value_meant
 
 under_meant : (v : Value) → IsMeant (variable_under v)
-under_meant (value.Heap addr) = tt
-under_meant value.Nil = tt
+under_meant (Value.Heap addr) = tt
+under_meant Value.Nil = tt
 under_meant v = tt
 
 by_meant : (v : Value) → IsMeant (pointed_by v)
@@ -222,7 +210,7 @@ gives_meant (Some byte ∷ cs) = λ _. gives_meant cs
 gives_meant (None ∷ cs) = tt
 
 width_meant : (v : Value) → IsMeant (width_of v)
-width_meant (value.Number n) = if_meant {A = ℕ} (λ _. Unit {0}) (int_le (pos 1) n) (Give (unsigned_abs n)) (Fail (Fault kind.BadWidth)) tt tt
+width_meant (Value.Number n) = if_meant {A = ℕ} (λ _. Unit {0}) (int_le (pos 1) n) (Give (unsigned_abs n)) (Fail (Fault Kind.BadWidth)) tt tt
 width_meant v = tt
 
 pub written_meant : (text : Text) (width : Option Value) → IsMeant (written text width)
@@ -238,7 +226,7 @@ end_page_meant = λ _. tt
 -- ---- packing
 
 start_meant : (wide close : Components) (addr n : ℕ) → IsMeant (start_at wide close addr n)
-start_meant wide close addr n = if_meant {A = ℕ} (λ _. Unit {0}) (nat_lt (count_of wide) (n + count_of close)) (Fail (Fault kind.OutOfRange))
+start_meant wide close addr n = if_meant {A = ℕ} (λ _. Unit {0}) (nat_lt (count_of wide) (n + count_of close)) (Fail (Fault Kind.OutOfRange))
     (Give (moved addr (n * wide.size))) tt tt
 
 pub moved_meant : (wide close : Components) (addr : ℕ) (v : Value) → IsMeant (first_moved wide close addr v)

@@ -1,32 +1,20 @@
 -- What an act leaves of a sound state, and that the state after it is sound. Each act has a clause of `act_leaves`.
-use Rattle.std.proofs.Common.{◌≡◌, ◌⊎◌, inl, inr, ℕ, ◌+◌, ◌-◌, ◌<◌, ◌≤◌, Bool, true, false, List, [], ◌∷◌, ◌++◌, Option, Some, None, refl, sym, ap, subst}
-use Rattle.std.proofs.Common.{◌∙◌, append_assoc, append-nil, length, is_some, nat_lt, nat_le, replicate, if◌then◌else◌, arith}
-use Rattle.std.specs.Prelude.{◌&&◌, ◌||◌}
-use Rattle.std.specs.Option.{IsSome}
-use Rattle.std.proofs.lemmas.Bool.Decides.{eqb_tells, nat_tests}
-use Rattle.std.specs.List.{All, slice_get}
-use Rattle.std.proofs.lemmas.Option.{slice_get_within}
-use Rattle.std.proofs.lemmas.List.Sums.{sum_by-append}
-use Rattle.std.proofs.lemmas.List.Elements.{All-append, All-cons, All-nil, filter_map-append}
-use Rattle.std.specs.FinMap.{get, insert}
-use Rattle.cell_value.specs.declared.values.Value.{Value}
-use Rattle.cell_value.specs.declared.values.Value.TheVariants.{Undefined}
-use Rattle.cell_value.specs.declared.entries.Touch.{Touch}
-use Rattle.cell_value.specs.declared.entries.Touch.TheVariants as touch
-use Rattle.cell_value.specs.declared.entries.Change.TheVariants.{Set}
-use Rattle.cell_value.specs.declared.ways_out.Kind.TheVariants as kind
-use Rattle.cell_value.specs.declared.ways_out.Which.TheVariants.{Calls, Depth, Stack, Heap}
-use Rattle.cell_value.specs.Effects.{IsCountable, is_shared, made_by, made_of, taken_by, taken_of, byte_by, given_of}
-use Rattle.cell_value.specs.Effects.{heap_end}
-use Rattle.core_program.specs.State.{State, IsSound, stack_end, most_calls, most_depth, is_in_reach}
-use Rattle.core_program.specs.Acts.{Fault, OutOfSteps, Act, Spend, ReadCell, HasCell, WriteCell, TakeIf, GiveByte, ActResult, Went, Stops, perform, spent}
-use Rattle.core_program.specs.Acts.{with_steps, on_cell, read_as, put_value, put_asked, after_touches, take_item, take_looked, look_item, limit_passed}
-use Rattle.core_program.specs.Acts.{Limited, MakeBlock, DropBlock, make_block, made_block, drop_block, dropped_block}
-use Rattle.core_program.specs.Blocks.{filled, cleared, block_cells}
+use Rattle.std.proofs.Common.{if◌then◌else◌, ◌&&◌, ◌++◌, ◌+◌, ◌-◌, ◌<◌, ◌||◌, ◌∙◌, ◌∷◌, ◌≡◌, ◌≤◌, ◌⊎◌, [], ℕ, Bool, List, None, Option, Some, ap, append-nil}
+use Rattle.std.proofs.Common.{append_assoc, arith, false, inl, inr, is_some, length, nat_le, nat_lt, refl, replicate, subst, sym, true}
+use Rattle.std.proofs.lemmas.{Bool.Decides.eqb_tells, Bool.Decides.nat_tests, Option.slice_get_within}
+use Rattle.std.proofs.lemmas.List.{Elements.All-append, Elements.All-cons, Elements.All-nil, Elements.filter_map-append, Sums.sum_by-append}
+use Rattle.std.specs.{FinMap.get, FinMap.insert, List.All, List.slice_get, Option.IsSome}
+use Rattle.cell_value.specs.Effects.{IsCountable, byte_by, given_of, heap_end, is_shared, made_by, made_of, taken_by, taken_of}
+use Rattle.cell_value.specs.declared.{entries.Change.TheVariants.Set, entries.Touch.Touch, values.Value.Value, values.Value.TheVariants.Undefined}
+use Rattle.cell_value.specs.declared.ways_out.{Kind.Kind, Which.TheVariants.Calls, Which.TheVariants.Depth, Which.TheVariants.Heap, Which.TheVariants.Stack}
+use Rattle.core_program.proofs.Cells.{above_block, block_dropped, block_made, cleared_below, cleared_none, filled_below, got_other, got_same}
 use Rattle.core_program.proofs.OutcomesCompose.{none_some}
-use Rattle.core_program.specs.RunLaws.{HasFewItems}
-use Rattle.core_program.proofs.Touches.{written, written-append, left_with, left_same, Serves, serves_append}
-use Rattle.core_program.proofs.Cells.{got_same, got_other, filled_below, above_block, cleared_below, cleared_none, block_made, block_dropped}
+use Rattle.core_program.proofs.Touches.{Serves, left_same, left_with, serves_append, written, written-append}
+use Rattle.core_program.specs.{Blocks.block_cells, Blocks.cleared, Blocks.filled, RunLaws.HasFewItems}
+use Rattle.core_program.specs.Acts.{Act, ActResult, DropBlock, Fault, GiveByte, HasCell, Limited, MakeBlock, OutOfSteps, ReadCell, Spend, Stops, TakeIf, Went}
+use Rattle.core_program.specs.Acts.{WriteCell, after_touches, drop_block, dropped_block, limit_passed, look_item, made_block, make_block, on_cell, perform}
+use Rattle.core_program.specs.Acts.{put_asked, put_value, read_as, spent, take_item, take_looked, with_steps}
+use Rattle.core_program.specs.State.{IsSound, State, is_in_reach, most_calls, most_depth, stack_end}
 
 -- what a part of a run with these touches and this many calls leaves of a state: what it does to the cells that it shares
 -- with its caller, and to all else
@@ -129,7 +117,7 @@ celled : {A : Type 0} (σ : State) (addr : ℕ) (go : State → ActResult A) →
     → (is_in_reach σ addr ≡ true → (k : ℕ) → k ≤ σ.steps → DoneLeaves σ (go (record σ { steps = k }))) → DoneLeaves σ (on_cell addr σ go)
 celled {A} σ addr go s h = by (is_in_reach σ addr) refl
   where
-    by : (b : Bool) → is_in_reach σ addr ≡ b → DoneLeaves {A = A} σ (if b then with_steps 1 σ go else Stops (Fault kind.Undefined) [] σ)
+    by : (b : Bool) → is_in_reach σ addr ≡ b → DoneLeaves {A = A} σ (if b then with_steps 1 σ go else Stops (Fault Kind.Undefined) [] σ)
     by true e = stepped σ 1 go s (h e)
     by false e = leaves_same σ s
 
@@ -139,7 +127,7 @@ touches_leave σ τ w (Went x v υ) h k = leaves_then h k
 touches_leave σ τ w (Stops why v υ) h k = leaves_then h k
 
 read_shown : (σ : State) (addr k : ℕ) (v : Value) → k ≤ σ.steps → IsSound σ → get σ.cells addr ≡ Some v
-    → Leaves σ (touch.Read addr v ∷ []) 0 (record σ { steps = k })
+    → Leaves σ (Touch.Read addr v ∷ []) 0 (record σ { steps = k })
 read_shown σ addr k v h s e = record {
   top = refl;
   cells = λ a q. refl;
@@ -151,12 +139,12 @@ read_shown σ addr k v h s e = record {
   steps = h;
   calls = omega arith;
   depth = refl;
-  countable = λ m. countable_one (touch.Read addr v) tt;
+  countable = λ m. countable_one (Touch.Read addr v) tt;
   sound = sound_steps k s;
 }
 
 asked_shown : (σ : State) (addr k : ℕ) (b : Bool) → k ≤ σ.steps → IsSound σ → is_some (get σ.cells addr) ≡ b
-    → Leaves σ (touch.Has addr b ∷ []) 0 (record σ { steps = k })
+    → Leaves σ (Touch.Has addr b ∷ []) 0 (record σ { steps = k })
 asked_shown σ addr k b h s e = record {
   top = refl;
   cells = λ a q. refl;
@@ -168,7 +156,7 @@ asked_shown σ addr k b h s e = record {
   steps = h;
   calls = omega arith;
   depth = refl;
-  countable = λ m. countable_one (touch.Has addr b) tt;
+  countable = λ m. countable_one (Touch.Has addr b) tt;
   sound = sound_steps k s;
 }
 
@@ -210,7 +198,7 @@ sound_write σ addr v s there = record {
 }
 
 write_leaves : (σ : State) (addr k : ℕ) (v : Value) → k ≤ σ.steps → IsSound σ → IsSome (get σ.cells addr)
-    → Leaves σ (touch.Write addr v ∷ []) 0 (record σ { cells = insert σ.cells addr v; steps = k })
+    → Leaves σ (Touch.Write addr v ∷ []) 0 (record σ { cells = insert σ.cells addr v; steps = k })
 write_leaves σ addr k v h s there = record {
   top = refl;
   cells = λ a q. elim (eqb_tells addr a) [
@@ -225,7 +213,7 @@ write_leaves σ addr k v h s there = record {
   steps = h;
   calls = omega arith;
   depth = refl;
-  countable = λ m. countable_one (touch.Write addr v) tt;
+  countable = λ m. countable_one (Touch.Write addr v) tt;
   sound = sound_steps k (sound_write σ addr v s there);
 }
 
@@ -240,7 +228,7 @@ write_done σ addr k v s r h = by (nat_lt addr stack_end) refl
 
     asked : (there : Bool) → is_some (get σ.cells addr) ≡ there → DoneLeaves σ (put_asked there addr v (record σ { steps = k }))
     asked false e = asked_shown σ addr k false h s e
-    asked true e = touches_leave σ (record σ { steps = k }) (touch.Has addr true ∷ []) _ (asked_shown σ addr k true h s e)
+    asked true e = touches_leave σ (record σ { steps = k }) (Touch.Has addr true ∷ []) _ (asked_shown σ addr k true h s e)
         (stepped (record σ { steps = k }) 1 (put_value addr v) (sound_steps k s) (λ l m. write_leaves (record σ { steps = k }) addr l v m (sound_steps k s) e))
 
     by : (b : Bool) → nat_lt addr stack_end ≡ b
@@ -269,7 +257,7 @@ sound_made σ n s fits = record {
     below a h = filled_below σ.fresh (replicate n Undefined) σ.cells a (omega (arith, h, s.heap_begins))
 
 made_leaves : (σ : State) (n of' k : ℕ) → k ≤ σ.steps → IsSound σ → σ.fresh + n ≤ heap_end
-    → Leaves σ (touch.Make σ.fresh n of' ∷ []) 0 (record σ { cells = filled σ.fresh (replicate n Undefined) σ.cells; fresh = σ.fresh + n; steps = k })
+    → Leaves σ (Touch.Make σ.fresh n of' ∷ []) 0 (record σ { cells = filled σ.fresh (replicate n Undefined) σ.cells; fresh = σ.fresh + n; steps = k })
 made_leaves σ n of' k h s fits = record {
   top = refl;
   cells = λ a q. block_made σ.fresh n σ.cells a;
@@ -281,7 +269,7 @@ made_leaves σ n of' k h s fits = record {
   steps = h;
   calls = omega arith;
   depth = refl;
-  countable = λ m. countable_one (touch.Make σ.fresh n of') fits;
+  countable = λ m. countable_one (Touch.Make σ.fresh n of') fits;
   sound = sound_steps k (sound_made σ n s fits);
 }
 
@@ -307,7 +295,7 @@ sound_dropped σ addr n s h = record {
 }
 
 dropped_leaves : (σ : State) (addr n k : ℕ) → k ≤ σ.steps → IsSound σ → stack_end ≤ addr → addr + n ≤ heap_end
-    → Leaves σ (touch.Drop addr n ∷ []) 0 (record σ { cells = cleared addr n σ.cells; steps = k })
+    → Leaves σ (Touch.Drop addr n ∷ []) 0 (record σ { cells = cleared addr n σ.cells; steps = k })
 dropped_leaves σ addr n k h s l ends = record {
   top = refl;
   cells = λ a q. block_dropped addr n σ.cells a;
@@ -319,7 +307,7 @@ dropped_leaves σ addr n k h s l ends = record {
   steps = h;
   calls = omega arith;
   depth = refl;
-  countable = λ m. countable_one (touch.Drop addr n) ends;
+  countable = λ m. countable_one (Touch.Drop addr n) ends;
   sound = sound_steps k (sound_dropped σ addr n s l);
 }
 
@@ -327,7 +315,7 @@ drop_done : (σ : State) (addr n : ℕ) → IsSound σ → DoneLeaves σ (drop_b
 drop_done σ addr n s = by (nat_le stack_end addr) (nat_le (addr + n) heap_end) refl refl
   where
     by : (a b : Bool) → nat_le stack_end addr ≡ a → nat_le (addr + n) heap_end ≡ b
-        → DoneLeaves σ (if a && b then with_steps n σ (dropped_block addr n) else Stops (Fault kind.Undefined) [] σ)
+        → DoneLeaves σ (if a && b then with_steps n σ (dropped_block addr n) else Stops (Fault Kind.Undefined) [] σ)
     by true true e f = stepped σ n (dropped_block addr n) s (λ k h. dropped_leaves σ addr n k h s (grind (arith, nat_tests)) (grind (arith, nat_tests)))
     by true false e f = leaves_same σ s
     by false b e f = leaves_same σ s
@@ -335,7 +323,7 @@ drop_done σ addr n s = by (nat_le stack_end addr) (nat_le (addr + n) heap_end) 
 -- ---- items and bytes
 
 -- an item is looked at
-look_shown : (σ : State) (k : ℕ) → k ≤ σ.steps → IsSound σ → Leaves σ (touch.Look σ.place ∷ []) 0 (record σ { steps = k })
+look_shown : (σ : State) (k : ℕ) → k ≤ σ.steps → IsSound σ → Leaves σ (Touch.Look σ.place ∷ []) 0 (record σ { steps = k })
 look_shown σ k h s = record {
   top = refl;
   cells = λ a q. refl;
@@ -347,7 +335,7 @@ look_shown σ k h s = record {
   steps = h;
   calls = omega arith;
   depth = refl;
-  countable = λ m. countable_one (touch.Look σ.place) (let few : length σ.items < 4294967295 = m in omega (arith, s.input, few));
+  countable = λ m. countable_one (Touch.Look σ.place) (let few : length σ.items < 4294967295 = m in omega (arith, s.input, few));
   sound = sound_steps k s;
 }
 
@@ -368,7 +356,7 @@ sound_transfer σ k place output s h = record {
 
 -- the item at the place is taken
 take_leaves : (σ : State) (k : ℕ) → k ≤ σ.steps → IsSound σ → σ.place < length σ.items
-    → Leaves σ (touch.Take 1 ∷ []) 0 (record σ { place = σ.place + 1; steps = k })
+    → Leaves σ (Touch.Take 1 ∷ []) 0 (record σ { place = σ.place + 1; steps = k })
 take_leaves σ k h s l = record {
   top = refl;
   cells = λ a q. refl;
@@ -380,7 +368,7 @@ take_leaves σ k h s l = record {
   steps = h;
   calls = omega arith;
   depth = refl;
-  countable = λ m. countable_one (touch.Take 1) tt;
+  countable = λ m. countable_one (Touch.Take 1) tt;
   sound = sound_transfer σ k (σ.place + 1) σ.output s (omega (arith, l));
 }
 
@@ -390,13 +378,13 @@ took wanted None σ s e = leaves_same σ s
 took wanted (Some item) σ s e = by (wanted item)
   where
     by : (b : Bool) → DoneLeaves σ (take_item b item σ)
-    by true = stepped σ 1 (λ τ. Went (Some item) (touch.Take 1 ∷ []) (record τ { place = τ.place + 1 })) s
+    by true = stepped σ 1 (λ τ. Went (Some item) (Touch.Take 1 ∷ []) (record τ { place = τ.place + 1 })) s
         (λ k h. take_leaves σ k h s (slice_get_within σ.items σ.place item e))
     by false = leaves_same σ s
 
 -- a byte is given
 give_leaves : (σ : State) (byte k : ℕ) → k ≤ σ.steps → IsSound σ
-    → Leaves σ (touch.Give byte ∷ []) 0 (record σ { output = σ.output ++ byte ∷ []; steps = k })
+    → Leaves σ (Touch.Give byte ∷ []) 0 (record σ { output = σ.output ++ byte ∷ []; steps = k })
 give_leaves σ byte k h s = record {
   top = refl;
   cells = λ a q. refl;
@@ -408,7 +396,7 @@ give_leaves σ byte k h s = record {
   steps = h;
   calls = omega arith;
   depth = refl;
-  countable = λ m. countable_one (touch.Give byte) tt;
+  countable = λ m. countable_one (Touch.Give byte) tt;
   sound = sound_transfer σ k σ.place (σ.output ++ byte ∷ []) s s.input;
 }
 
@@ -419,14 +407,14 @@ act_leaves (ReadCell addr) σ s = celled σ addr (λ τ. read_as addr (get σ.ce
     by : (k : ℕ) → k ≤ σ.steps → (o : Option Value) → get σ.cells addr ≡ o → DoneLeaves σ (read_as addr o (record σ { steps = k }))
     by k h None e = asked_shown σ addr k false h s (ap is_some e)
     by k h (Some v) e = read_shown σ addr k v h s e
-act_leaves (HasCell addr) σ s = celled σ addr (λ τ. Went (is_some (get σ.cells addr)) (touch.Has addr (is_some (get σ.cells addr)) ∷ []) τ) s
+act_leaves (HasCell addr) σ s = celled σ addr (λ τ. Went (is_some (get σ.cells addr)) (Touch.Has addr (is_some (get σ.cells addr)) ∷ []) τ) s
     (λ r k h. asked_shown σ addr k (is_some (get σ.cells addr)) h s refl)
 act_leaves (WriteCell addr v) σ s = celled σ addr
     (λ τ. if nat_lt addr stack_end then put_value addr v τ else put_asked (is_some (get τ.cells addr)) addr v τ) s (λ r k h. write_done σ addr k v s r h)
-act_leaves (TakeIf wanted) σ s = stepped σ 1 (look_item wanted) s (λ k h. touches_leave σ (record σ { steps = k }) (touch.Look σ.place ∷ [])
+act_leaves (TakeIf wanted) σ s = stepped σ 1 (look_item wanted) s (λ k h. touches_leave σ (record σ { steps = k }) (Touch.Look σ.place ∷ [])
     (take_looked wanted (slice_get σ.items σ.place) (record σ { steps = k })) (look_shown σ k h s)
     (took wanted (slice_get σ.items σ.place) (record σ { steps = k }) (sound_steps k s) refl))
-act_leaves (GiveByte byte) σ s = stepped σ 1 (λ τ. Went tt (touch.Give byte ∷ []) (record τ { output = τ.output ++ byte ∷ [] })) s
+act_leaves (GiveByte byte) σ s = stepped σ 1 (λ τ. Went tt (Touch.Give byte ∷ []) (record τ { output = τ.output ++ byte ∷ [] })) s
     (λ k h. give_leaves σ byte k h s)
 act_leaves (MakeBlock cells of') σ s = make_done σ (block_cells cells) of' s
 act_leaves (DropBlock addr cells) σ s = drop_done σ addr (block_cells cells) s

@@ -1,33 +1,20 @@
 -- Two states that agree on what touches still show: each act gives both the same answer, and keeps them in agreement.
 -- Each act has a clause of `act_again`.
-use Rattle.std.proofs.Common.{◌≡◌, ◌⊎◌, inl, inr, ℕ, ◌+◌, ◌-◌, ◌<◌, ◌≤◌, Bool, true, false, List, [], ◌∷◌, ◌++◌, Option, Some, None, refl, sym, ap, subst}
-use Rattle.std.proofs.Common.{◌∙◌, is_some, nat_lt, nat_le, replicate, if◌then◌else◌, arith}
-use Rattle.std.specs.Prelude.{◌&&◌, ◌||◌, map, max, fold}
-use Rattle.std.specs.List.{slice_get}
-use Rattle.std.proofs.lemmas.Bool.Decides.{eqb_tells, nat_tests}
-use Rattle.std.specs.FinMap.{get, insert}
-use Rattle.cell_value.specs.declared.values.Value.{Value}
-use Rattle.cell_value.specs.declared.values.Value.TheVariants.{Undefined}
-use Rattle.cell_value.specs.declared.entries.Touch.{Touch}
-use Rattle.cell_value.specs.declared.entries.Touch.TheVariants as touch
-use Rattle.cell_value.specs.declared.entries.Change.{Change}
-use Rattle.cell_value.specs.declared.entries.Change.TheVariants.{Set, Gone}
-use Rattle.cell_value.specs.declared.ways_out.Kind.TheVariants as kind
-use Rattle.cell_value.specs.declared.ways_out.Which.TheVariants.{Calls, Depth, Stack, Heap}
-use Rattle.cell_value.specs.Effects.{change_by, made_of, looked_by, looked_of}
-use Rattle.cell_value.specs.Effects.{heap_end}
-use Rattle.core_program.specs.State.{State, stack_end, most_calls, most_depth, is_in_reach}
-use Rattle.core_program.specs.Acts.{Trouble, Fault, OutOfSteps, Act, Spend, ReadCell, HasCell, WriteCell, TakeIf, GiveByte, ActResult, Went, Stops}
-use Rattle.core_program.specs.Acts.{perform, spent, with_steps, on_cell, read_as, put_value, put_if, put_asked, after_touches, take_item, take_looked}
-use Rattle.core_program.specs.Acts.{look_item}
-use Rattle.core_program.specs.Acts.{limit_passed}
-use Rattle.core_program.specs.Acts.{Limited, MakeBlock, DropBlock, make_block, made_block, drop_block, dropped_block}
-use Rattle.core_program.specs.Blocks.{filled, cleared, block_cells, lies_in_heap}
-use Rattle.core_program.proofs.OutcomesCompose.{none_some}
-use Rattle.core_program.proofs.Touches.{Serves, left_with}
-use Rattle.core_program.proofs.Cells.{Map, got_same, got_other, block_made, block_dropped}
+use Rattle.std.proofs.Common.{if◌then◌else◌, ◌&&◌, ◌++◌, ◌+◌, ◌-◌, ◌<◌, ◌||◌, ◌∙◌, ◌∷◌, ◌≡◌, ◌≤◌, ◌⊎◌, [], ℕ, Bool, List, None, Option, Some, ap, arith, false}
+use Rattle.std.proofs.Common.{fold, inl, inr, is_some, map, max, nat_le, nat_lt, refl, replicate, subst, sym, true}
+use Rattle.std.{proofs.lemmas.Bool.Decides.eqb_tells, proofs.lemmas.Bool.Decides.nat_tests, specs.FinMap.get, specs.FinMap.insert, specs.List.slice_get}
+use Rattle.cell_value.specs.Effects.{change_by, heap_end, looked_by, looked_of, made_of}
+use Rattle.cell_value.specs.declared.entries.{Change.Change, Change.TheVariants.Gone, Change.TheVariants.Set, Touch.Touch}
+use Rattle.cell_value.specs.declared.values.Value.{Value, TheVariants.Undefined}
+use Rattle.cell_value.specs.declared.ways_out.{Kind.Kind, Which.TheVariants.Calls, Which.TheVariants.Depth, Which.TheVariants.Heap, Which.TheVariants.Stack}
+use Rattle.core_program.proofs.{Effects.SameLog, Effects.relative, OutcomesCompose.none_some, Touches.Serves, Touches.left_with}
 use Rattle.core_program.proofs.ActsLeave.{MayEnter, made_append}
-use Rattle.core_program.proofs.Effects.{SameLog, relative}
+use Rattle.core_program.proofs.Cells.{Map, block_dropped, block_made, got_other, got_same}
+use Rattle.core_program.specs.Acts.{Act, ActResult, DropBlock, Fault, GiveByte, HasCell, Limited, MakeBlock, OutOfSteps, ReadCell, Spend, Stops, TakeIf}
+use Rattle.core_program.specs.Acts.{Trouble, Went, WriteCell, after_touches, drop_block, dropped_block, limit_passed, look_item, made_block, make_block}
+use Rattle.core_program.specs.Acts.{on_cell, perform, put_asked, put_if, put_value, read_as, spent, take_item, take_looked, with_steps}
+use Rattle.core_program.specs.Blocks.{block_cells, cleared, filled, lies_in_heap}
+use Rattle.core_program.specs.State.{State, is_in_reach, most_calls, most_depth, stack_end}
 
 -- the cells of the second serve the touches as those of the first do
 abbrev pub SameCells : List Touch → Map → Map → Type 0
@@ -176,10 +163,10 @@ module _ (from to : ℕ) where
   celled {A} addr σ τ u go h = by (is_in_reach σ addr) refl
     where
       reach : Bool → ActResult A
-      reach b = if b then with_steps 1 τ go else Stops (Fault kind.Undefined) [] τ
+      reach b = if b then with_steps 1 τ go else Stops (Fault Kind.Undefined) [] τ
 
       by : (b : Bool) → is_in_reach σ addr ≡ b
-          → DoneAgain {A = A} (if b then with_steps 1 σ go else Stops (Fault kind.Undefined) [] σ) (on_cell addr τ go) σ τ u
+          → DoneAgain {A = A} (if b then with_steps 1 σ go else Stops (Fault Kind.Undefined) [] σ) (on_cell addr τ go) σ τ u
       by true e = told (with_steps 1 σ go) (with_steps 1 τ go) (on_cell addr τ go) σ τ u
           (λ g. ap reach (sym (same_reach σ τ addr g.top) ∙ e)) (stepped 1 σ τ u go h)
       by false e = λ g s i. record {
@@ -192,7 +179,7 @@ module _ (from to : ℕ) where
       }
 
   -- after a touch that changes no cell
-  after_read : (addr : ℕ) (v : Value) (u : List Touch) (σ τ : State) → Agree from to (touch.Read addr v ∷ u) σ τ → Agree from to u σ τ
+  after_read : (addr : ℕ) (v : Value) (u : List Touch) (σ τ : State) → Agree from to (Touch.Read addr v ∷ u) σ τ → Agree from to u σ τ
   after_read addr v u σ τ h = record {
     top = h.top;
     fresh = h.fresh;
@@ -201,7 +188,7 @@ module _ (from to : ℕ) where
     items = h.items;
   }
 
-  after_has : (addr : ℕ) (b : Bool) (u : List Touch) (σ τ : State) → Agree from to (touch.Has addr b ∷ u) σ τ → Agree from to u σ τ
+  after_has : (addr : ℕ) (b : Bool) (u : List Touch) (σ τ : State) → Agree from to (Touch.Has addr b ∷ u) σ τ → Agree from to u σ τ
   after_has addr b u σ τ h = record {
     top = h.top;
     fresh = h.fresh;
@@ -210,7 +197,7 @@ module _ (from to : ℕ) where
     items = h.items;
   }
 
-  after_write : (addr : ℕ) (v : Value) (u : List Touch) (σ τ : State) → Agree from to (touch.Write addr v ∷ u) σ τ
+  after_write : (addr : ℕ) (v : Value) (u : List Touch) (σ τ : State) → Agree from to (Touch.Write addr v ∷ u) σ τ
       → Agree from to u (record σ { cells = insert σ.cells addr v }) (record τ { cells = insert τ.cells addr v })
   after_write addr v u σ τ h = record {
     top = h.top;
@@ -226,16 +213,16 @@ module _ (from to : ℕ) where
     items = h.items;
   }
 
-  after_look : (u : List Touch) (σ τ : State) → Agree from to (touch.Look σ.place ∷ u) σ τ → Agree from to u σ τ
+  after_look : (u : List Touch) (σ τ : State) → Agree from to (Touch.Look σ.place ∷ u) σ τ → Agree from to u σ τ
   after_look u σ τ h = record {
     top = h.top;
     fresh = h.fresh;
     cells = λ a. elim (h.cells a) [ inl s ↦ inl s | inr s ↦ inr (s.1 refl) ];
     place = h.place;
-    items = λ n k. h.items n (omega (arith, k, looked_later from (touch.Look σ.place) u));
+    items = λ n k. h.items n (omega (arith, k, looked_later from (Touch.Look σ.place) u));
   }
 
-  after_take : (u : List Touch) (σ τ : State) → Agree from to (touch.Take 1 ∷ u) σ τ
+  after_take : (u : List Touch) (σ τ : State) → Agree from to (Touch.Take 1 ∷ u) σ τ
       → Agree from to u (record σ { place = σ.place + 1 }) (record τ { place = τ.place + 1 })
   after_take u σ τ h = record {
     top = h.top;
@@ -245,7 +232,7 @@ module _ (from to : ℕ) where
     items = h.items;
   }
 
-  after_give : (byte : ℕ) (u : List Touch) (σ τ : State) → Agree from to (touch.Give byte ∷ u) σ τ
+  after_give : (byte : ℕ) (u : List Touch) (σ τ : State) → Agree from to (Touch.Give byte ∷ u) σ τ
       → Agree from to u (record σ { output = σ.output ++ byte ∷ [] }) (record τ { output = τ.output ++ byte ∷ [] })
   after_give byte u σ τ h = record {
     top = h.top;
@@ -256,19 +243,19 @@ module _ (from to : ℕ) where
   }
 
   -- the second has the item at which the first looks
-  same_item : (u : List Touch) (σ τ : State) → Agree from to (touch.Look σ.place ∷ u) σ τ → slice_get σ.items σ.place ≡ slice_get τ.items τ.place
+  same_item : (u : List Touch) (σ τ : State) → Agree from to (Touch.Look σ.place ∷ u) σ τ → slice_get σ.items σ.place ≡ slice_get τ.items τ.place
   same_item u σ τ h =
       let p = h.place in
-      let n : σ.place - from < looked_of from (touch.Look σ.place ∷ u) = omega (arith, p.0, looked_first from (touch.Look σ.place) u) in
+      let n : σ.place - from < looked_of from (Touch.Look σ.place ∷ u) = omega (arith, p.0, looked_first from (Touch.Look σ.place) u) in
       ap (slice_get σ.items) (let e : σ.place ≡ from + (σ.place - from) = omega (arith, p.0) in e) ∙ h.items (σ.place - from) n
       ∙ ap (slice_get τ.items) (let e : to + (σ.place - from) ≡ τ.place = omega (arith, p.0, p.1) in e)
 
   -- what the second state holds where the first was read or asked
-  held_too : (addr : ℕ) (v : Value) (u : List Touch) (σ τ : State) → get σ.cells addr ≡ Some v → Agree from to (touch.Read addr v ∷ u) σ τ
+  held_too : (addr : ℕ) (v : Value) (u : List Touch) (σ τ : State) → get σ.cells addr ≡ Some v → Agree from to (Touch.Read addr v ∷ u) σ τ
       → get τ.cells addr ≡ Some v
   held_too addr v u σ τ e h = elim (h.cells addr) [ inl s ↦ sym s ∙ e | inr s ↦ s.0 refl ]
 
-  there_too : (addr : ℕ) (b : Bool) (u : List Touch) (σ τ : State) → is_some (get σ.cells addr) ≡ b → Agree from to (touch.Has addr b ∷ u) σ τ
+  there_too : (addr : ℕ) (b : Bool) (u : List Touch) (σ τ : State) → is_some (get σ.cells addr) ≡ b → Agree from to (Touch.Has addr b ∷ u) σ τ
       → is_some (get τ.cells addr) ≡ b
   there_too addr b u σ τ e h = elim (h.cells addr) [ inl s ↦ ap is_some (sym s) ∙ e | inr s ↦ s.0 refl ]
 
@@ -299,13 +286,13 @@ module _ (from to : ℕ) where
 
   -- an answer, and what was done after it
   asked_first : {A : Type 0} (addr : ℕ) (b : Bool) (σ τ : State) (u : List Touch) (d e : ActResult A) → DoneAgain d e σ τ u
-      → DoneAgain (after_touches (touch.Has addr b ∷ []) d) (after_touches (touch.Has addr b ∷ []) e) σ τ u
-  asked_first addr b σ τ u d e h = touched_first (touch.Has addr b) (touch.Has addr b) σ τ u d e
+      → DoneAgain (after_touches (Touch.Has addr b ∷ []) d) (after_touches (Touch.Has addr b ∷ []) e) σ τ u
+  asked_first addr b σ τ u d e h = touched_first (Touch.Has addr b) (Touch.Has addr b) σ τ u d e
       (λ g. record { same = refl; agree = λ w k. after_has addr b w σ τ k }) h
 
   put_again : (addr : ℕ) (v : Value) (σ τ : State) (u : List Touch) → DoneAgain (put_value addr v σ) (put_value addr v τ) σ τ u
   put_again addr v σ τ u = λ g s i. record {
-    log = touch.Write addr v ∷ [];
+    log = Touch.Write addr v ∷ [];
     after = record τ { cells = insert τ.cells addr v };
     is = refl;
     same = refl;
@@ -323,13 +310,13 @@ module _ (from to : ℕ) where
   asked_again there addr v σ τ u e =
       told (put_asked there addr v σ) (put_asked there addr v τ) (put_asked (is_some (get τ.cells addr)) addr v τ) σ τ u
       (λ g. ap (λ b. put_asked b addr v τ) (there_too addr there (log_of (put_if there addr v σ) ++ u) σ τ e
-      (subst (λ l. Agree from to (l ++ u) σ τ) (touches_after (touch.Has addr there ∷ []) (put_if there addr v σ)) g)))
+      (subst (λ l. Agree from to (l ++ u) σ τ) (touches_after (Touch.Has addr there ∷ []) (put_if there addr v σ)) g)))
       (asked_first addr there σ τ u (put_if there addr v σ) (put_if there addr v τ) (put_if_again there addr v σ τ u))
 
   put_no_more : (there : Bool) (addr : ℕ) (v : Value) (σ : State) → (state_of (put_asked there addr v σ)).steps ≤ σ.steps
   put_no_more true addr v σ = by (nat_lt σ.steps 1)
     where
-      by : (b : Bool) → (state_of (after_touches (touch.Has addr true ∷ [])
+      by : (b : Bool) → (state_of (after_touches (Touch.Has addr true ∷ [])
           (if b then Stops OutOfSteps [] (spent σ) else put_value addr v (record σ { steps = σ.steps - 1 })))).steps ≤ σ.steps
       by true = omega arith
       by false = omega arith
@@ -353,7 +340,7 @@ module _ (from to : ℕ) where
   read_again addr (Some v) σ τ u q = (
     omega arith,
     λ g s i. record {
-      log = touch.Read addr v ∷ [];
+      log = Touch.Read addr v ∷ [];
       after = τ;
       is = ap (λ o. read_as addr o τ) (held_too addr v u σ τ q g);
       same = refl;
@@ -364,7 +351,7 @@ module _ (from to : ℕ) where
   read_again addr None σ τ u q = (
     omega arith,
     λ g s i. record {
-      log = touch.Has addr false ∷ [];
+      log = Touch.Has addr false ∷ [];
       after = τ;
       is = ap (λ o. read_as addr o τ) (none_of (get τ.cells addr) (there_too addr false u σ τ (ap is_some q) g));
       same = refl;
@@ -397,23 +384,23 @@ module _ (from to : ℕ) where
       by a (Some Gone) q s = inl (first a (Some Gone) q ∙ sym (second a (Some Gone) q))
 
   -- where a block is made the heap is free from the same address on
-  same_fresh : (n of' : ℕ) (σ τ : State) (u : List Touch) → 1 ≤ n → Agree from to (touch.Make σ.fresh n of' ∷ u) σ τ → σ.fresh ≡ τ.fresh
-  same_fresh n of' σ τ u l g = g.fresh (omega (arith, l, made_append (touch.Make σ.fresh n of' ∷ []) u))
+  same_fresh : (n of' : ℕ) (σ τ : State) (u : List Touch) → 1 ≤ n → Agree from to (Touch.Make σ.fresh n of' ∷ u) σ τ → σ.fresh ≡ τ.fresh
+  same_fresh n of' σ τ u l g = g.fresh (omega (arith, l, made_append (Touch.Make σ.fresh n of' ∷ []) u))
 
   made_again : (n of' : ℕ) (σ τ : State) (u : List Touch) → 1 ≤ n → DoneAgain (made_block n of' σ) (made_block n of' τ) σ τ u
   made_again n of' σ τ u l = λ g s i.
       let f = same_fresh n of' σ τ u l g in
       let after : State = record τ { cells = filled τ.fresh (replicate n Undefined) τ.cells; fresh = τ.fresh + n } in
       record {
-        log = touch.Make τ.fresh n of' ∷ [];
+        log = Touch.Make τ.fresh n of' ∷ [];
         after = after;
-        is = ap (λ a. Went a (touch.Make τ.fresh n of' ∷ []) after) (sym f);
-        same = ap (λ a. touch.Make a n of' ∷ []) f;
+        is = ap (λ a. Went a (Touch.Make τ.fresh n of' ∷ []) after) (sym f);
+        same = ap (λ a. Touch.Make a n of' ∷ []) f;
         agree = record {
           top = g.top;
           fresh = λ m. ap (λ a. a + n) f;
-          cells = after_change (touch.Make σ.fresh n of') u (record { at = block_made σ.fresh n σ.cells })
-              (subst (λ a. Changed (touch.Make σ.fresh n of') τ.cells (filled a (replicate n Undefined) τ.cells)) f
+          cells = after_change (Touch.Make σ.fresh n of') u (record { at = block_made σ.fresh n σ.cells })
+              (subst (λ a. Changed (Touch.Make σ.fresh n of') τ.cells (filled a (replicate n Undefined) τ.cells)) f
               (record { at = block_made σ.fresh n τ.cells })) g.cells;
           place = g.place;
           items = g.items;
@@ -448,14 +435,14 @@ module _ (from to : ℕ) where
 
   dropped_again : (addr n : ℕ) (σ τ : State) (u : List Touch) → DoneAgain (dropped_block addr n σ) (dropped_block addr n τ) σ τ u
   dropped_again addr n σ τ u = λ g s i. record {
-    log = touch.Drop addr n ∷ [];
+    log = Touch.Drop addr n ∷ [];
     after = record τ { cells = cleared addr n τ.cells };
     is = refl;
     same = refl;
     agree = record {
       top = g.top;
       fresh = g.fresh;
-      cells = after_change (touch.Drop addr n) u (record { at = block_dropped addr n σ.cells }) (record { at = block_dropped addr n τ.cells }) g.cells;
+      cells = after_change (Touch.Drop addr n) u (record { at = block_dropped addr n σ.cells }) (record { at = block_dropped addr n τ.cells }) g.cells;
       place = g.place;
       items = g.items;
     };
@@ -465,8 +452,8 @@ module _ (from to : ℕ) where
   drop_again : (addr n : ℕ) (σ τ : State) (u : List Touch) → DoneAgain (drop_block addr n σ) (drop_block addr n τ) σ τ u
   drop_again addr n σ τ u = by (lies_in_heap addr n)
     where
-      by : (b : Bool) → DoneAgain (if b then with_steps n σ (dropped_block addr n) else Stops (Fault kind.Undefined) [] σ)
-          (if b then with_steps n τ (dropped_block addr n) else Stops (Fault kind.Undefined) [] τ) σ τ u
+      by : (b : Bool) → DoneAgain (if b then with_steps n σ (dropped_block addr n) else Stops (Fault Kind.Undefined) [] σ)
+          (if b then with_steps n τ (dropped_block addr n) else Stops (Fault Kind.Undefined) [] τ) σ τ u
       by true = stepped n σ τ u (dropped_block addr n) (λ k m. (omega arith, dropped_again addr n (record σ { steps = k }) (record τ { steps = m }) u))
       by false = λ g s i. record { log = []; after = τ; is = refl; same = refl; agree = g; step = step_same σ τ }
 
@@ -478,11 +465,11 @@ module _ (from to : ℕ) where
   took_again wanted (Some item) σ τ u = by (wanted item)
     where
       taken : State → ActResult (Option ℕ)
-      taken τ = Went (Some item) (touch.Take 1 ∷ []) (record τ { place = τ.place + 1 })
+      taken τ = Went (Some item) (Touch.Take 1 ∷ []) (record τ { place = τ.place + 1 })
 
       once : (k l : ℕ) → DoneAgain (taken (record σ { steps = k })) (taken (record τ { steps = l })) (record σ { steps = k }) (record τ { steps = l }) u
       once k l = λ g s i. record {
-        log = touch.Take 1 ∷ [];
+        log = Touch.Take 1 ∷ [];
         after = record τ { place = τ.place + 1; steps = l };
         is = refl;
         same = refl;
@@ -499,7 +486,7 @@ module _ (from to : ℕ) where
   took_no_more wanted (Some item) σ = by (wanted item)
     where
       left : (b : Bool) → (state_of (if b then Stops OutOfSteps [] (spent σ)
-          else Went (Some item) (touch.Take 1 ∷ []) (record σ { place = σ.place + 1; steps = σ.steps - 1 }))).steps ≤ σ.steps
+          else Went (Some item) (Touch.Take 1 ∷ []) (record σ { place = σ.place + 1; steps = σ.steps - 1 }))).steps ≤ σ.steps
       left true = omega arith
       left false = omega arith
 
@@ -511,25 +498,25 @@ module _ (from to : ℕ) where
   look_again : (wanted : ℕ → Bool) (σ τ : State) (u : List Touch)
       → ((state_of (look_item wanted σ)).steps ≤ σ.steps) × DoneAgain (look_item wanted σ) (look_item wanted τ) σ τ u
   look_again wanted σ τ u = (
-    subst (λ υ. υ.steps ≤ σ.steps) (sym (state_after (touch.Look σ.place ∷ []) looked)) (took_no_more wanted (slice_get σ.items σ.place) σ),
-    told (look_item wanted σ) (after_touches (touch.Look τ.place ∷ []) (take_looked wanted (slice_get σ.items σ.place) τ)) (look_item wanted τ) σ τ u
-        (λ g. ap (λ o. after_touches (touch.Look τ.place ∷ []) (take_looked wanted o τ)) (sym (same_item (log_of looked ++ u) σ τ (first g))))
-        (touched_first (touch.Look σ.place) (touch.Look τ.place) σ τ u looked (take_looked wanted (slice_get σ.items σ.place) τ)
-        (λ g. record { same = ap touch.Look (omega (arith, g.place.0, g.place.1)); agree = λ w k. after_look w σ τ k })
+    subst (λ υ. υ.steps ≤ σ.steps) (sym (state_after (Touch.Look σ.place ∷ []) looked)) (took_no_more wanted (slice_get σ.items σ.place) σ),
+    told (look_item wanted σ) (after_touches (Touch.Look τ.place ∷ []) (take_looked wanted (slice_get σ.items σ.place) τ)) (look_item wanted τ) σ τ u
+        (λ g. ap (λ o. after_touches (Touch.Look τ.place ∷ []) (take_looked wanted o τ)) (sym (same_item (log_of looked ++ u) σ τ (first g))))
+        (touched_first (Touch.Look σ.place) (Touch.Look τ.place) σ τ u looked (take_looked wanted (slice_get σ.items σ.place) τ)
+        (λ g. record { same = ap Touch.Look (omega (arith, g.place.0, g.place.1)); agree = λ w k. after_look w σ τ k })
         (took_again wanted (slice_get σ.items σ.place) σ τ u)),
   )
     where
       looked : ActResult (Option ℕ)
       looked = take_looked wanted (slice_get σ.items σ.place) σ
 
-      first : Agree from to (log_of (look_item wanted σ) ++ u) σ τ → Agree from to (touch.Look σ.place ∷ (log_of looked ++ u)) σ τ
-      first g = subst (λ l. Agree from to (l ++ u) σ τ) (touches_after (touch.Look σ.place ∷ []) looked) g
+      first : Agree from to (log_of (look_item wanted σ) ++ u) σ τ → Agree from to (Touch.Look σ.place ∷ (log_of looked ++ u)) σ τ
+      first g = subst (λ l. Agree from to (l ++ u) σ τ) (touches_after (Touch.Look σ.place ∷ []) looked) g
 
   give_again : (byte : ℕ) (σ τ : State) (u : List Touch)
-      → DoneAgain {A = Unit {0}} (Went tt (touch.Give byte ∷ []) (record σ { output = σ.output ++ byte ∷ [] }))
-      (Went tt (touch.Give byte ∷ []) (record τ { output = τ.output ++ byte ∷ [] })) σ τ u
+      → DoneAgain {A = Unit {0}} (Went tt (Touch.Give byte ∷ []) (record σ { output = σ.output ++ byte ∷ [] }))
+      (Went tt (Touch.Give byte ∷ []) (record τ { output = τ.output ++ byte ∷ [] })) σ τ u
   give_again byte σ τ u = λ g s i. record {
-    log = touch.Give byte ∷ [];
+    log = Touch.Give byte ∷ [];
     after = record τ { output = τ.output ++ byte ∷ [] };
     is = refl;
     same = refl;
@@ -551,13 +538,13 @@ module _ (from to : ℕ) where
   ))
   act_again (ReadCell addr) σ τ u = celled addr σ τ u (λ τ. read_as addr (get τ.cells addr) τ)
       (λ k l. read_again addr (get σ.cells addr) (record σ { steps = k }) (record τ { steps = l }) u refl)
-  act_again (HasCell addr) σ τ u = celled addr σ τ u (λ τ. Went (is_some (get τ.cells addr)) (touch.Has addr (is_some (get τ.cells addr)) ∷ []) τ)
+  act_again (HasCell addr) σ τ u = celled addr σ τ u (λ τ. Went (is_some (get τ.cells addr)) (Touch.Has addr (is_some (get τ.cells addr)) ∷ []) τ)
       (λ k l. (
         omega arith,
         λ g s i. record {
-          log = touch.Has addr (is_some (get σ.cells addr)) ∷ [];
+          log = Touch.Has addr (is_some (get σ.cells addr)) ∷ [];
           after = record τ { steps = l };
-          is = ap (λ b. Went b (touch.Has addr b ∷ []) (record τ { steps = l }))
+          is = ap (λ b. Went b (Touch.Has addr b ∷ []) (record τ { steps = l }))
               (there_too addr (is_some (get σ.cells addr)) u (record σ { steps = k }) (record τ { steps = l }) refl g);
           same = refl;
           agree = after_has addr (is_some (get σ.cells addr)) u (record σ { steps = k }) (record τ { steps = l }) g;
@@ -568,7 +555,7 @@ module _ (from to : ℕ) where
       (λ k l. write_again addr v (record σ { steps = k }) (record τ { steps = l }) u)
   act_again (TakeIf wanted) σ τ u = stepped 1 σ τ u (look_item wanted)
       (λ k l. look_again wanted (record σ { steps = k }) (record τ { steps = l }) u)
-  act_again (GiveByte byte) σ τ u = stepped 1 σ τ u (λ τ. Went tt (touch.Give byte ∷ []) (record τ { output = τ.output ++ byte ∷ [] }))
+  act_again (GiveByte byte) σ τ u = stepped 1 σ τ u (λ τ. Went tt (Touch.Give byte ∷ []) (record τ { output = τ.output ++ byte ∷ [] }))
       (λ k l. (omega arith, give_again byte (record σ { steps = k }) (record τ { steps = l }) u))
   act_again (MakeBlock cells of') σ τ u = make_again (block_cells cells) of' σ τ u (omega arith)
   act_again (DropBlock addr cells) σ τ u = drop_again addr (block_cells cells) σ τ u

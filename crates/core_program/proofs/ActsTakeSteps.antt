@@ -1,69 +1,12 @@
 -- The steps that acts take.
-use Rattle.std.proofs.Common.{
-  ℕ,
-  ◌+◌,
-  ◌-◌,
-  ◌≤◌,
-  ◌≡◌,
-  Bool,
-  true,
-  false,
-  List,
-  [],
-  ◌∷◌,
-  ◌++◌,
-  Option,
-  Some,
-  None,
-  refl,
-  nat_lt,
-  is_some,
-  if◌then◌else◌,
-  slice_get,
-  arith,
-}
-use Rattle.std.proofs.lemmas.Bool.{ltb-false}
-use Rattle.std.specs.FinMap.{get}
-use Rattle.cell_value.specs.declared.values.Value.{Value}
-use Rattle.cell_value.specs.declared.entries.Touch.{Touch}
-use Rattle.cell_value.specs.declared.entries.Touch.TheVariants as touch
-use Rattle.cell_value.specs.declared.ways_out.Kind.TheVariants as kind
-use Rattle.cell_value.specs.declared.ways_out.Which.TheVariants.{Heap}
+use Rattle.std.proofs.Common.{if◌then◌else◌, ◌++◌, ◌+◌, ◌-◌, ◌∷◌, ◌≡◌, ◌≤◌, [], ℕ, Bool, List, None, Option, Some, arith, false, is_some, nat_lt, refl}
+use Rattle.std.{proofs.Common.slice_get, proofs.Common.true, proofs.lemmas.Bool.ltb-false, specs.FinMap.get}
 use Rattle.cell_value.specs.Effects.{heap_end}
-use Rattle.core_program.specs.State.{State, stack_end, is_in_reach}
-use Rattle.core_program.specs.Blocks.{block_cells, lies_in_heap}
-use Rattle.core_program.specs.Acts.{
-  Fault,
-  OutOfSteps,
-  Limited,
-  Act,
-  ActResult,
-  Went,
-  Stops,
-  Spend,
-  ReadCell,
-  HasCell,
-  WriteCell,
-  TakeIf,
-  GiveByte,
-  MakeBlock,
-  DropBlock,
-  perform,
-  with_steps,
-  on_cell,
-  read_as,
-  put_value,
-  put_asked,
-  after_touches,
-  take_item,
-  take_looked,
-  look_item,
-  make_block,
-  made_block,
-  drop_block,
-  dropped_block,
-  spent,
-}
+use Rattle.cell_value.specs.declared.{entries.Touch.Touch, values.Value.Value, ways_out.Kind.Kind, ways_out.Which.TheVariants.Heap}
+use Rattle.core_program.specs.{Blocks.block_cells, Blocks.lies_in_heap, State.State, State.is_in_reach, State.stack_end}
+use Rattle.core_program.specs.Acts.{Act, ActResult, DropBlock, Fault, GiveByte, HasCell, Limited, MakeBlock, OutOfSteps, ReadCell, Spend, Stops, TakeIf, Went}
+use Rattle.core_program.specs.Acts.{WriteCell, after_touches, drop_block, dropped_block, look_item, made_block, make_block, on_cell, perform, put_asked}
+use Rattle.core_program.specs.Acts.{put_value, read_as, spent, take_item, take_looked, with_steps}
 
 -- the steps that an act takes where it is done
 abbrev pub cost : Act → ℕ
@@ -93,7 +36,7 @@ celled : {A : Type 0} (addr : ℕ) (σ : State) (go : State → ActResult A) →
     → Acted 1 σ (on_cell addr σ go)
 celled {A} addr σ go h = by (is_in_reach σ addr)
   where
-    by : (b : Bool) → Acted 1 σ (if b then with_steps 1 σ go else Stops (Fault kind.Undefined) [] σ)
+    by : (b : Bool) → Acted 1 σ (if b then with_steps 1 σ go else Stops (Fault Kind.Undefined) [] σ)
     by true = stepped 1 σ go h
     by false = omega arith
 
@@ -104,7 +47,7 @@ found addr (Some v) σ τ h = h
 asked : (there : Bool) (addr : ℕ) (value : Value) (σ τ : State) → τ.steps + 1 ≤ σ.steps → Acted 1 σ (put_asked there addr value τ)
 asked true addr value σ τ h = by (nat_lt τ.steps 1)
   where
-    by : (b : Bool) → Acted 1 σ (after_touches (touch.Has addr true ∷ [])
+    by : (b : Bool) → Acted 1 σ (after_touches (Touch.Has addr true ∷ [])
         (if b then Stops OutOfSteps [] (spent τ) else put_value addr value (record τ { steps = τ.steps - 1 })))
     by true = omega arith
     by false = omega arith
@@ -127,7 +70,7 @@ looked wanted None σ τ h = h
 looked wanted (Some item) σ τ h = by (wanted item)
   where
     left : (b : Bool) → Acted 1 σ (if b then Stops OutOfSteps [] (spent τ)
-        else Went (Some item) (touch.Take 1 ∷ []) (record τ { place = τ.place + 1; steps = τ.steps - 1 }))
+        else Went (Some item) (Touch.Take 1 ∷ []) (record τ { place = τ.place + 1; steps = τ.steps - 1 }))
     left true = omega arith
     left false = omega arith
 
@@ -145,18 +88,18 @@ made n of' σ = by (nat_lt heap_end (σ.fresh + n))
 dropped : (addr n : ℕ) (σ : State) → Acted n σ (drop_block addr n σ)
 dropped addr n σ = by (lies_in_heap addr n)
   where
-    by : (b : Bool) → Acted n σ (if b then with_steps n σ (dropped_block addr n) else Stops (Fault kind.Undefined) [] σ)
+    by : (b : Bool) → Acted n σ (if b then with_steps n σ (dropped_block addr n) else Stops (Fault Kind.Undefined) [] σ)
     by true = stepped n σ (dropped_block addr n) (λ τ h. h)
     by false = omega arith
 
 pub acted : (act : Act) (σ : State) → Acted (cost act) σ (perform act σ)
 acted (Spend steps) σ = stepped steps σ (λ τ. Went tt [] τ) (λ τ h. h)
 acted (ReadCell addr) σ = celled addr σ (λ τ. read_as addr (get σ.cells addr) τ) (λ τ h. found addr (get σ.cells addr) σ τ h)
-acted (HasCell addr) σ = celled addr σ (λ τ. Went (is_some (get σ.cells addr)) (touch.Has addr (is_some (get σ.cells addr)) ∷ []) τ) (λ τ h. h)
+acted (HasCell addr) σ = celled addr σ (λ τ. Went (is_some (get σ.cells addr)) (Touch.Has addr (is_some (get σ.cells addr)) ∷ []) τ) (λ τ h. h)
 acted (WriteCell addr value) σ = celled addr σ
     (λ τ. if nat_lt addr stack_end then put_value addr value τ else put_asked (is_some (get τ.cells addr)) addr value τ) (written addr value σ)
-acted (TakeIf wanted) σ = stepped 1 σ (look_item wanted) (λ τ h. after (touch.Look τ.place ∷ []) 1 σ (take_looked wanted (slice_get τ.items τ.place) τ)
+acted (TakeIf wanted) σ = stepped 1 σ (look_item wanted) (λ τ h. after (Touch.Look τ.place ∷ []) 1 σ (take_looked wanted (slice_get τ.items τ.place) τ)
     (looked wanted (slice_get τ.items τ.place) σ τ h))
-acted (GiveByte byte) σ = stepped 1 σ (λ τ. Went tt (touch.Give byte ∷ []) (record τ { output = τ.output ++ byte ∷ [] })) (λ τ h. h)
+acted (GiveByte byte) σ = stepped 1 σ (λ τ. Went tt (Touch.Give byte ∷ []) (record τ { output = τ.output ++ byte ∷ [] })) (λ τ h. h)
 acted (MakeBlock cells of') σ = made (block_cells cells) of' σ
 acted (DropBlock addr cells) σ = dropped addr (block_cells cells) σ

@@ -1,46 +1,24 @@
 -- A recorded call's own work, done again with the recorded effects of the calls that it made, is what was recorded.
-use Rattle.std.proofs.Common.{◌≡◌, ℕ, zero, suc, ◌+◌, Bool, true, false, List, [], ◌∷◌, ◌++◌, Option, Some, None, refl, sym, ap, subst, ◌∙◌, append_assoc}
-use Rattle.std.proofs.Common.{length, drop, nat_lt, nat_eq, if◌then◌else◌, arith}
-use Rattle.std.specs.Prelude.{◌&&◌, ℤ}
-use Rattle.std.specs.List.{slice_get}
-use Rattle.std.specs.Ordering.{int_eq}
-use Rattle.std.proofs.lemmas.List.{length-map}
-use Rattle.std.proofs.Math.Seq.{drop-append_seam}
-use Rattle.std.proofs.lemmas.Bool.Decides.{nat_tests}
-use Rattle.cell_value.specs.declared.values.Value.{Value}
-use Rattle.cell_value.specs.declared.values.Value.TheVariants as value
-use Rattle.cell_value.specs.declared.entries.Touch.{Touch}
-use Rattle.cell_value.specs.declared.ways_out.WayOut.{WayOut}
-use Rattle.cell_value.specs.declared.ways_out.WayOut.TheVariants as way
+use Rattle.std.proofs.Common.{if◌then◌else◌, ◌&&◌, ◌++◌, ◌+◌, ◌∙◌, ◌∷◌, ◌≡◌, [], ℕ, ℤ, Bool, List, None, Option, Some, ap, append_assoc, arith, drop, false}
+use Rattle.std.proofs.Common.{length, nat_eq, nat_lt, refl, subst, suc, sym, true, zero}
+use Rattle.std.proofs.{Math.Seq.drop-append_seam, lemmas.Bool.Decides.nat_tests, lemmas.List.length-map}
+use Rattle.std.specs.{List.slice_get, Ordering.int_eq}
+use Rattle.cell_value.specs.declared.{entries.Touch.Touch, values.Value.Value, ways_out.WayOut.WayOut, ways_out.Which.Which, ways_out.Which.TheVariants.Stack}
 use Rattle.cell_value.specs.declared.ways_out.Kind.TheVariants as kind
-use Rattle.cell_value.specs.declared.ways_out.Which.{Which}
-use Rattle.cell_value.specs.declared.ways_out.Which.TheVariants.{Stack}
-use Rattle.core_program.specs.declared.program.Routine.{Routine}
-use Rattle.core_program.specs.declared.rows.TypeRow.{TypeRow}
-use Rattle.core_program.specs.declared.rows.TypeRow.TheVariants as type
-use Rattle.core_program.specs.ProgramRows.{ProgramRows, routine_at, row_at}
-use Rattle.core_program.specs.State.{State, IsSound, moved}
-use Rattle.core_program.specs.Acts.{OutOfSteps, Limited, Answer, spent, limit_passed, Spend}
-use Rattle.core_program.specs.Actions.{Action, Give, Fail, NoMeaning, Perform}
-use Rattle.core_program.specs.Tree.{Out, Nothing, Scalar, Cells, Address, Jump, ActTree, Ret, Halt, Meaningless, Do, Sub, Enter, Line, way_of, doing}
-use Rattle.core_program.specs.Layer.{layer}
-use Rattle.core_program.specs.Heap.{pointer_result_at}
-use Rattle.core_program.specs.Accesses.{scalar}
-use Rattle.core_program.specs.Statements.{on_normal}
-use Rattle.core_program.specs.Run.{End, Ended, Halted, Marked, Result, later_by, in_front, ends, on_end, joined, on_done, if_allowed, Call, way_out}
-use Rattle.core_program.specs.Run.{result_in, record_of, after_all, framed_run, at_work, whole, return_of, result_of_type, result_read, type_in_heading}
-use Rattle.core_program.specs.Run.{with_frame, without_frame, opened, call_closed}
-use Rattle.core_program.specs.Apply.{apply}
-use Rattle.core_program.specs.Replay.{Event, LineOf, ChildOf, Replaying, Replayed, same_numbers, same_value, same_args, end_of, next_call, on_state}
-use Rattle.core_program.specs.Replay.{in_replaying, replaying, replay_of}
-use Rattle.core_program.proofs.OutcomesCompose.{none_some}
-use Rattle.core_program.specs.RunLaws.{IsMet}
-use Rattle.core_program.proofs.Events.{unmarked, events_append, events_length}
-use Rattle.core_program.proofs.ActsLeave.{MayEnter, limits_hold}
+use Rattle.core_program.proofs.{ActsLeave.MayEnter, ActsLeave.limits_hold, Effects.effect_is, OutcomesCompose.none_some}
+use Rattle.core_program.proofs.Events.{events_append, events_length, unmarked}
+use Rattle.core_program.proofs.RunsLeave.{Inner, IsProper, act_left, call_leaves, ran_leaves, sound_framed, sound_opened}
+use Rattle.core_program.proofs.Ways.{Ran, RanCall, RanFrame, changed, ending, front, of_call}
 use Rattle.core_program.proofs.Ways as ways
-use Rattle.core_program.proofs.Ways.{front, ending, changed, of_call, Ran, RanFrame, RanCall}
-use Rattle.core_program.proofs.Effects.{effect_is}
-use Rattle.core_program.proofs.RunsLeave.{IsProper, Inner, act_left, sound_framed, sound_opened, ran_leaves, call_leaves}
+use Rattle.core_program.specs.{Accesses.scalar, Apply.apply, Heap.pointer_result_at, Layer.layer, ProgramRows.ProgramRows, ProgramRows.routine_at}
+use Rattle.core_program.specs.{ProgramRows.row_at, Replay.same_numbers, Replay.same_value, Run.whole, Run.with_frame, Run.without_frame, RunLaws.IsMet}
+use Rattle.core_program.specs.{State.IsSound, State.State, State.moved, Statements.on_normal, declared.program.Routine.Routine, declared.rows.TypeRow.TypeRow}
+use Rattle.core_program.specs.Actions.{Action, Fail, Give, NoMeaning, Perform}
+use Rattle.core_program.specs.Acts.{Answer, Limited, OutOfSteps, Spend, limit_passed, spent}
+use Rattle.core_program.specs.Replay.{ChildOf, Event, LineOf, Replayed, Replaying, end_of, in_replaying, next_call, on_state, replay_of, replaying, same_args}
+use Rattle.core_program.specs.Run.{Call, End, Ended, Halted, Marked, Result, after_all, at_work, call_closed, ends, framed_run, if_allowed, in_front, joined}
+use Rattle.core_program.specs.Run.{later_by, on_done, on_end, opened, record_of, result_in, result_of_type, result_read, return_of, type_in_heading, way_out}
+use Rattle.core_program.specs.Tree.{ActTree, Address, Cells, Do, Enter, Halt, Jump, Line, Meaningless, Nothing, Out, Ret, Scalar, Sub, doing, way_of}
 
 -- ---- how a call's inside may end
 
@@ -69,9 +47,9 @@ whole_returns : (p : ProgramRows) (f base : ℕ) (q : Routine) → Returns (whol
 whole_returns p f base q = λ out. by q.result out
   where
     bounds : (place : ℕ) (t : Option TypeRow) → Returns (result_of_type q.line (moved base place) t)
-    bounds place (Some (type.Ordinal i j)) = doing_returns q.line (result_read i j (moved base place)) scalar (λ v. tt)
-    bounds place (Some (type.Subrange host i j)) = doing_returns q.line (result_read i j (moved base place)) scalar (λ v. tt)
-    bounds place (Some (type.Pointer domain)) = doing_returns q.line (pointer_result_at (moved base place)) scalar (λ v. tt)
+    bounds place (Some (TypeRow.Ordinal i j)) = doing_returns q.line (result_read i j (moved base place)) scalar (λ v. tt)
+    bounds place (Some (TypeRow.Subrange host i j)) = doing_returns q.line (result_read i j (moved base place)) scalar (λ v. tt)
+    bounds place (Some (TypeRow.Pointer domain)) = doing_returns q.line (pointer_result_at (moved base place)) scalar (λ v. tt)
     bounds place t = tt
 
     normal : (o : Option ℕ) → Returns (return_of p base q o)
@@ -114,11 +92,11 @@ end_told (Ended (Scalar v)) h k = refl
 end_told (Ended (Jump label base)) h k = refl
 end_told (Ended (Cells vs)) h k = absurd h
 end_told (Ended (Address addr)) h k = absurd h
-end_told (Halted way.Returned) h k = absurd k
-end_told (Halted (way.Jumped label base)) h k = absurd k
-end_told (Halted (way.Faulted kind line)) h k = refl
-end_told (Halted way.OutOfSteps) h k = refl
-end_told (Halted (way.Limited which)) h k = refl
+end_told (Halted WayOut.Returned) h k = absurd k
+end_told (Halted (WayOut.Jumped label base)) h k = absurd k
+end_told (Halted (WayOut.Faulted kind line)) h k = refl
+end_told (Halted WayOut.OutOfSteps) h k = refl
+end_told (Halted (WayOut.Limited which)) h k = refl
 
 -- ---- what is met
 
@@ -237,14 +215,14 @@ numbers_self [] = refl
 numbers_self (n ∷ ns) = ap (λ b. b && same_numbers ns ns) (nat_self n) ∙ numbers_self ns
 
 value_self : (v : Value) → same_value v v ≡ true
-value_self value.Undefined = refl
-value_self (value.Number i) = int_self i
-value_self (value.Bits a) = numbers_self a.words
-value_self value.Nil = refl
-value_self (value.Heap a) = nat_self a
-value_self (value.Place a) = nat_self a
-value_self (value.Frame a) = nat_self a
-value_self (value.Routine f a) = ap (λ b. b && nat_eq a a) (nat_self f) ∙ nat_self a
+value_self Value.Undefined = refl
+value_self (Value.Number i) = int_self i
+value_self (Value.Bits a) = numbers_self a.words
+value_self Value.Nil = refl
+value_self (Value.Heap a) = nat_self a
+value_self (Value.Place a) = nat_self a
+value_self (Value.Frame a) = nat_self a
+value_self (Value.Routine f a) = ap (λ b. b && nat_eq a a) (nat_self f) ∙ nat_self a
 
 args_self : (vs : List Value) → same_args vs vs ≡ true
 args_self [] = refl
@@ -324,7 +302,7 @@ module _ (p : ProgramRows) where
       redo_at (ap (λ l. joined (replay_of p n (layer p part) (at σ k l)) (next_of n next)) (calls_after y.log y.events z cs))
       (ended_redo (next_of n next) (ran_redo h s k (unmarked z.events ++ cs)) e (ran_redo g (ran_leaves p h s).leaves.sound (k + length y.events) cs))
   ran_redo (ways.AtLimit {n = n} {f = f} {args = args} {next = next} {σ = σ} {which = which} q) s k cs =
-      redo_at (ap (λ o. entered n f args next o (at σ k cs)) q) (ends_redo (Halted (way.Limited which)) σ k cs)
+      redo_at (ap (λ o. entered n f args next o (at σ k cs)) q) (ends_redo (Halted (WayOut.Limited which)) σ k cs)
   ran_redo (ways.CallStopped {n = n} {f = f} {cells = cells} {args = args} {next = next} {σ = σ} {y = y} q h e) s k cs =
       redo_at (ap (λ o. entered n f args next o (at σ k (unmarked (of_call f args σ y).events ++ cs))) q)
       (stopped_redo (next_of n next) (met_call f args σ y k cs s (call_leaves p h s (limits_hold σ cells q)) (call_returns p h)) e)

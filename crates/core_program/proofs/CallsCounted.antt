@@ -1,21 +1,12 @@
 -- What each call of a run did can be counted by its part of the log.
-use Rattle.std.proofs.Common.{◌≡◌, ℕ, ◌+◌, ◌-◌, ◌<◌, ◌≤◌, Bool, true, false, List, [], ◌∷◌, ◌++◌, Some, sym, ap, subst, ◌∙◌, length, take, drop, arith}
-use Rattle.std.proofs.Common.{if◌then◌else◌, length-append, refl}
-use Rattle.std.specs.Prelude.{All, ◌==◌, ◌&&◌, slice_range}
-use Rattle.std.proofs.lemmas.List.{drop_at, take_at}
-use Rattle.std.proofs.lemmas.List.Elements.{All-cons, All-head, All-nil, All-tail}
-use Rattle.cell_value.specs.declared.entries.Touch.{Touch}
-use Rattle.cell_value.specs.Effects.{made_of, taken_of}
-use Rattle.core_program.specs.ProgramRows.{ProgramRows}
-use Rattle.core_program.specs.State.{State}
-use Rattle.core_program.specs.Run.{Marked, Result, Call, input_items, run}
-use Rattle.core_program.specs.Numbering.{StandsAt}
-use Rattle.core_program.proofs.CallsOfRunsNest.{Stand, stand_of}
-use Rattle.core_program.specs.RunLaws.{IsCounted, most_bytes}
-use Rattle.core_program.proofs.Events.{unmarked}
-use Rattle.core_program.proofs.RunsLeave.{call_leaves}
-use Rattle.core_program.proofs.RunsRecord.{MadeBy, Recorded}
+use Rattle.std.proofs.Common.{if◌then◌else◌, ◌&&◌, ◌++◌, ◌+◌, ◌-◌, ◌<◌, ◌==◌, ◌∙◌, ◌∷◌, ◌≡◌, ◌≤◌, [], ℕ, All, Bool, List, Some, ap, arith, drop, false, length}
+use Rattle.std.proofs.Common.{length-append, refl, slice_range, subst, sym, take, true}
+use Rattle.std.proofs.lemmas.List.{drop_at, take_at, Elements.All-cons, Elements.All-head, Elements.All-nil, Elements.All-tail}
+use Rattle.cell_value.specs.{Effects.made_of, Effects.taken_of, declared.entries.Touch.Touch}
+use Rattle.core_program.proofs.{CallsOfRunsNest.Stand, CallsOfRunsNest.stand_of, Events.unmarked, RunsLeave.call_leaves, RunsRecord.MadeBy, RunsRecord.Recorded}
 use Rattle.core_program.proofs.LawsOfRuns.{all_recorded, made_countable}
+use Rattle.core_program.specs.{Numbering.StandsAt, ProgramRows.ProgramRows, RunLaws.IsCounted, RunLaws.most_bytes, State.State}
+use Rattle.core_program.specs.Run.{Call, Marked, Result, input_items, run}
 
 -- ---- the items of an input
 

@@ -1,57 +1,17 @@
 -- The calls of a run lie in one another as in a forest, all of them in the first, and their parts of the log where
 -- their marks say.
-use Rattle.std.proofs.Common.{◌≡◌, ℕ, zero, suc, ◌+◌, ◌<◌, Bool, true, false, List, [], ◌∷◌, ◌++◌, Option, Some, None, length, refl, sym, subst, append-nil}
-use Rattle.std.proofs.Common.{nat_lt, if◌then◌else◌, arith, ap, ◌∙◌, append_assoc, length-append}
-use Rattle.std.specs.List.{All}
-use Rattle.std.proofs.lemmas.List.{map-append, length-map}
-use Rattle.std.proofs.lemmas.Option.{same_Some}
+use Rattle.std.proofs.Common.{if◌then◌else◌, ◌++◌, ◌+◌, ◌<◌, ◌∙◌, ◌∷◌, ◌≡◌, [], ℕ, Bool, List, None, Option, Some, ap, append-nil, append_assoc, arith, false}
+use Rattle.std.proofs.Common.{length, length-append, nat_lt, refl, subst, suc, sym, true, zero}
+use Rattle.std.{proofs.lemmas.List.length-map, proofs.lemmas.List.map-append, proofs.lemmas.Option.same_Some, specs.List.All}
 use Rattle.std.proofs.lemmas.List.Elements.{All-append, All-cons, All-map, All-nil, All-weaker}
-use Rattle.cell_value.specs.declared.values.Value.{Value}
-use Rattle.cell_value.specs.declared.values.Value.TheVariants.{Nil}
-use Rattle.cell_value.specs.declared.entries.Touch.{Touch}
-use Rattle.cell_value.specs.declared.ways_out.Which.{Which}
-use Rattle.core_program.specs.declared.program.Routine.{Routine}
-use Rattle.core_program.specs.ProgramRows.{ProgramRows, routine_at}
-use Rattle.core_program.specs.State.{State, stack_end}
-use Rattle.core_program.specs.Acts.{ActResult, Went, Stops, Spend, perform, spent, limit_passed}
-use Rattle.core_program.specs.Tree.{Out, Part, ActTree, Ret, Halt, Meaningless, Do, Sub, Enter, Line, way_of}
-use Rattle.core_program.specs.Layer.{layer}
-use Rattle.core_program.specs.Run.{
-  End,
-  Ended,
-  Halted,
-  Marked,
-  Result,
-  later_by,
-  in_front,
-  ends,
-  on_end,
-  joined,
-  on_done,
-  if_allowed,
-  walk,
-  Outcome,
-  Call,
-  record_of,
-  recorded,
-  after_all,
-  in_frame,
-  at_work,
-  call_of,
-  plain,
-  run_of,
-  run,
-  block,
-  start,
-  depth_enough,
-  whole,
-  with_frame,
-  without_frame,
-  opened,
-  call_closed,
-}
-use Rattle.core_program.specs.Numbering.{StandsAt, belows, last_below}
-use Rattle.core_program.proofs.NestedCallsAreIntervals.{Forest, forest_none, forest_append, forest_call}
+use Rattle.cell_value.specs.declared.{entries.Touch.Touch, values.Value.Value, values.Value.TheVariants.Nil, ways_out.Which.Which}
+use Rattle.core_program.proofs.NestedCallsAreIntervals.{Forest, forest_append, forest_call, forest_none}
+use Rattle.core_program.specs.{Layer.layer, Numbering.StandsAt, Numbering.belows, Numbering.last_below, ProgramRows.ProgramRows, ProgramRows.routine_at}
+use Rattle.core_program.specs.{Run.walk, Run.whole, Run.with_frame, Run.without_frame, State.State, State.stack_end, declared.program.Routine.Routine}
+use Rattle.core_program.specs.Acts.{ActResult, Spend, Stops, Went, limit_passed, perform, spent}
+use Rattle.core_program.specs.Run.{Call, End, Ended, Halted, Marked, Outcome, Result, after_all, at_work, block, call_closed, call_of, depth_enough, ends}
+use Rattle.core_program.specs.Run.{if_allowed, in_frame, in_front, joined, later_by, on_done, on_end, opened, plain, record_of, recorded, run, run_of, start}
+use Rattle.core_program.specs.Tree.{ActTree, Do, Enter, Halt, Line, Meaningless, Out, Part, Ret, Sub, way_of}
 
 -- where entries stand once others are before or after them
 pub stands_on : (log more : List Touch) (mark : ℕ) (w : List Touch) → StandsAt log mark w → StandsAt (log ++ more) mark w

@@ -1,25 +1,15 @@
 -- Cells after inserts and removals: frames, and the changes of an effect.
-use Rattle.std.proofs.Common.{◌≡◌, ◌≢◌, ◌⊎◌, inl, inr, ℕ, zero, suc, ◌+◌, ◌<◌, ◌≤◌, Bool, true, false, cond, List, [], ◌∷◌, ◌++◌, Option, Some, None, refl}
-use Rattle.std.proofs.Common.{sym, ap, ◌∙◌, length, replicate, is_some, nat_lt, nat_le, if◌then◌else◌, arith}
-use Rattle.std.proofs.Common.{length-append}
-use Rattle.std.specs.Prelude.{◌&&◌, ◌||◌}
-use Rattle.std.specs.Option.{option_map, IsSome}
-use Rattle.std.specs.List.{filter_map, cons_option, range_with_len}
-use Rattle.std.proofs.lemmas.Bool.Decides.{eqb_tells, nat_tests}
-use Rattle.std.proofs.lemmas.List.{length-take, length-replicate}
-use Rattle.std.specs.Ordering.{nat_cmp, eq_by_cmp}
-use Rattle.std.specs.Cmp.{nat_cmp_total}
-use Rattle.std.specs.FinMap.{FinMap, get, insert, remove, get-insert, get-remove}
-use Rattle.cell_value.specs.declared.values.Value.{Value}
-use Rattle.cell_value.specs.declared.values.Value.TheVariants.{Undefined}
-use Rattle.cell_value.specs.declared.entries.Touch.{Touch}
-use Rattle.cell_value.specs.declared.entries.Change.{Change}
-use Rattle.cell_value.specs.declared.entries.Change.TheVariants.{Set, Gone}
-use Rattle.cell_value.specs.Effects.{heap_start, heap_end, is_shared, shared, listed, changed_block, changes_of, change_at}
-use Rattle.core_program.specs.Blocks.{filled, cleared}
-use Rattle.core_program.specs.Run.{frame_cells}
-use Rattle.core_program.specs.Apply.{changed_cells}
+use Rattle.std.proofs.Common.{if◌then◌else◌, ◌&&◌, ◌++◌, ◌+◌, ◌<◌, ◌||◌, ◌∙◌, ◌∷◌, ◌≡◌, ◌≢◌, ◌≤◌, ◌⊎◌, [], ℕ, Bool, List, None, Option, Some, ap, arith, cond}
+use Rattle.std.proofs.Common.{false, inl, inr, is_some, length, length-append, nat_le, nat_lt, refl, replicate, suc, sym, true, zero}
+use Rattle.std.proofs.lemmas.{Bool.Decides.eqb_tells, Bool.Decides.nat_tests, List.length-replicate, List.length-take}
+use Rattle.std.specs.{Cmp.nat_cmp_total, Option.IsSome, Option.option_map, Ordering.eq_by_cmp, Ordering.nat_cmp}
+use Rattle.std.specs.FinMap.{FinMap, get, get-insert, get-remove, insert, remove}
+use Rattle.std.specs.List.{cons_option, filter_map, range_with_len}
+use Rattle.cell_value.specs.Effects.{change_at, changed_block, changes_of, heap_end, heap_start, is_shared, listed, shared}
+use Rattle.cell_value.specs.declared.entries.{Change.Change, Change.TheVariants.Gone, Change.TheVariants.Set, Touch.Touch}
+use Rattle.cell_value.specs.declared.values.Value.{Value, TheVariants.Undefined}
 use Rattle.core_program.proofs.Touches.{left_with}
+use Rattle.core_program.specs.{Apply.changed_cells, Blocks.cleared, Blocks.filled, Run.frame_cells}
 
 abbrev pub Map : Type 0
 Map = FinMap nat_cmp Value

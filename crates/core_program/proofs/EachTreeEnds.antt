@@ -1,103 +1,24 @@
 -- A depth that is always enough. A tree is told by its rank: before a step is taken it has parts of lower rank alone.
-use Rattle.std.proofs.Common.{◌≡◌, ◌⊎◌, inl, inr, ℕ, zero, suc, ◌+◌, ◌-◌, ◌*◌, ◌<◌, ◌≤◌, ◌==◌, ℤ, Bool, true, false, List, [], ◌∷◌, Option, Some, None, refl}
-use Rattle.std.proofs.Common.{sym, ap, subst, ◌∙◌, length, nat_lt, if◌then◌else◌, slice_get, unwrap_or, arith, is_some}
-use Rattle.std.proofs.Math.Nat.{mul-le-mul_left}
-use Rattle.std.proofs.lemmas.Bool.Decides.{nat_tests}
-use Rattle.cell_value.specs.declared.values.Value.{Value}
-use Rattle.cell_value.specs.declared.entries.Touch.{Touch}
-use Rattle.cell_value.specs.declared.ways_out.WayOut.{WayOut}
-use Rattle.cell_value.specs.declared.ways_out.Which.{Which}
-use Rattle.cell_value.specs.declared.ways_out.Which.TheVariants.{Stack}
-use Rattle.core_program.specs.declared.program.Routine.{Routine}
-use Rattle.core_program.specs.declared.rows.Row.{Row}
-use Rattle.core_program.specs.declared.rows.Row.TheVariants as rows
-use Rattle.core_program.specs.declared.rows.ItemRow.{ItemRow}
-use Rattle.core_program.specs.declared.rows.ItemRow.TheVariants as item
-use Rattle.core_program.specs.declared.rows.AccessRow.{AccessRow}
-use Rattle.core_program.specs.declared.rows.AccessRow.TheVariants as access
-use Rattle.core_program.specs.declared.rows.StatementRow.{StatementRow}
-use Rattle.core_program.specs.declared.rows.StatementRow.TheVariants as statement
-use Rattle.core_program.specs.declared.rows.NameRow.TheVariants as named
-use Rattle.core_program.specs.declared.rows.TypeRow.{TypeRow}
-use Rattle.core_program.specs.declared.rows.TypeRow.TheVariants as kinds
-use Rattle.core_program.specs.ProgramRows.{ProgramRows, row_at, type_at, routine_at}
-use Rattle.core_program.specs.WholeTables.{WholeTables, is_routine}
-use Rattle.core_program.specs.State.{State, stack_end}
-use Rattle.core_program.specs.Acts.{OutOfSteps, Limited, Act, Answer, ActResult, Went, Stops, Spend, perform, limit_passed, spent}
-use Rattle.core_program.specs.Tree.{
-  Out,
-  Jump,
-  Here,
-  Part,
-  Eval,
-  Locate,
-  Pass,
-  Gather,
-  Establish,
-  Exec,
-  Sequence,
-  Turn,
-  Count,
-  Receive,
-  Scanning,
-  RestOfLine,
-  Print,
-  Body,
-  ActTree,
-  Ret,
-  Halt,
-  Meaningless,
-  Do,
-  Sub,
-  Enter,
-  Line,
-  way_of,
-  doing,
-}
-use Rattle.core_program.specs.declared.scan.Scan.{Scan}
-use Rattle.core_program.specs.declared.scan.Scan.TheVariants.{Blanks, Digits}
-use Rattle.core_program.specs.Accesses.{no_row, is_end, until_end, on_scalar, on_address, eval, locate_before, of_access, access_in, type_accessed}
-use Rattle.core_program.specs.Accesses.{with_formal}
-use Rattle.core_program.specs.Cells.{routine_out}
-use Rattle.core_program.specs.Expressions.{expression_in, pass_routine, of_actual, of_members}
-use Rattle.core_program.specs.Statements.{nothing, on_normal, on_labelled, begins, line_of, statement_in, of_sequence, of_turn, of_count, of_records}
-use Rattle.core_program.specs.Input.{next_char}
-use Rattle.core_program.specs.Output.{char_type}
-use Rattle.core_program.specs.Transfers.{with_host, read_for, received, of_received, of_scan, of_printed}
-use Rattle.core_program.specs.Layer.{layer, of_body}
-use Rattle.core_program.proofs.ActsTakeSteps.{cost, Acted, acted}
-use Rattle.core_program.proofs.ActionsMeant.{no}
+use Rattle.std.proofs.Common.{if◌then◌else◌, ◌*◌, ◌+◌, ◌-◌, ◌<◌, ◌==◌, ◌∙◌, ◌∷◌, ◌≡◌, ◌≤◌, ◌⊎◌, [], ℕ, ℤ, Bool, List, None, Option, Some, ap, arith, false, inl}
+use Rattle.std.proofs.Common.{inr, is_some, length, nat_lt, refl, slice_get, subst, suc, sym, true, unwrap_or, zero}
+use Rattle.std.proofs.{Math.Nat.mul-le-mul_left, lemmas.Bool.Decides.nat_tests}
+use Rattle.cell_value.specs.declared.{entries.Touch.Touch, values.Value.Value, ways_out.WayOut.WayOut, ways_out.Which.Which, ways_out.Which.TheVariants.Stack}
+use Rattle.core_program.proofs.{ActionsMeant.no, ActsTakeSteps.Acted, ActsTakeSteps.acted, ActsTakeSteps.cost, WholeActions.below_length, WholeParts.Good}
+use Rattle.core_program.proofs.{WholeParts.Takes, WholeParts.gives, WholeParts.gives_call, WholeStatements.part_good, WholeStatements.routine_good}
 use Rattle.core_program.proofs.WholeParts as places
-use Rattle.core_program.proofs.WholeParts.{Takes, gives, gives_call, Good}
-use Rattle.core_program.proofs.WholeActions.{below_length}
-use Rattle.core_program.proofs.WholeStatements.{part_good, routine_good}
-use Rattle.core_program.specs.Run.{
-  End,
-  Ended,
-  Halted,
-  Marked,
-  Result,
-  in_front,
-  ends,
-  on_end,
-  joined,
-  on_done,
-  if_allowed,
-  Outcome,
-  recorded,
-  after_all,
-  in_frame,
-  at_work,
-  call_of,
-  plain,
-  run_of,
-  whole,
-  with_frame,
-  without_frame,
-  opened,
-  call_closed,
-  Call as Record,
-}
+use Rattle.core_program.specs.{Cells.routine_out, Expressions.expression_in, Expressions.of_actual, Expressions.of_members, Expressions.pass_routine}
+use Rattle.core_program.specs.{Input.next_char, Layer.layer, Layer.of_body, Output.char_type, ProgramRows.ProgramRows, ProgramRows.routine_at}
+use Rattle.core_program.specs.{ProgramRows.row_at, ProgramRows.type_at, State.State, State.stack_end, WholeTables.WholeTables, WholeTables.is_routine}
+use Rattle.core_program.specs.Accesses.{access_in, eval, is_end, locate_before, no_row, of_access, on_address, on_scalar, type_accessed, until_end, with_formal}
+use Rattle.core_program.specs.Acts.{Act, ActResult, Answer, Limited, OutOfSteps, Spend, Stops, Went, limit_passed, perform, spent}
+use Rattle.core_program.specs.Run.{Call as Record, End, Ended, Halted, Marked, Outcome, Result, after_all, at_work, call_closed, call_of, ends, if_allowed}
+use Rattle.core_program.specs.Run.{in_frame, in_front, joined, on_done, on_end, opened, plain, recorded, run_of, whole, with_frame, without_frame}
+use Rattle.core_program.specs.Statements.{begins, line_of, nothing, of_count, of_records, of_sequence, of_turn, on_labelled, on_normal, statement_in}
+use Rattle.core_program.specs.Transfers.{of_printed, of_received, of_scan, read_for, received, with_host}
+use Rattle.core_program.specs.Tree.{ActTree, Body, Count, Do, Enter, Establish, Eval, Exec, Gather, Halt, Here, Jump, Line, Locate, Meaningless, Out, Part}
+use Rattle.core_program.specs.Tree.{Pass, Print, Receive, RestOfLine, Ret, Scanning, Sequence, Sub, Turn, doing, way_of}
+use Rattle.core_program.specs.declared.{program.Routine.Routine, scan.Scan.Scan, scan.Scan.TheVariants.Blanks, scan.Scan.TheVariants.Digits}
+use Rattle.core_program.specs.declared.rows.{AccessRow.AccessRow, ItemRow.ItemRow, NameRow.NameRow, Row.Row, StatementRow.StatementRow, TypeRow.TypeRow}
 
 -- ---- ranks
 
@@ -194,22 +115,22 @@ module _ (p : ProgramRows) where
       by false e = tt
 
   access_fits : (row : ℕ) (target : Bool) (here : Here) (a : AccessRow) → row < R → Fits (Locate row target here) (of_access p row target here a)
-  access_fits row target here (access.Variable place levels of') h = inl one
-  access_fits row target here (access.Reference place levels of') h = inl one
-  access_fits row target here (access.Within record' field of') h = inl one
-  access_fits row target here (access.Index inner index array of') h = locates row inner target here _ h
-  access_fits row target here (access.Field inner field of') h = locates row inner target here _ h
-  access_fits row target here (access.Dereference inner of') h = locates row inner target here _ h
+  access_fits row target here (AccessRow.Variable place levels of') h = inl one
+  access_fits row target here (AccessRow.Reference place levels of') h = inl one
+  access_fits row target here (AccessRow.Within record' field of') h = inl one
+  access_fits row target here (AccessRow.Index inner index array of') h = locates row inner target here _ h
+  access_fits row target here (AccessRow.Field inner field of') h = locates row inner target here _ h
+  access_fits row target here (AccessRow.Dereference inner of') h = locates row inner target here _ h
 
   there : (row : ℕ) (target : Bool) (here : Here) (r : Row) → row < R → Fits (Locate row target here) (access_in p row target here r)
-  there row target here (rows.Access a) h = access_fits row target here a h
-  there row target here rows.Nothing h = tt
-  there row target here (rows.Type t) h = tt
-  there row target here (rows.Name n) h = tt
-  there row target here (rows.Part q) h = tt
-  there row target here (rows.Statement s) h = tt
-  there row target here (rows.Expression e) h = tt
-  there row target here (rows.Item i) h = tt
+  there row target here (Row.Access a) h = access_fits row target here a h
+  there row target here Row.Nothing h = tt
+  there row target here (Row.Type t) h = tt
+  there row target here (Row.Name n) h = tt
+  there row target here (Row.Part q) h = tt
+  there row target here (Row.Statement s) h = tt
+  there row target here (Row.Expression e) h = tt
+  there row target here (Row.Item i) h = tt
 
   located : (row : ℕ) (target : Bool) (here : Here) → Fits (Locate row target here) (access_in p row target here (row_at p row))
   located row target here = elim (below_length p.rows row) [
@@ -218,45 +139,45 @@ module _ (p : ProgramRows) where
   ]
 
   evaluated : (row : ℕ) (here : Here) (r : Row) → Fits (Eval row here) (expression_in p row here r)
-  evaluated row here (rows.Expression e) = inl one
-  evaluated row here (rows.Access a) = (omega arith, inl refl)
-  evaluated row here rows.Nothing = tt
-  evaluated row here (rows.Type t) = tt
-  evaluated row here (rows.Name n) = tt
-  evaluated row here (rows.Part q) = tt
-  evaluated row here (rows.Statement s) = tt
-  evaluated row here (rows.Item i) = tt
+  evaluated row here (Row.Expression e) = inl one
+  evaluated row here (Row.Access a) = (omega arith, inl refl)
+  evaluated row here Row.Nothing = tt
+  evaluated row here (Row.Type t) = tt
+  evaluated row here (Row.Name n) = tt
+  evaluated row here (Row.Part q) = tt
+  evaluated row here (Row.Statement s) = tt
+  evaluated row here (Row.Item i) = tt
 
   passed_formal : (at next levels : ℕ) (vs : List Value) (here : Here) (r : Row)
       → Fits (Pass at vs here) (with_formal r (λ place heading. pass_routine here next vs (routine_out p heading levels here.base place)))
-  passed_formal at next levels vs here (rows.Name (named.RoutineFormal place level heading)) = inl one
+  passed_formal at next levels vs here (Row.Name (NameRow.RoutineFormal place level heading)) = inl one
   passed_formal at next levels vs here r = tt
 
-  passed_item : (at : ℕ) (vs : List Value) (here : Here) (i : ItemRow) → Fits (Pass at vs here) (of_actual p vs here (rows.Item i))
-  passed_item at vs here (item.Value e of' next) = (omega arith, inl refl)
-  passed_item at vs here (item.Place a next) = (omega arith, inl refl)
-  passed_item at vs here (item.Routine routine levels next) = inl one
-  passed_item at vs here (item.RoutineFormal formal levels next) = passed_formal at next levels vs here (row_at p formal)
+  passed_item : (at : ℕ) (vs : List Value) (here : Here) (i : ItemRow) → Fits (Pass at vs here) (of_actual p vs here (Row.Item i))
+  passed_item at vs here (ItemRow.Value e of' next) = (omega arith, inl refl)
+  passed_item at vs here (ItemRow.Place a next) = (omega arith, inl refl)
+  passed_item at vs here (ItemRow.Routine routine levels next) = inl one
+  passed_item at vs here (ItemRow.RoutineFormal formal levels next) = passed_formal at next levels vs here (row_at p formal)
   passed_item at vs here i = tt
 
   passed_row : (at : ℕ) (vs : List Value) (here : Here) (r : Row) → Fits (Pass at vs here) (of_actual p vs here r)
-  passed_row at vs here (rows.Item i) = passed_item at vs here i
+  passed_row at vs here (Row.Item i) = passed_item at vs here i
   passed_row at vs here r = tt
 
   gathered : (at : ℕ) (set : Value) (here : Here) (r : Row) → Fits (Gather at set here) (of_members set here r)
-  gathered at set here (rows.Item (item.Member e next)) = (omega arith, inl refl)
-  gathered at set here (rows.Item (item.Members first last next)) = (omega arith, inl refl)
+  gathered at set here (Row.Item (ItemRow.Member e next)) = (omega arith, inl refl)
+  gathered at set here (Row.Item (ItemRow.Members first last next)) = (omega arith, inl refl)
   gathered at set here r = tt
 
   established : (at body : ℕ) (here : Here) (r : Row) → Fits (Establish at body here) (of_records here body r)
-  established at body here (rows.Item (item.Element a next)) = (omega arith, inl refl)
+  established at body here (Row.Item (ItemRow.Element a next)) = (omega arith, inl refl)
   established at body here r = tt
 
   begun : (row : ℕ) (here : Here) (s : StatementRow) (o : Option ℕ) → Fits (Exec row here) (begins p row here s o)
   begun row here s (Some line) = tt
   begun row here s None = tt
 
-  labelled : (row label inner : ℕ) (here : Here) → row < R → Fits (Exec row here) (statement_in p row here (rows.Statement (statement.Labelled label inner)))
+  labelled : (row label inner : ℕ) (here : Here) → row < R → Fits (Exec row here) (statement_in p row here (Row.Statement (StatementRow.Labelled label inner)))
   labelled row label inner here h = by (nat_lt row inner) refl
     where
       by : (b : Bool) → nat_lt row inner ≡ b → Fits (Exec row here) (if b then Sub (Exec inner here) (on_labelled row label here) else no_row)
@@ -264,10 +185,10 @@ module _ (p : ProgramRows) where
       by false e = tt
 
   executed : (row : ℕ) (here : Here) (r : Row) → row < R → Fits (Exec row here) (statement_in p row here r)
-  executed row here (rows.Statement statement.Empty) h = inl one
-  executed row here (rows.Statement (statement.Compound statements)) h = inl one
-  executed row here (rows.Statement (statement.Labelled label inner)) h = labelled row label inner here h
-  executed row here (rows.Statement s) h = begun row here s (line_of s)
+  executed row here (Row.Statement StatementRow.Empty) h = inl one
+  executed row here (Row.Statement (StatementRow.Compound statements)) h = inl one
+  executed row here (Row.Statement (StatementRow.Labelled label inner)) h = labelled row label inner here h
+  executed row here (Row.Statement s) h = begun row here s (line_of s)
   executed row here r h = tt
 
   done : (row : ℕ) (here : Here) → Fits (Exec row here) (statement_in p row here (row_at p row))
@@ -277,7 +198,7 @@ module _ (p : ProgramRows) where
   ]
 
   in_sequence : (first at : ℕ) (here : Here) (r : Row) → Fits (Sequence first at here) (of_sequence p here first r)
-  in_sequence first at here (rows.Item (item.Element s next)) = (omega arith, inl refl)
+  in_sequence first at here (Row.Item (ItemRow.Element s next)) = (omega arith, inl refl)
   in_sequence first at here r = tt
 
   repeated : (row condition : ℕ) (here : Here) (go : Value → ActTree) (out : Out) → Ranked R (R + 2) false (on_normal (eval condition here go) out)
@@ -285,12 +206,12 @@ module _ (p : ProgramRows) where
   repeated row condition here go out = (omega arith, inl refl)
 
   turned : (row : ℕ) (here : Here) (r : Row) → Fits (Turn row here) (of_turn row here r)
-  turned row here (rows.Statement (statement.While line condition body)) = (omega arith, inl refl)
-  turned row here (rows.Statement (statement.Repeat line statements condition)) = (omega arith, inr (repeated row condition here _))
+  turned row here (Row.Statement (StatementRow.While line condition body)) = (omega arith, inl refl)
+  turned row here (Row.Statement (StatementRow.Repeat line statements condition)) = (omega arith, inr (repeated row condition here _))
   turned row here r = tt
 
   counted : (row : ℕ) (i last : ℤ) (here : Here) (r : Row) → Fits (Count row i last here) (of_count row here i last r)
-  counted row i last here (rows.Statement (statement.Turns direction last' place of' body)) = inl one
+  counted row i last here (Row.Statement (StatementRow.Turns direction last' place of' body)) = inl one
   counted row i last here r = tt
 
   read_for_fits : (at host : ℕ) (here : Here) (go : Value → ActTree) → Fits (Receive at here) (read_for here host go)
@@ -302,16 +223,16 @@ module _ (p : ProgramRows) where
 
   host_fits : (at of' : ℕ) (here : Here) (go : ℕ → Value → ActTree) (t : Option TypeRow)
       → Fits (Receive at here) (with_host of' t (λ host. read_for here host (go host)))
-  host_fits at of' here go (Some (kinds.Ordinal least greatest)) = read_for_fits at of' here (go of')
-  host_fits at of' here go (Some (kinds.Subrange host least greatest)) = read_for_fits at host here (go host)
+  host_fits at of' here go (Some (TypeRow.Ordinal least greatest)) = read_for_fits at of' here (go of')
+  host_fits at of' here go (Some (TypeRow.Subrange host least greatest)) = read_for_fits at host here (go host)
   host_fits at of' here go t = tt
 
   received_row : (at access next : ℕ) (here : Here) (r : Row) → Fits (Receive at here) (received p here access next r)
-  received_row at access next here (rows.Access a) = host_fits at (type_accessed a) here _ (type_at p (type_accessed a))
+  received_row at access next here (Row.Access a) = host_fits at (type_accessed a) here _ (type_at p (type_accessed a))
   received_row at access next here r = tt
 
   receives : (at : ℕ) (here : Here) (r : Row) → Fits (Receive at here) (of_received p here r)
-  receives at here (rows.Item (item.Element access next)) = received_row at access next here (row_at p access)
+  receives at here (Row.Item (ItemRow.Element access next)) = received_row at access next here (row_at p access)
   receives at here r = tt
 
   scans : (scan : Scan) (here : Here) → Fits (Scanning scan here) (of_scan scan here)
@@ -319,8 +240,8 @@ module _ (p : ProgramRows) where
   scans (Digits minus number) here = inl one
 
   prints : (at : ℕ) (here : Here) (r : Row) → Fits (Print at here) (of_printed p here r)
-  prints at here (rows.Item (item.Written e of' next)) = (omega arith, inl refl)
-  prints at here (rows.Item (item.WrittenWide e of' width next)) = (omega arith, inl refl)
+  prints at here (Row.Item (ItemRow.Written e of' next)) = (omega arith, inl refl)
+  prints at here (Row.Item (ItemRow.WrittenWide e of' width next)) = (omega arith, inl refl)
   prints at here r = tt
 
   bodied : (routine base : ℕ) (o : Option Routine) → Fits (Body routine base) (of_body base o)

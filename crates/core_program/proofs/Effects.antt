@@ -1,25 +1,18 @@
 -- The effect of touches does not depend on where in the input they begin, and it makes of a state what the touches did.
-use Rattle.std.proofs.Common.{◌≡◌, ℕ, ◌+◌, ◌-◌, ◌≤◌, Bool, true, false, List, [], ◌∷◌, ◌++◌, Option, None, refl, sym, ap, ◌∙◌, nat_lt, nat_le, arith}
-use Rattle.std.specs.Prelude.{◌&&◌, ◌||◌, map, fold, max, sum_by, filter_map}
-use Rattle.std.specs.List.{cons_option}
-use Rattle.std.proofs.lemmas.Bool.Decides.{nat_tests}
-use Rattle.std.proofs.lemmas.List.{map-append}
-use Rattle.std.specs.Cmp.{nat_cmp_total}
-use Rattle.std.specs.FinMap.{get, same_map, nat_cmp-IsAntisymmetric}
+use Rattle.std.proofs.Common.{◌&&◌, ◌++◌, ◌+◌, ◌-◌, ◌||◌, ◌∙◌, ◌∷◌, ◌≡◌, ◌≤◌, [], ℕ, Bool, List, None, Option, ap, arith, false, filter_map, fold, map, max}
+use Rattle.std.proofs.Common.{nat_le, nat_lt, refl, sum_by, sym, true}
+use Rattle.std.proofs.lemmas.{Bool.Decides.nat_tests, List.map-append}
+use Rattle.std.specs.{Cmp.nat_cmp_total, FinMap.get, FinMap.nat_cmp-IsAntisymmetric, FinMap.same_map, List.cons_option}
+use Rattle.cell_value.specs.Effects.{asked_by, byte_by, change_at, change_by, changes_of, given_of, heap_end, heap_start, is_shared, last_of, listed, looked_by}
+use Rattle.cell_value.specs.Effects.{looked_of, made_by, made_of, read_by, reads_of, seen_at, seen_by, shared, taken_by, taken_of}
 use Rattle.cell_value.specs.declared.entries.Touch.{Touch}
-use Rattle.cell_value.specs.declared.entries.Touch.TheVariants as touch
-use Rattle.cell_value.specs.Effects.{heap_start, heap_end, is_shared, change_by, change_at, last_of, read_by, asked_by, seen_by, seen_at, listed, shared}
-use Rattle.cell_value.specs.Effects.{reads_of, changes_of, made_by, made_of, looked_by, looked_of, taken_by, taken_of, byte_by, given_of}
-use Rattle.core_program.specs.State.{State, IsSound}
-use Rattle.core_program.specs.Run.{Call}
-use Rattle.core_program.specs.Apply.{apply, steps_taken, changed_cells}
-use Rattle.core_program.proofs.Touches.{left_with, written_is, first_read, first_asked, or_later, seen_is}
-use Rattle.core_program.proofs.Cells.{changed_shared, changed_other}
-use Rattle.core_program.proofs.ActsLeave.{Leaves}
+use Rattle.core_program.proofs.{ActsLeave.Leaves, Cells.changed_other, Cells.changed_shared}
+use Rattle.core_program.proofs.Touches.{first_asked, first_read, left_with, or_later, seen_is, written_is}
+use Rattle.core_program.specs.{Apply.apply, Apply.changed_cells, Apply.steps_taken, Run.Call, State.IsSound, State.State}
 
 -- a touch, where a look at the input is told from the place at which they began
 abbrev pub relative : ℕ → Touch → Touch
-relative p (touch.Look at) = touch.Look (at + 1 - p)
+relative p (Touch.Look at) = Touch.Look (at + 1 - p)
 relative p t = t
 
 -- the touches are the same, but for where in the input they began
@@ -31,35 +24,35 @@ same_append p q v w x y h k = map-append (relative p) v w ∙ ap (λ l. l ++ map
     ∙ sym (map-append (relative q) x y)
 
 change_same : (p a : ℕ) (t : Touch) → change_by a (relative p t) ≡ change_by a t
-change_same p a (touch.Look at) = refl
+change_same p a (Touch.Look at) = refl
 change_same p a t = refl
 
 read_same : (p a : ℕ) (t : Touch) → read_by a (relative p t) ≡ read_by a t
-read_same p a (touch.Look at) = refl
+read_same p a (Touch.Look at) = refl
 read_same p a t = refl
 
 asked_same : (p a : ℕ) (t : Touch) → asked_by a (relative p t) ≡ asked_by a t
-asked_same p a (touch.Look at) = refl
+asked_same p a (Touch.Look at) = refl
 asked_same p a t = refl
 
 made_same : (p : ℕ) (t : Touch) → made_by (relative p t) ≡ made_by t
-made_same p (touch.Look at) = refl
+made_same p (Touch.Look at) = refl
 made_same p t = refl
 
 taken_same : (p : ℕ) (t : Touch) → taken_by (relative p t) ≡ taken_by t
-taken_same p (touch.Look at) = refl
+taken_same p (Touch.Look at) = refl
 taken_same p t = refl
 
 byte_same : (p : ℕ) (t : Touch) → byte_by (relative p t) ≡ byte_by t
-byte_same p (touch.Look at) = refl
+byte_same p (Touch.Look at) = refl
 byte_same p t = refl
 
 abbrev counted : Touch → ℕ
-counted (touch.Look n) = n
+counted (Touch.Look n) = n
 counted t = 0
 
 looked_same : (p : ℕ) (t : Touch) → counted (relative p t) ≡ looked_by p t
-looked_same p (touch.Look at) = refl
+looked_same p (Touch.Look at) = refl
 looked_same p t = refl
 
 filter_same : {Y : Type 0} (p : ℕ) (h : Touch → Option Y) → ((t : Touch) → h (relative p t) ≡ h t) → (w : List Touch)

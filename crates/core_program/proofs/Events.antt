@@ -1,6 +1,5 @@
 -- The events of a run, without their marks.
-use Rattle.std.proofs.Common.{◌≡◌, ℕ, ◌+◌, List, [], ◌∷◌, ◌++◌, refl, ap, ◌∙◌, length, length-append}
-use Rattle.std.specs.Prelude.{map}
+use Rattle.std.proofs.Common.{◌++◌, ◌+◌, ◌∙◌, ◌∷◌, ◌≡◌, [], ℕ, List, ap, length, length-append, map, refl}
 use Rattle.std.proofs.lemmas.List.{length-map, map-append}
 use Rattle.core_program.specs.Run.{Marked, later_by}
 

@@ -1,29 +1,18 @@
 -- The laws, for every program, input and budget.
-use Rattle.std.proofs.Common.{◌≡◌, ℕ, zero, suc, ◌+◌, ◌<◌, ◌≤◌, List, [], ◌∷◌, ◌++◌, Some, refl, sym, ap, subst, ◌∙◌, append-nil, length, take, drop, arith}
-use Rattle.std.specs.Prelude.{All}
-use Rattle.std.specs.List.{slice_get, slice_index_or}
-use Rattle.std.specs.Ordering.{nat_cmp}
-use Rattle.std.specs.FinMap.{get-empty}
-use Rattle.std.proofs.lemmas.List.Elements.{All-cons, All-nil}
-use Rattle.cell_value.specs.declared.values.Value.{Value}
-use Rattle.cell_value.specs.Effects.{IsCountable}
-use Rattle.core_program.specs.ProgramRows.{ProgramRows, routine_at}
-use Rattle.core_program.specs.WholeTables.{WholeTables}
-use Rattle.core_program.specs.State.{State, IsSound, most_calls, most_depth}
-use Rattle.core_program.specs.Acts.{Act, ActResult, Went, Stops, perform}
-use Rattle.core_program.specs.Tree.{Part}
-use Rattle.core_program.specs.Layer.{layer}
-use Rattle.core_program.specs.Run.{Marked, Result, Call, way_out, result_in, call_of, run_of, run, block, start, depth_enough, after_all, call_closed}
-use Rattle.core_program.specs.Run.{framed_run, at_work, input_items, opened}
-use Rattle.core_program.specs.Replay.{Event, body, on_state, in_replaying, replay_of}
-use Rattle.core_program.proofs.OutcomesCompose.{none_some, some_same}
-use Rattle.core_program.specs.RunLaws.{calls_in, HasFewItems, IsSoundAfter, IsMet, IsBody, MeetsItems, ShowsCountable}
-use Rattle.core_program.proofs.Events.{unmarked}
-use Rattle.core_program.proofs.ActsLeave.{DoneLeaves, act_leaves}
-use Rattle.core_program.proofs.Ways.{run_gives, gives_call, call_at}
-use Rattle.core_program.proofs.RunsLeave.{ran_leaves, call_leaves}
-use Rattle.core_program.proofs.RunsRecord.{MadeBy, Recorded, ran_records}
-use Rattle.core_program.proofs.BodiesRepeat.{Meets, Redo, call_redo}
+use Rattle.std.proofs.Common.{◌++◌, ◌+◌, ◌<◌, ◌∙◌, ◌∷◌, ◌≡◌, ◌≤◌, [], ℕ, All, List, Some, ap, append-nil, arith, drop, length, refl, subst, suc, sym, take}
+use Rattle.std.proofs.{Common.zero, lemmas.List.Elements.All-cons, lemmas.List.Elements.All-nil}
+use Rattle.std.specs.{FinMap.get-empty, List.slice_get, List.slice_index_or, Ordering.nat_cmp}
+use Rattle.cell_value.specs.{Effects.IsCountable, declared.values.Value.Value}
+use Rattle.core_program.proofs.{ActsLeave.DoneLeaves, ActsLeave.act_leaves, BodiesRepeat.Meets, BodiesRepeat.Redo, BodiesRepeat.call_redo, Events.unmarked}
+use Rattle.core_program.proofs.{OutcomesCompose.none_some, OutcomesCompose.some_same, RunsLeave.call_leaves, RunsLeave.ran_leaves, RunsRecord.MadeBy}
+use Rattle.core_program.proofs.{RunsRecord.Recorded, RunsRecord.ran_records, Ways.call_at, Ways.gives_call, Ways.run_gives}
+use Rattle.core_program.specs.{Layer.layer, ProgramRows.ProgramRows, ProgramRows.routine_at, Tree.Part, WholeTables.WholeTables}
+use Rattle.core_program.specs.Acts.{Act, ActResult, Stops, Went, perform}
+use Rattle.core_program.specs.Replay.{Event, body, in_replaying, on_state, replay_of}
+use Rattle.core_program.specs.Run.{Call, Marked, Result, after_all, at_work, block, call_closed, call_of, depth_enough, framed_run, input_items, opened}
+use Rattle.core_program.specs.Run.{result_in, run, run_of, start, way_out}
+use Rattle.core_program.specs.RunLaws.{HasFewItems, IsBody, IsMet, IsSoundAfter, MeetsItems, ShowsCountable, calls_in}
+use Rattle.core_program.specs.State.{IsSound, State, most_calls, most_depth}
 
 -- ---- sound states
 

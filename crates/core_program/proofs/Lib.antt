@@ -9,8 +9,10 @@ pub mod Cells
 pub mod EachTreeEnds
 pub mod Effects
 pub mod Events
+pub mod FormsMatch
+pub mod FormsTold
 pub mod LawsOfRuns
-pub mod Lists
+pub mod ListsClassed
 pub mod MainStands
 pub mod MoreDepthSameResult
 pub mod NestedCallsAreIntervals
@@ -20,6 +22,7 @@ pub mod RunAtAnyDepth
 pub mod RunsLeave
 pub mod RunsRecord
 pub mod RunsRepeat
+pub mod SectionsFollow
 pub mod Touches
 pub mod Ways
 pub mod WholeActions

@@ -1,7 +1,6 @@
 -- Whole tables have the program block.
-use Rattle.std.proofs.Common.{◌≡◌, ◌<◌, List, [], ◌∷◌, Some, None, arith, length, slice_get}
-use Rattle.core_program.specs.declared.program.Routine.{Routine}
-use Rattle.core_program.specs.ProgramRows.{ProgramRows, routine_at}
+use Rattle.std.proofs.Common.{◌<◌, ◌∷◌, ◌≡◌, [], List, None, Some, arith, length, slice_get}
+use Rattle.core_program.specs.{ProgramRows.ProgramRows, ProgramRows.routine_at, declared.program.Routine.Routine}
 
 first_inside : (rs : List Routine) (r : Routine) → slice_get rs 0 ≡ Some r → 0 < length rs
 first_inside [] r h = absurd (let z : None ≡ Some r = h in cc)

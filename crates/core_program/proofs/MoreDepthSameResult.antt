@@ -1,64 +1,11 @@
 -- More fuel gives the same result.
-use Rattle.std.proofs.Common.{
-  ◌≡◌,
-  ℕ,
-  zero,
-  suc,
-  ◌+◌,
-  Bool,
-  true,
-  false,
-  List,
-  [],
-  Option,
-  Some,
-  None,
-  refl,
-  sym,
-  ap,
-  subst,
-  ◌∙◌,
-  nat_lt,
-  if◌then◌else◌,
-  arith,
-}
-use Rattle.cell_value.specs.declared.values.Value.{Value}
-use Rattle.cell_value.specs.declared.entries.Touch.{Touch}
-use Rattle.cell_value.specs.declared.ways_out.Which.{Which}
-use Rattle.core_program.specs.declared.program.Routine.{Routine}
-use Rattle.core_program.specs.ProgramRows.{ProgramRows, routine_at}
-use Rattle.core_program.specs.State.{State, stack_end}
-use Rattle.core_program.specs.Acts.{ActResult, Went, Stops, Spend, perform, limit_passed}
-use Rattle.core_program.specs.Tree.{Out, Part, ActTree, Ret, Halt, Meaningless, Do, Sub, Enter, Line}
-use Rattle.core_program.specs.Layer.{layer}
-use Rattle.core_program.specs.Run.{
-  End,
-  Ended,
-  Halted,
-  Marked,
-  Result,
-  Rules,
-  in_front,
-  on_end,
-  joined,
-  on_done,
-  if_allowed,
-  walk,
-  Outcome,
-  recorded,
-  after_all,
-  in_frame,
-  at_work,
-  call_of,
-  plain,
-  within,
-  run_of,
-  whole,
-  with_frame,
-  without_frame,
-  opened,
-  call_closed,
-}
+use Rattle.std.proofs.Common.{if◌then◌else◌, ◌+◌, ◌∙◌, ◌≡◌, [], ℕ, Bool, List, None, Option, Some, ap, arith, false, nat_lt, refl, subst, suc, sym, true, zero}
+use Rattle.cell_value.specs.declared.{entries.Touch.Touch, values.Value.Value, ways_out.Which.Which}
+use Rattle.core_program.specs.{Layer.layer, ProgramRows.ProgramRows, ProgramRows.routine_at, State.State, State.stack_end, declared.program.Routine.Routine}
+use Rattle.core_program.specs.Acts.{ActResult, Spend, Stops, Went, limit_passed, perform}
+use Rattle.core_program.specs.Run.{End, Ended, Halted, Marked, Outcome, Result, Rules, after_all, at_work, call_closed, call_of, if_allowed, in_frame, in_front}
+use Rattle.core_program.specs.Run.{joined, on_done, on_end, opened, plain, recorded, run_of, walk, whole, with_frame, within, without_frame}
+use Rattle.core_program.specs.Tree.{ActTree, Do, Enter, Halt, Line, Meaningless, Out, Part, Ret, Sub}
 
 -- what the first gives, the second gives
 pub record Less {A : Type 0} (a b : Option A) : Type 0 where

@@ -1,37 +1,9 @@
 -- Calls that lie in one another as in a forest, and what follows of their numbers.
-use Rattle.std.proofs.Common.{
-  ◌≡◌,
-  ℕ,
-  zero,
-  suc,
-  ◌+◌,
-  ◌-◌,
-  ◌<◌,
-  ◌≤◌,
-  Bool,
-  true,
-  false,
-  cond,
-  List,
-  [],
-  ◌∷◌,
-  ◌++◌,
-  Some,
-  length,
-  get_or,
-  refl,
-  sym,
-  ap,
-  subst,
-  ◌∙◌,
-  arith,
-  length-append,
-}
-use Rattle.std.proofs.Math.Dec.{leb}
-use Rattle.std.proofs.Math.ListN.{get_or-append}
-use Rattle.std.proofs.Math.Seq.{get_or-append_right}
-use Rattle.std.proofs.lemmas.Bool.{le-leb, lt-leb, leb-true, leb-false}
-use Rattle.core_program.specs.Numbering.{greatest, count, last_below, is_below, parent_of, depth_of, Inside, InSubtree, Root, Child}
+use Rattle.std.proofs.Common.{◌++◌, ◌+◌, ◌-◌, ◌<◌, ◌∙◌, ◌∷◌, ◌≡◌, ◌≤◌, [], ℕ, Bool, List, Some, ap, arith, cond, false, get_or, length, length-append, refl}
+use Rattle.std.proofs.Common.{subst, suc, sym, true, zero}
+use Rattle.std.proofs.Math.{Dec.leb, ListN.get_or-append, Seq.get_or-append_right}
+use Rattle.std.proofs.lemmas.Bool.{le-leb, leb-false, leb-true, lt-leb}
+use Rattle.core_program.specs.Numbering.{Child, InSubtree, Inside, Root, count, depth_of, greatest, is_below, last_below, parent_of}
 
 -- tests that say the same
 pub same_test : (a b c d : ℕ) → (a ≤ b → c ≤ d) → (b < a → d < c) → leb a b ≡ leb c d

@@ -1,13 +1,11 @@
 -- Outcomes, one after another.
-use Rattle.std.proofs.Common.{◌≡◌, ℕ, ◌+◌, List, [], ◌∷◌, ◌++◌, length, length-append, arith, Option, Some, None, refl, sym, ap, ◌∙◌, append_assoc}
+use Rattle.std.proofs.Common.{◌++◌, ◌+◌, ◌∙◌, ◌∷◌, ◌≡◌, [], ℕ, List, None, Option, Some, ap, append_assoc, arith, length, length-append, refl, sym}
 use Rattle.std.proofs.lemmas.List.{map-append}
-use Rattle.cell_value.specs.declared.values.Value.{Value}
-use Rattle.cell_value.specs.declared.entries.Touch.{Touch}
-use Rattle.cell_value.specs.declared.ways_out.Which.{Which}
-use Rattle.core_program.specs.Acts.{ActResult, Went, Stops, Spend, perform, limit_passed}
-use Rattle.core_program.specs.Tree.{Out, Part, ActTree, Ret, Halt, Meaningless, Do, Sub, Enter, Line, bind, way_of}
-use Rattle.core_program.specs.Run.{End, Ended, Halted, Marked, Result, Rules, later_by, in_front, ends, on_end, joined, on_done, if_allowed, walk}
+use Rattle.cell_value.specs.declared.{entries.Touch.Touch, values.Value.Value, ways_out.Which.Which}
 use Rattle.core_program.proofs.MoreDepthSameResult.{Less}
+use Rattle.core_program.specs.Acts.{ActResult, Spend, Stops, Went, limit_passed, perform}
+use Rattle.core_program.specs.Run.{End, Ended, Halted, Marked, Result, Rules, ends, if_allowed, in_front, joined, later_by, on_done, on_end, walk}
+use Rattle.core_program.specs.Tree.{ActTree, Do, Enter, Halt, Line, Meaningless, Out, Part, Ret, Sub, bind, way_of}
 
 pub some_same : {A : Type 0} {x y : A} → Some x ≡ Some y → x ≡ y
 some_same e = cc

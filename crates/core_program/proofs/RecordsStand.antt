@@ -1,34 +1,18 @@
 -- A record of a run stands for the call from each sound state that agrees with it.
-use Rattle.std.proofs.Common.{◌≡◌, ◌⊎◌, inl, inr, ℕ, zero, suc, ◌+◌, ◌-◌, ◌<◌, ◌≤◌, Bool, true, false, List, [], ◌∷◌, Option, Some, None, refl, sym, ap}
-use Rattle.std.proofs.Common.{subst, ◌∙◌, append-nil, length, take, if◌then◌else◌, arith}
-use Rattle.std.specs.Prelude.{All, map, fold, max}
-use Rattle.std.specs.List.{filter_map, cons_option, range_with_len}
-use Rattle.std.specs.Option.{option_map}
-use Rattle.std.proofs.Math.Nat.{le-max_left, le-max_right}
-use Rattle.std.proofs.lemmas.Bool.Decides.{eqb_tells}
-use Rattle.std.specs.FinMap.{get}
-use Rattle.cell_value.specs.declared.values.Value.{Value}
-use Rattle.cell_value.specs.declared.entries.Touch.{Touch}
-use Rattle.cell_value.specs.declared.entries.Seen.{Seen}
-use Rattle.cell_value.specs.Effects.{heap_end, is_shared, seen_at, listed, shared, reads_of, changes_of}
-use Rattle.core_program.specs.ProgramRows.{ProgramRows}
-use Rattle.core_program.specs.WholeTables.{WholeTables}
-use Rattle.core_program.specs.State.{State, IsSound, most_depth}
-use Rattle.core_program.specs.Run.{End, Ended, Halted, Result, Call, way_out, result_in, record_of, recorded, call_of, run_of, depth_enough}
-use Rattle.core_program.proofs.RunAtAnyDepth.{call_deeper}
-use Rattle.core_program.specs.Agree.{Agrees, EndedByItself, Shows, deepest}
-use Rattle.core_program.proofs.OutcomesCompose.{none_some, some_same}
-use Rattle.core_program.specs.RunLaws.{StandsFor}
-use Rattle.core_program.proofs.Touches.{Serves, IsSeen, seen_serves}
-use Rattle.core_program.proofs.Cells.{shared_in_heap}
-use Rattle.core_program.proofs.Events.{unmarked}
-use Rattle.core_program.proofs.ActsLeave.{MayEnter}
-use Rattle.core_program.proofs.Ways.{of_call, RanCall, run_gives, gives_inside}
-use Rattle.core_program.proofs.Effects.{same_reads_of, same_changes_of, same_made, same_looked, same_taken, same_given, unshared, effect_is}
-use Rattle.core_program.proofs.ActsRepeat.{Agree}
-use Rattle.core_program.proofs.RunsLeave.{Inner, call_leaves}
-use Rattle.core_program.proofs.RunsRecord.{MadeBy}
+use Rattle.std.proofs.Common.{if◌then◌else◌, ◌+◌, ◌-◌, ◌<◌, ◌∙◌, ◌∷◌, ◌≡◌, ◌≤◌, ◌⊎◌, [], ℕ, All, Bool, List, None, Option, Some, ap, append-nil, arith, false}
+use Rattle.std.proofs.Common.{fold, inl, inr, length, map, max, refl, subst, suc, sym, take, true, zero}
+use Rattle.std.proofs.{Math.Nat.le-max_left, Math.Nat.le-max_right, lemmas.Bool.Decides.eqb_tells}
+use Rattle.std.specs.{FinMap.get, List.cons_option, List.filter_map, List.range_with_len, Option.option_map}
+use Rattle.cell_value.specs.Effects.{changes_of, heap_end, is_shared, listed, reads_of, seen_at, shared}
+use Rattle.cell_value.specs.declared.{entries.Seen.Seen, entries.Touch.Touch, values.Value.Value}
+use Rattle.core_program.proofs.{ActsLeave.MayEnter, ActsRepeat.Agree, Cells.shared_in_heap, Events.unmarked, OutcomesCompose.none_some}
+use Rattle.core_program.proofs.{OutcomesCompose.some_same, RunAtAnyDepth.call_deeper, RunsLeave.Inner, RunsLeave.call_leaves, RunsRecord.MadeBy, Touches.IsSeen}
+use Rattle.core_program.proofs.{Touches.Serves, Touches.seen_serves, Ways.RanCall, Ways.gives_inside, Ways.of_call, Ways.run_gives}
+use Rattle.core_program.proofs.Effects.{effect_is, same_changes_of, same_given, same_looked, same_made, same_reads_of, same_taken, unshared}
 use Rattle.core_program.proofs.RunsRepeat.{EndsByItself, Shallow, call_again}
+use Rattle.core_program.specs.{ProgramRows.ProgramRows, RunLaws.StandsFor, State.IsSound, State.State, State.most_depth, WholeTables.WholeTables}
+use Rattle.core_program.specs.Agree.{Agrees, EndedByItself, Shows, deepest}
+use Rattle.core_program.specs.Run.{Call, End, Ended, Halted, Result, call_of, depth_enough, record_of, recorded, result_in, run_of, way_out}
 
 -- ---- what was seen of a cell is in the list of what was seen
 

@@ -1,16 +1,12 @@
 -- The run of a program and of a call, at any depth that is enough.
-use Rattle.std.proofs.Common.{◌≡◌, ℕ, ◌+◌, ◌≤◌, true, false, List, Option, Some, None, IsSome, refl, sym, ap, subst, ◌∙◌, arith, is_some}
+use Rattle.std.proofs.Common.{◌+◌, ◌∙◌, ◌≡◌, ◌≤◌, ℕ, IsSome, List, None, Option, Some, ap, arith, false, is_some, refl, subst, sym, true}
 use Rattle.cell_value.specs.declared.values.Value.{Value}
-use Rattle.core_program.specs.declared.program.Routine.{Routine}
-use Rattle.core_program.specs.ProgramRows.{ProgramRows, routine_at}
-use Rattle.core_program.specs.WholeTables.{WholeTables}
-use Rattle.core_program.specs.State.{State}
-use Rattle.core_program.specs.Run.{Result, Call, Outcome, recorded, after_all, call_closed, in_frame, at_work, opened, call_of, run_of, run, block, start}
-use Rattle.core_program.specs.Run.{depth_enough}
-use Rattle.core_program.proofs.WholeParts.{Anything, Good}
+use Rattle.core_program.proofs.{OutcomesCompose.none_some, OutcomesCompose.some_same, WholeParts.Anything, WholeParts.Good}
+use Rattle.core_program.proofs.EachTreeEnds.{Ends, call_total, total}
 use Rattle.core_program.proofs.MoreDepthSameResult.{Less, call_less, more_fuel, same_result}
-use Rattle.core_program.proofs.EachTreeEnds.{Ends, total, call_total}
-use Rattle.core_program.proofs.OutcomesCompose.{none_some, some_same}
+use Rattle.core_program.specs.{Run.run_of, Run.start, State.State, WholeTables.WholeTables, declared.program.Routine.Routine}
+use Rattle.core_program.specs.ProgramRows.{ProgramRows, routine_at}
+use Rattle.core_program.specs.Run.{Call, Outcome, Result, after_all, at_work, block, call_closed, call_of, depth_enough, in_frame, opened, recorded, run}
 
 some_is : {A : Type 0} (x : Option A) (r : A) → x ≡ Some r → IsSome x
 some_is x r e = subst (λ y. IsSome y) (sym e) refl

@@ -1,31 +1,23 @@
 -- What each run leaves of a sound state, and that the state after it is sound.
-use Rattle.std.proofs.Common.{◌≡◌, ◌⊎◌, inl, inr, ℕ, suc, ◌+◌, ◌<◌, ◌≤◌, Bool, true, false, List, [], ◌++◌, None, refl, sym, ap, subst, ◌∙◌, length, is_some}
-use Rattle.std.proofs.Common.{nat_lt, nat_le, arith}
-use Rattle.std.specs.Prelude.{◌&&◌, ◌||◌}
-use Rattle.std.proofs.lemmas.Bool.Decides.{nat_tests}
-use Rattle.std.specs.FinMap.{get}
-use Rattle.cell_value.specs.declared.values.Value.{Value}
-use Rattle.cell_value.specs.declared.entries.Touch.{Touch}
-use Rattle.cell_value.specs.declared.ways_out.WayOut.TheVariants as way
-use Rattle.cell_value.specs.Effects.{is_shared, heap_start, heap_end}
-use Rattle.core_program.specs.ProgramRows.{ProgramRows}
-use Rattle.core_program.specs.State.{State, IsSound, stack_end}
-use Rattle.core_program.specs.Acts.{Trouble, Fault, OutOfSteps, Limited, Act, Answer, ActResult, perform, Spend}
-use Rattle.core_program.specs.Tree.{ActTree, way_of}
-use Rattle.core_program.specs.Run.{End, Ended, Halted, Marked, Result, Call, with_frame, without_frame, frame_cells, opened, call_closed}
-use Rattle.core_program.specs.Blocks.{filled, cleared}
-use Rattle.core_program.proofs.Touches.{written, Serves}
-use Rattle.core_program.proofs.Cells.{filled_below, filled_above, filled_there, frame_length, cleared_below, cleared_above, cleared_gone}
-use Rattle.core_program.proofs.Events.{events_length}
-use Rattle.core_program.proofs.ActsLeave.{Leaves, leaves_same, leaves_steps, leaves_then, DoneLeaves, act_leaves, MayEnter, limits_hold}
+use Rattle.std.proofs.Common.{◌&&◌, ◌++◌, ◌+◌, ◌<◌, ◌||◌, ◌∙◌, ◌≡◌, ◌≤◌, ◌⊎◌, [], ℕ, Bool, List, None, ap, arith, false, inl, inr, is_some, length, nat_le}
+use Rattle.std.proofs.Common.{nat_lt, refl, subst, suc, sym, true}
+use Rattle.std.{proofs.lemmas.Bool.Decides.nat_tests, specs.FinMap.get}
+use Rattle.cell_value.specs.Effects.{heap_end, heap_start, is_shared}
+use Rattle.cell_value.specs.declared.{entries.Touch.Touch, values.Value.Value, ways_out.WayOut.WayOut}
+use Rattle.core_program.proofs.{Events.events_length, Touches.Serves, Touches.written}
+use Rattle.core_program.proofs.ActsLeave.{DoneLeaves, Leaves, MayEnter, act_leaves, leaves_same, leaves_steps, leaves_then, limits_hold}
+use Rattle.core_program.proofs.Cells.{cleared_above, cleared_below, cleared_gone, filled_above, filled_below, filled_there, frame_length}
+use Rattle.core_program.proofs.Ways.{Ran, RanCall, RanFrame, ending, front, of_call}
 use Rattle.core_program.proofs.Ways as ways
-use Rattle.core_program.proofs.Ways.{front, ending, of_call, Ran, RanFrame, RanCall}
+use Rattle.core_program.specs.{Blocks.cleared, Blocks.filled, ProgramRows.ProgramRows, State.IsSound, State.State, State.stack_end, Tree.ActTree, Tree.way_of}
+use Rattle.core_program.specs.Acts.{Act, ActResult, Answer, Fault, Limited, OutOfSteps, Spend, Trouble, perform}
+use Rattle.core_program.specs.Run.{Call, End, Ended, Halted, Marked, Result, call_closed, frame_cells, opened, with_frame, without_frame}
 
 -- an end of a part by which the run goes on, or by which it stops
 abbrev pub IsProper : End → Type 0
 IsProper (Ended out) = Unit {0}
-IsProper (Halted way.Returned) = ⊥
-IsProper (Halted (way.Jumped label base)) = ⊥
+IsProper (Halted WayOut.Returned) = ⊥
+IsProper (Halted (WayOut.Jumped label base)) = ⊥
 IsProper (Halted way) = Unit {0}
 
 pub proper_stop : (line : ℕ) (why : Trouble) → IsProper (Halted (way_of line why))

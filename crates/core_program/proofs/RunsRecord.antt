@@ -1,20 +1,12 @@
 -- Each record of a run is that of a call from a sound state, and the records of the calls below it follow it.
-use Rattle.std.proofs.Common.{◌≡◌, ℕ, ◌≤◌, List, [], ◌∷◌, ◌++◌, refl, sym, ap, subst, ◌∙◌, length, take, arith, length-append}
-use Rattle.std.proofs.lemmas.List.{take-append-le, length-map}
-use Rattle.std.proofs.Math.Seq.{take-length}
-use Rattle.std.proofs.lemmas.Bool.Decides.{nat_tests}
-use Rattle.cell_value.specs.declared.values.Value.{Value}
-use Rattle.cell_value.specs.declared.entries.Touch.{Touch}
-use Rattle.core_program.specs.ProgramRows.{ProgramRows}
-use Rattle.core_program.specs.Acts.{Spend}
-use Rattle.core_program.specs.State.{State, IsSound}
-use Rattle.core_program.specs.Tree.{ActTree}
-use Rattle.core_program.specs.Run.{Marked, Result, Call, record_of}
-use Rattle.core_program.proofs.Events.{unmarked, events_append}
-use Rattle.core_program.proofs.ActsLeave.{MayEnter, limits_hold}
+use Rattle.std.proofs.Common.{◌++◌, ◌∙◌, ◌∷◌, ◌≡◌, ◌≤◌, [], ℕ, List, ap, arith, length, length-append, refl, subst, sym, take}
+use Rattle.std.proofs.{Math.Seq.take-length, lemmas.Bool.Decides.nat_tests, lemmas.List.length-map, lemmas.List.take-append-le}
+use Rattle.cell_value.specs.declared.{entries.Touch.Touch, values.Value.Value}
+use Rattle.core_program.proofs.{ActsLeave.MayEnter, ActsLeave.limits_hold, Events.events_append, Events.unmarked}
+use Rattle.core_program.proofs.RunsLeave.{act_left, call_leaves, ran_leaves, sound_framed, sound_opened}
+use Rattle.core_program.proofs.Ways.{Ran, RanCall, RanFrame, front, of_call}
 use Rattle.core_program.proofs.Ways as ways
-use Rattle.core_program.proofs.Ways.{front, of_call, Ran, RanFrame, RanCall}
-use Rattle.core_program.proofs.RunsLeave.{act_left, sound_framed, sound_opened, ran_leaves, call_leaves}
+use Rattle.core_program.specs.{Acts.Spend, ProgramRows.ProgramRows, Run.Call, Run.Marked, Run.Result, Run.record_of, State.IsSound, State.State, Tree.ActTree}
 
 -- the record is that of a call, and the records of the calls below it come first of these
 pub record MadeBy (p : ProgramRows) (c : Call) (cs : List Call) : Type 0 where

@@ -1,35 +1,23 @@
 -- Two states that agree on what a run's touches show of the first give the same run.
-use Rattle.std.proofs.Common.{◌≡◌, inl, inr, ℕ, zero, suc, ◌+◌, ◌≤◌, Bool, false, List, [], ◌∷◌, ◌++◌, Option, Some, refl, sym, ap, subst, ◌∙◌, append_assoc}
-use Rattle.std.proofs.Common.{length, nat_lt, if◌then◌else◌, arith}
-use Rattle.std.proofs.lemmas.Bool.Decides.{eqb_tells, nat_tests}
-use Rattle.std.specs.FinMap.{insert, remove}
-use Rattle.cell_value.specs.declared.values.Value.{Value}
-use Rattle.cell_value.specs.declared.entries.Touch.{Touch}
-use Rattle.cell_value.specs.declared.ways_out.WayOut.{WayOut}
-use Rattle.cell_value.specs.declared.ways_out.WayOut.TheVariants as way
+use Rattle.std.proofs.Common.{if◌then◌else◌, ◌++◌, ◌+◌, ◌∙◌, ◌∷◌, ◌≡◌, ◌≤◌, [], ℕ, Bool, List, Option, Some, ap, append_assoc, arith, false, inl, inr, length}
+use Rattle.std.proofs.Common.{nat_lt, refl, subst, suc, sym, zero}
+use Rattle.std.{proofs.lemmas.Bool.Decides.eqb_tells, proofs.lemmas.Bool.Decides.nat_tests, specs.FinMap.insert, specs.FinMap.remove}
+use Rattle.cell_value.specs.declared.{entries.Touch.Touch, values.Value.Value, ways_out.WayOut.WayOut, ways_out.Which.Which, ways_out.Which.TheVariants.Stack}
 use Rattle.cell_value.specs.declared.ways_out.Kind.TheVariants as kind
-use Rattle.cell_value.specs.declared.ways_out.Which.{Which}
-use Rattle.cell_value.specs.declared.ways_out.Which.TheVariants.{Stack}
-use Rattle.core_program.specs.declared.program.Routine.{Routine}
-use Rattle.core_program.specs.ProgramRows.{ProgramRows, routine_at}
-use Rattle.core_program.specs.State.{State, IsSound, stack_end, most_calls, most_depth}
-use Rattle.core_program.specs.Acts.{Trouble, Fault, OutOfSteps, Limited, perform, spent, Spend}
-use Rattle.core_program.specs.Tree.{Out, ActTree, way_of}
-use Rattle.core_program.specs.Agree.{EndedByItself}
-use Rattle.core_program.specs.Run.{End, Ended, Halted, Marked, Result, in_front, ends, on_end, joined, on_done, if_allowed, Call, Outcome, recorded}
-use Rattle.core_program.specs.Run.{after_all, in_frame, at_work, call_of, plain, run_of, whole, with_frame, without_frame, frame_cells}
-use Rattle.core_program.specs.Blocks.{filled, cleared}
-use Rattle.core_program.specs.Run.{opened}
-use Rattle.core_program.specs.Run.{call_closed}
-use Rattle.core_program.proofs.Touches.{Serves}
-use Rattle.core_program.proofs.Cells.{Map, got_same, got_other, removed_same, removed_other}
-use Rattle.core_program.proofs.Events.{unmarked, events_append, events_length}
-use Rattle.core_program.proofs.ActsLeave.{Leaves, leaves_same, MayEnter, limits_hold}
+use Rattle.cell_value.specs.declared.ways_out.WayOut.TheVariants as way
+use Rattle.core_program.proofs.{Effects.SameLog, Effects.same_append, Events.events_append, Events.events_length, Events.unmarked, Touches.Serves}
+use Rattle.core_program.proofs.ActsLeave.{Leaves, MayEnter, leaves_same, limits_hold}
+use Rattle.core_program.proofs.ActsRepeat.{Agree, DoneAgain, InStep, IsFault, SameCells, act_again, limit_none, step_same}
+use Rattle.core_program.proofs.Cells.{Map, got_other, got_same, removed_other, removed_same}
+use Rattle.core_program.proofs.RunsLeave.{act_left, call_leaves, ran_leaves, sound_framed, sound_opened}
+use Rattle.core_program.proofs.Ways.{Ran, RanCall, RanFrame, ending, front, inside, of_call}
 use Rattle.core_program.proofs.Ways as ways
-use Rattle.core_program.proofs.Ways.{front, ending, of_call, inside, Ran, RanFrame, RanCall}
-use Rattle.core_program.proofs.Effects.{SameLog, same_append}
-use Rattle.core_program.proofs.ActsRepeat.{SameCells, Agree, InStep, step_same, IsFault, DoneAgain, act_again, limit_none}
-use Rattle.core_program.proofs.RunsLeave.{act_left, sound_framed, sound_opened, ran_leaves, call_leaves}
+use Rattle.core_program.specs.{Agree.EndedByItself, Blocks.cleared, Blocks.filled, Tree.ActTree, Tree.Out, Tree.way_of, declared.program.Routine.Routine}
+use Rattle.core_program.specs.Acts.{Fault, Limited, OutOfSteps, Spend, Trouble, perform, spent}
+use Rattle.core_program.specs.ProgramRows.{ProgramRows, routine_at}
+use Rattle.core_program.specs.Run.{Call, End, Ended, Halted, Marked, Outcome, Result, after_all, at_work, call_closed, call_of, ends, frame_cells, if_allowed}
+use Rattle.core_program.specs.Run.{in_frame, in_front, joined, on_done, on_end, opened, plain, recorded, run_of, whole, with_frame, without_frame}
+use Rattle.core_program.specs.State.{IsSound, State, most_calls, most_depth, stack_end}
 
 -- an end that a record may stand for
 abbrev pub EndsByItself : End → Type 0

@@ -1,17 +1,13 @@
 -- What touches leave a cell with, and what they show of it as it was.
-use Rattle.std.proofs.Common.{◌≡◌, ◌⊎◌, inl, inr, ℕ, suc, ◌+◌, Bool, true, false, cond, not, List, [], ◌∷◌, ◌++◌, Option, Some, None, refl, sym, ap, subst}
-use Rattle.std.proofs.Common.{◌∙◌, is_some, take, nat_eq, if◌then◌else◌, arith}
-use Rattle.std.proofs.lemmas.Bool.Decides.{nat_tests}
-use Rattle.std.specs.List.{before_first, filter_map, cons_option, position_or_len}
-use Rattle.cell_value.specs.declared.values.Value.{Value}
-use Rattle.cell_value.specs.declared.entries.Touch.{Touch}
+use Rattle.std.proofs.Common.{if◌then◌else◌, ◌++◌, ◌+◌, ◌∙◌, ◌∷◌, ◌≡◌, ◌⊎◌, [], ℕ, Bool, List, None, Option, Some, ap, arith, cond, false, inl, inr, is_some}
+use Rattle.std.proofs.Common.{nat_eq, not, refl, subst, suc, sym, take, true}
+use Rattle.std.{proofs.lemmas.Bool.Decides.nat_tests, specs.List.before_first, specs.List.cons_option, specs.List.filter_map, specs.List.position_or_len}
+use Rattle.cell_value.specs.Effects.{asked_by, change_at, change_by, head_of, last_of, read_by, seen_at, seen_by}
+use Rattle.cell_value.specs.declared.entries.{Change.Change, Change.TheVariants.Gone, Change.TheVariants.Set, Seen.Seen, Touch.Touch}
 use Rattle.cell_value.specs.declared.entries.Touch.TheVariants as touch
-use Rattle.cell_value.specs.declared.entries.Seen.{Seen}
-use Rattle.cell_value.specs.declared.entries.Change.{Change}
-use Rattle.cell_value.specs.declared.entries.Change.TheVariants.{Set, Gone}
-use Rattle.cell_value.specs.Effects.{change_by, change_at, last_of, head_of, read_by, asked_by, seen_by, seen_at}
-use Rattle.core_program.specs.Agree.{Shows}
+use Rattle.cell_value.specs.declared.values.Value.{Value}
 use Rattle.core_program.proofs.OutcomesCompose.{none_some, some_same}
+use Rattle.core_program.specs.Agree.{Shows}
 
 -- ---- what touches leave a cell with
 

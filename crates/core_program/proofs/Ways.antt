@@ -1,24 +1,15 @@
 -- How the result of a run came about: a way for each node of a tree, with the ways of its parts and calls.
-use Rattle.std.proofs.Common.{◌≡◌, ℕ, zero, suc, ◌+◌, ◌≤◌, Bool, true, false, List, [], ◌∷◌, ◌++◌, Option, Some, None, refl, ap, subst, length}
-use Rattle.std.proofs.Common.{nat_lt, if◌then◌else◌}
-use Rattle.cell_value.specs.declared.values.Value.{Value}
-use Rattle.cell_value.specs.declared.entries.Touch.{Touch}
-use Rattle.cell_value.specs.declared.ways_out.WayOut.{WayOut}
+use Rattle.std.proofs.Common.{if◌then◌else◌, ◌++◌, ◌+◌, ◌∷◌, ◌≡◌, ◌≤◌, [], ℕ, Bool, List, None, Option, Some, ap, false, length, nat_lt, refl, subst, suc, true}
+use Rattle.std.proofs.Common.{zero}
+use Rattle.cell_value.specs.declared.{entries.Touch.Touch, values.Value.Value, ways_out.WayOut.WayOut, ways_out.Which.Which, ways_out.Which.TheVariants.Stack}
 use Rattle.cell_value.specs.declared.ways_out.WayOut.TheVariants as way
-use Rattle.cell_value.specs.declared.ways_out.Which.{Which}
-use Rattle.cell_value.specs.declared.ways_out.Which.TheVariants.{Stack}
-use Rattle.core_program.specs.declared.program.Routine.{Routine}
+use Rattle.core_program.proofs.{OutcomesCompose.none_some, OutcomesCompose.some_same, RunAtAnyDepth.call_deeper}
+use Rattle.core_program.specs.{Layer.layer, Run.without_frame, State.State, State.stack_end, WholeTables.WholeTables, declared.program.Routine.Routine}
+use Rattle.core_program.specs.Acts.{Act, ActResult, Answer, Limited, OutOfSteps, Spend, Stops, Trouble, Went, limit_passed, perform, spent}
 use Rattle.core_program.specs.ProgramRows.{ProgramRows, routine_at}
-use Rattle.core_program.specs.WholeTables.{WholeTables}
-use Rattle.core_program.specs.State.{State, stack_end}
-use Rattle.core_program.specs.Acts.{Trouble, OutOfSteps, Limited, Act, Answer, ActResult, Went, Stops, perform, spent, limit_passed, Spend}
-use Rattle.core_program.specs.Tree.{Out, Part, ActTree, Ret, Halt, Meaningless, Do, Sub, Enter, Line, way_of}
-use Rattle.core_program.specs.Layer.{layer}
-use Rattle.core_program.specs.Run.{End, Ended, Halted, Marked, Result, later_by, in_front, ends, on_end, joined, on_done, if_allowed, Call, Outcome}
-use Rattle.core_program.specs.Run.{record_of, recorded, after_all, in_frame, at_work, call_of, plain, run_of, depth_enough, whole, with_frame, without_frame}
-use Rattle.core_program.specs.Run.{opened, call_closed}
-use Rattle.core_program.proofs.RunAtAnyDepth.{call_deeper}
-use Rattle.core_program.proofs.OutcomesCompose.{none_some, some_same}
+use Rattle.core_program.specs.Run.{Call, End, Ended, Halted, Marked, Outcome, Result, after_all, at_work, call_closed, call_of, depth_enough, ends, if_allowed}
+use Rattle.core_program.specs.Run.{in_frame, in_front, joined, later_by, on_done, on_end, opened, plain, record_of, recorded, run_of, whole, with_frame}
+use Rattle.core_program.specs.Tree.{ActTree, Do, Enter, Halt, Line, Meaningless, Out, Part, Ret, Sub, way_of}
 
 -- a result with touches and events before it
 abbrev pub front : {S E : Type 0} → List Touch → List (Marked E) → Result S E → Result S E

@@ -1,39 +1,25 @@
 -- Where tables are whole, the actions that look up rows are meant.
-use Rattle.std.proofs.Common.{◌≡◌, ◌⊎◌, inl, inr, ℕ, zero, suc, ◌+◌, ◌<◌, ◌≤◌, ℤ, Bool, true, false, List, [], ◌∷◌, ◌++◌, Option, Some, None, refl}
-use Rattle.std.proofs.Common.{sym, ap, subst, ◌∙◌, length, nat_lt, if◌then◌else◌, slice_get, unwrap_or, arith, is_some}
-use Rattle.std.specs.Prelude.{◌&&◌, ◌||◌, replicate}
-use Rattle.std.proofs.lemmas.Bool.Decides.{nat_tests}
-use Rattle.std.specs.Ordering.{int_eq}
+use Rattle.std.proofs.Common.{if◌then◌else◌, ◌&&◌, ◌++◌, ◌+◌, ◌<◌, ◌||◌, ◌∙◌, ◌∷◌, ◌≡◌, ◌≤◌, ◌⊎◌, [], ℕ, ℤ, Bool, List, None, Option, Some, ap, arith, false}
+use Rattle.std.proofs.Common.{inl, inr, is_some, length, nat_lt, refl, replicate, slice_get, subst, suc, sym, true, unwrap_or, zero}
+use Rattle.std.{proofs.lemmas.Bool.Decides.nat_tests, specs.Ordering.int_eq}
 use Rattle.cell_value.specs.declared.values.Value.{Value}
-use Rattle.cell_value.specs.declared.values.Value.TheVariants as value
-use Rattle.core_program.specs.declared.rows.Row.{Row}
-use Rattle.core_program.specs.declared.rows.Row.TheVariants as rows
-use Rattle.core_program.specs.declared.rows.TypeRow.{TypeRow}
-use Rattle.core_program.specs.declared.rows.TypeRow.TheVariants as kind
-use Rattle.core_program.specs.declared.rows.NameRow.TheVariants as named
+use Rattle.core_program.proofs.ActionsMeant.{IsMeant, Meant, fault_meant, if_meant, next, no, read_meant, write_meant, writes_meant}
+use Rattle.core_program.proofs.WholeParts.{listed, or_second}
+use Rattle.core_program.specs.{Cells.assign, Cells.read_value, Cells.write, Cells.writes, ProgramRows.ProgramRows, ProgramRows.row_at, ProgramRows.type_at}
+use Rattle.core_program.specs.{ProgramRows.type_in, State.moved, Values.as_tested, Values.set_test, Values.tested, declared.variants.VariantPart.VariantPart}
+use Rattle.core_program.specs.Actions.{◌>>=◌, Action, Fail, Give, NoMeaning, Perform}
+use Rattle.core_program.specs.Choices.{Sought, along, choice_of, choose_at, on_to}
+use Rattle.core_program.specs.Variants.{activate, all_entered, answered, assign_tag, assign_to, at_position, changes, chosen, field_at, field_held, field_in}
+use Rattle.core_program.specs.Variants.{is_at, on_variant, or_activated, part_in, position_at, position_in, tag_accessed, tag_before, tag_of, undefine_cells}
+use Rattle.core_program.specs.Variants.{undefine_if, variant_at, variant_entered, variant_in}
+use Rattle.core_program.specs.WholeTables.{Goes, RowFits, WholeTables, is_access_to, is_choice_of, is_element_of, is_end, is_field_row, is_holder_row, is_list}
+use Rattle.core_program.specs.WholeTables.{is_ordinal_type, is_simple_type, is_statement, is_variant, is_variant_row, is_variants_row}
+use Rattle.core_program.specs.declared.rows.{AccessRow.AccessRow, ItemRow.ItemRow, NameRow.NameRow, Row.Row, TypeRow.TypeRow}
 use Rattle.core_program.specs.declared.rows.PartRow.TheVariants as part
-use Rattle.core_program.specs.declared.rows.ItemRow.TheVariants as item
-use Rattle.core_program.specs.declared.rows.AccessRow.TheVariants as access
-use Rattle.core_program.specs.ProgramRows.{ProgramRows, row_at, type_in, type_at}
-use Rattle.core_program.specs.WholeTables.{WholeTables, RowFits, Goes, is_end, is_list, is_element_of, is_choice_of, is_statement, is_variant, is_variant_row}
-use Rattle.core_program.specs.WholeTables.{is_variants_row, is_holder_row, is_field_row, is_access_to, is_ordinal_type, is_simple_type}
-use Rattle.core_program.specs.declared.variants.VariantPart.{VariantPart}
-use Rattle.core_program.specs.State.{moved}
-use Rattle.core_program.specs.Actions.{Action, Give, Fail, NoMeaning, Perform, ◌>>=◌}
-use Rattle.core_program.specs.Values.{as_tested, set_test, tested}
-use Rattle.core_program.specs.Choices.{Sought, along, on_to, choose_at, choice_of}
-use Rattle.core_program.specs.Cells.{read_value, write, writes, assign}
-use Rattle.core_program.specs.Variants.{part_in, at_position, variant_in, variant_at, position_in, position_at, chosen, answered, undefine_if, activate}
-use Rattle.core_program.specs.Variants.{is_at}
-use Rattle.core_program.specs.Variants.{changes, on_variant, or_activated, variant_entered, all_entered, field_in, field_held, field_at, tag_before, tag_of}
-use Rattle.core_program.specs.Variants.{tag_accessed}
-use Rattle.core_program.specs.Variants.{assign_tag, assign_to, undefine_cells}
-use Rattle.core_program.proofs.ActionsMeant.{no, Meant, IsMeant, next, if_meant, read_meant, write_meant, writes_meant, fault_meant}
-use Rattle.core_program.proofs.WholeParts.{or_second, listed}
 
 -- ---- rows that are there
 
-pub below_length : (rs : List Row) (n : ℕ) → (unwrap_or (slice_get rs n) rows.Nothing ≡ rows.Nothing) ⊎ (n < length rs)
+pub below_length : (rs : List Row) (n : ℕ) → (unwrap_or (slice_get rs n) Row.Nothing ≡ Row.Nothing) ⊎ (n < length rs)
 below_length [] n = inl refl
 below_length (r ∷ rs) zero = inr (omega arith)
 below_length (r ∷ rs) (suc n) = elim (below_length rs n) [ inl e ↦ inl e | inr h ↦ inr (omega (arith, h)) ]
@@ -50,7 +36,7 @@ found_if P true x y h k = h refl
 found_if P false x y h k = k refl
 
 module _ (p : ProgramRows) where
-  pub there : (test : Row → Bool) (at : ℕ) → test rows.Nothing ≡ false → test (row_at p at) ≡ true → at < length p.rows
+  pub there : (test : Row → Bool) (at : ℕ) → test Row.Nothing ≡ false → test (row_at p at) ≡ true → at < length p.rows
   there test at e h = elim (below_length p.rows at) [ inl q ↦ no (sym e ∙ sym (ap test q) ∙ h) | inr l ↦ l ]
 
   -- where a list goes on, it does so after this item
@@ -72,7 +58,7 @@ module _ (p : ProgramRows) where
   abbrev Choices : ℤ → ℕ → (ℕ → Sought) → Sought
   Choices i at go = choose_at (row_at p at) at i go
 
-  choice_step : (P : ℕ → Bool) (n at : ℕ) (i : ℤ) → ((v : ℤ) (c nx : ℕ) → row_at p at ≡ rows.Item (item.Choice v c nx) → P c ≡ true
+  choice_step : (P : ℕ → Bool) (n at : ℕ) (i : ℤ) → ((v : ℤ) (c nx : ℕ) → row_at p at ≡ Row.Item (ItemRow.Choice v c nx) → P c ≡ true
       → Goes (is_choice_of P) p at nx)
       → is_choice_of P (row_at p at) ≡ true → length p.rows < suc n + at
       → ((nx : ℕ) → is_choice_of P (row_at p nx) ≡ true → length p.rows < n + nx → Found (λ c. P c ≡ true) (along (Choices i) n nx))
@@ -80,13 +66,13 @@ module _ (p : ProgramRows) where
   choice_step P n at i G h f k = looked (row_at p at) refl h
     where
       looked : (r : Row) → row_at p at ≡ r → is_choice_of P r ≡ true → Found (λ c. P c ≡ true) (choose_at r at i (along (Choices i) n))
-      looked (rows.Item (item.Choice v c nx)) q hc =
+      looked (Row.Item (ItemRow.Choice v c nx)) q hc =
           let g = G v c nx q hc in
           found_if (λ c. P c ≡ true) (int_eq v i) (Some (Some c)) _ (λ _. hc)
           (λ _. found_on (λ c. P c ≡ true) at nx (along (Choices i) n) g.1 (λ e l. k nx (listed (is_choice_of P) p nx e g.0) (omega (arith, f, l))))
       looked r q hc = no hc
 
-  choice_along : (P : ℕ → Bool) → ((at : ℕ) (v : ℤ) (c nx : ℕ) → row_at p at ≡ rows.Item (item.Choice v c nx) → P c ≡ true → Goes (is_choice_of P) p at nx)
+  choice_along : (P : ℕ → Bool) → ((at : ℕ) (v : ℤ) (c nx : ℕ) → row_at p at ≡ Row.Item (ItemRow.Choice v c nx) → P c ≡ true → Goes (is_choice_of P) p at nx)
       → (n at : ℕ) (i : ℤ) → is_choice_of P (row_at p at) ≡ true → length p.rows < n + at → Found (λ c. P c ≡ true) (along (Choices i) n at)
   choice_along P G zero at i h f = absurd (let l = there (is_choice_of P) at refl h in omega (arith, f, l))
   choice_along P G (suc n) at i h f = choice_step P n at i (G at) h f (λ nx l g. choice_along P G n nx i l g)
@@ -97,22 +83,22 @@ module _ (p : ProgramRows) where
 
     arm_found : (at : ℕ) (i : ℤ) → is_list (is_choice_of (is_variant p)) p at ≡ true → Found (λ v. is_variant p v ≡ true) (choice_of p (length p.rows) at i)
     arm_found at i h = found_if (λ v. is_variant p v ≡ true) (is_end at) (Some None) _ (λ _. tt) (λ e.
-        choice_along (is_variant p) (λ at v c nx e s. (fits at (rows.Item (item.Choice v c nx)) e).1 s) (length p.rows) at i
+        choice_along (is_variant p) (λ at v c nx e s. (fits at (Row.Item (ItemRow.Choice v c nx)) e).1 s) (length p.rows) at i
         (listed (is_choice_of (is_variant p)) p at e h) (enough_items at e))
 
     -- ---- tests of values
 
     set_tested_meant : (t : Option TypeRow) (v : Value) → is_ordinal_type t ≡ true → IsMeant (as_tested (set_test t v))
-    set_tested_meant (Some (kind.Ordinal least greatest)) v h = fault_meant _
-    set_tested_meant (Some (kind.Subrange host least greatest)) v h = fault_meant _
+    set_tested_meant (Some (TypeRow.Ordinal least greatest)) v h = fault_meant _
+    set_tested_meant (Some (TypeRow.Subrange host least greatest)) v h = fault_meant _
     set_tested_meant t v h = no h
 
     tested_row : (n : ℕ) (r : Row) (v : Value) → RowFits p n r → is_simple_type (type_in r) ≡ true → IsMeant (tested p (type_in r) v)
-    tested_row n (rows.Type (kind.Ordinal least greatest)) v f h = fault_meant _
-    tested_row n (rows.Type (kind.Subrange host least greatest)) v f h = fault_meant _
-    tested_row n (rows.Type (kind.Set packed base)) v f h = set_tested_meant (type_at p base) v f
-    tested_row n (rows.Type (kind.Pointer domain)) v f h = tt
-    tested_row n (rows.Type t) v f h = no h
+    tested_row n (Row.Type (TypeRow.Ordinal least greatest)) v f h = fault_meant _
+    tested_row n (Row.Type (TypeRow.Subrange host least greatest)) v f h = fault_meant _
+    tested_row n (Row.Type (TypeRow.Set packed base)) v f h = set_tested_meant (type_at p base) v f
+    tested_row n (Row.Type (TypeRow.Pointer domain)) v f h = tt
+    tested_row n (Row.Type t) v f h = no h
     tested_row n r v f h = no h
 
     pub tested_meant : (t : ℕ) (v : Value) → is_simple_type (type_at p t) ≡ true → IsMeant (tested p (type_at p t) v)
@@ -124,7 +110,7 @@ module _ (p : ProgramRows) where
     PartOk part = is_list (is_choice_of (is_variant p)) p part.values ≡ true
 
     position_row : (r : Row) → is_variant_row r ≡ true → is_some (position_in r) ≡ true
-    position_row (rows.Part (part.Variant variants position)) h = refl
+    position_row (Row.Part (part.Variant variants position)) h = refl
     position_row r h = no h
 
     position_there : (s : Sought) → Found (λ v. is_variant p v ≡ true) s → is_some (position_at p s) ≡ true
@@ -133,7 +119,7 @@ module _ (p : ProgramRows) where
     position_there (Some (Some v)) h = position_row (row_at p v) h
 
     chosen_there : (part : VariantPart) (v : Value) → PartOk part → is_some (chosen p part v) ≡ true
-    chosen_there part (value.Number i) h = by part.hidden
+    chosen_there part (Value.Number i) h = by part.hidden
       where
         by : (b : Bool) → is_some (if b then Some (Some i) else position_at p (choice_of p (length p.rows) part.values i)) ≡ true
         by true = refl
@@ -145,7 +131,7 @@ module _ (p : ProgramRows) where
     answered_meant (Some x) go h k = k x
 
     undefine_meant : (b : Bool) (addr cells : ℕ) → IsMeant (undefine_if b addr cells)
-    undefine_meant true addr cells = writes_meant addr (replicate cells value.Undefined)
+    undefine_meant true addr cells = writes_meant addr (replicate cells Value.Undefined)
     undefine_meant false addr cells = tt
 
     activate_meant : (part : VariantPart) (addr : ℕ) (tag : Value) → PartOk part → IsMeant (activate p part addr tag)
@@ -167,7 +153,7 @@ module _ (p : ProgramRows) where
         → ((h : ℕ) → h < holder → is_holder_row (row_at p h) ≡ true → IsMeant (all_entered p target addr n h))
         → IsMeant (on_variant (at_position (part_in q) position) (λ part position. if nat_lt part.holder holder
         then (all_entered p target addr n part.holder >>= λ _. variant_entered p target addr part position) else NoMeaning))
-    part_meant target addr n holder variants position (rows.Part (part.Variants hidden offset cells values outer)) f h l k = by (nat_lt outer holder) refl
+    part_meant target addr n holder variants position (Row.Part (part.Variants hidden offset cells values outer)) f h l k = by (nat_lt outer holder) refl
       where
         there_is : VariantPart
         there_is = record { hidden = hidden; offset = offset; cells = cells; values = values; holder = outer }
@@ -185,10 +171,10 @@ module _ (p : ProgramRows) where
         → ((h : ℕ) → h < holder → is_holder_row (row_at p h) ≡ true → IsMeant (all_entered p target addr n h))
         → IsMeant (on_variant (variant_in p r) (λ part position. if nat_lt part.holder holder
         then (all_entered p target addr n part.holder >>= λ _. variant_entered p target addr part position) else NoMeaning))
-    entered_row target addr n holder (rows.Part (part.Variant variants position)) f h k =
+    entered_row target addr n holder (Row.Part (part.Variant variants position)) f h k =
         part_meant target addr n holder variants position (row_at p variants) (W.rows variants) f.0 (let e = f.1 in grind (arith, nat_tests)) k
-    entered_row target addr n holder (rows.Type (kind.Record packed region cells variants)) f h k = tt
-    entered_row target addr n holder (rows.Type t) f h k = no h
+    entered_row target addr n holder (Row.Type (TypeRow.Record packed region cells variants)) f h k = tt
+    entered_row target addr n holder (Row.Type t) f h k = no h
     entered_row target addr n holder r f h k = no h
 
     entered_meant : (target : Bool) (addr n holder : ℕ) → holder < n → is_holder_row (row_at p holder) ≡ true → IsMeant (all_entered p target addr n holder)
@@ -197,9 +183,9 @@ module _ (p : ProgramRows) where
         (λ outer m e. entered_meant target addr n outer (omega (arith, l, m)) e)
 
     field_row : (target : Bool) (addr n : ℕ) (r : Row) → RowFits p n r → is_field_row r ≡ true → IsMeant (field_at p target addr r)
-    field_row target addr n (rows.Name (named.Field of' offset holder)) f h =
+    field_row target addr n (Row.Name (NameRow.Field of' offset holder)) f h =
         next (all_entered p target addr (holder + 1) holder) _ (entered_meant target addr (holder + 1) holder (omega arith) f.1) (λ _. tt)
-    field_row target addr n (rows.Name (named.Tag of' offset holder variants)) f h =
+    field_row target addr n (Row.Name (NameRow.Tag of' offset holder variants)) f h =
         next (all_entered p target addr (holder + 1) holder) _ (entered_meant target addr (holder + 1) holder (omega arith) f.1) (λ _. tt)
     field_row target addr n r f h = no h
 
@@ -214,18 +200,18 @@ module _ (p : ProgramRows) where
     TagOk (Some (Some part)) = PartOk part
 
     tag_part : (n : ℕ) (q : Row) → RowFits p n q → is_variants_row q ≡ true → TagOk (tag_before (part_in q))
-    tag_part n (rows.Part (part.Variants hidden offset cells values holder)) f h = f.0
+    tag_part n (Row.Part (part.Variants hidden offset cells values holder)) f h = f.0
     tag_part n q f h = no h
 
     tag_row : (n : ℕ) (r : Row) → RowFits p n r → is_field_row r ≡ true → TagOk (tag_of p r)
-    tag_row n (rows.Name (named.Field of' offset holder)) f h = tt
-    tag_row n (rows.Name (named.Tag of' offset holder variants)) f h = tag_part variants (row_at p variants) (W.rows variants) f.2
+    tag_row n (Row.Name (NameRow.Field of' offset holder)) f h = tt
+    tag_row n (Row.Name (NameRow.Tag of' offset holder variants)) f h = tag_part variants (row_at p variants) (W.rows variants) f.2
     tag_row n r f h = no h
 
     target_row : (n : ℕ) (r : Row) → RowFits p n r → is_access_to is_some p r ≡ true → TagOk (tag_accessed p r)
-    target_row n (rows.Access (access.Within record' field of')) f h = tag_row field (row_at p field) (W.rows field) f.0
-    target_row n (rows.Access (access.Field inner field of')) f h = tag_row field (row_at p field) (W.rows field) f.2
-    target_row n (rows.Access a) f h = tt
+    target_row n (Row.Access (AccessRow.Within record' field of')) f h = tag_row field (row_at p field) (W.rows field) f.0
+    target_row n (Row.Access (AccessRow.Field inner field of')) f h = tag_row field (row_at p field) (W.rows field) f.2
+    target_row n (Row.Access a) f h = tt
     target_row n r f h = no h
 
     pub target_ok : (n : ℕ) → is_access_to is_some p (row_at p n) ≡ true → TagOk (tag_accessed p (row_at p n))

@@ -1,48 +1,28 @@
 -- Where tables are whole each part does only what is meant, and ends as its place takes it.
-use Rattle.std.proofs.Common.{◌≡◌, ◌⊎◌, inl, inr, ℕ, zero, suc, ◌+◌, ◌<◌, ◌≤◌, ◌==◌, ℤ, Bool, true, false, List, [], ◌∷◌, ◌++◌, Option, Some, None, refl}
-use Rattle.std.proofs.Common.{sym, ap, subst, ◌∙◌, length, nat_lt, if◌then◌else◌, slice_get, unwrap_or, arith, is_some}
-use Rattle.std.specs.Prelude.{◌&&◌, ◌||◌, Result}
-use Rattle.std.proofs.lemmas.Bool.Decides.{nat_tests}
-use Rattle.std.specs.Ordering.{int_eq}
-use Rattle.cell_value.specs.declared.faults.OpFault.{OpFault}
-use Rattle.cell_value.specs.declared.values.Value.{Value}
+use Rattle.std.proofs.Common.{if◌then◌else◌, ◌&&◌, ◌++◌, ◌+◌, ◌<◌, ◌==◌, ◌||◌, ◌∙◌, ◌∷◌, ◌≡◌, ◌≤◌, ◌⊎◌, [], ℕ, ℤ, Bool, List, None, Option, Result, Some, ap}
+use Rattle.std.proofs.Common.{arith, false, inl, inr, is_some, length, nat_lt, refl, slice_get, subst, suc, sym, true, unwrap_or, zero}
+use Rattle.std.{proofs.lemmas.Bool.Decides.nat_tests, specs.Ordering.int_eq}
+use Rattle.cell_value.specs.declared.{faults.OpFault.OpFault, values.Value.Value}
 use Rattle.cell_value.specs.declared.values.Value.TheVariants as value
-use Rattle.core_program.specs.declared.program.Routine.{Routine}
-use Rattle.core_program.specs.declared.rows.Row.{Row}
-use Rattle.core_program.specs.declared.rows.Row.TheVariants as rows
-use Rattle.core_program.specs.declared.rows.TypeRow.{TypeRow}
-use Rattle.core_program.specs.declared.rows.TypeRow.TheVariants as kind
-use Rattle.core_program.specs.declared.rows.NameRow.TheVariants as named
-use Rattle.core_program.specs.declared.rows.PartRow.TheVariants as part
-use Rattle.core_program.specs.declared.rows.ItemRow.{ItemRow}
-use Rattle.core_program.specs.declared.rows.ItemRow.TheVariants as item
-use Rattle.core_program.specs.declared.rows.AccessRow.{AccessRow}
+use Rattle.core_program.proofs.ActionsMeant.{IsMeant, MayStand, Meant, no}
+use Rattle.core_program.specs.{Accesses.with_formal, Accesses.with_size, Acts.Act, Acts.Answer, Acts.Trouble, Headings.heading_in, Headings.signature_at}
+use Rattle.core_program.specs.Accesses.{eval, eval_cells, locate, locate_target, on_address, on_cells, on_scalar, until_end, with_bounds, with_components}
+use Rattle.core_program.specs.Actions.{◌>>=◌, Action, Fail, Give, NoMeaning, Perform}
+use Rattle.core_program.specs.ProgramRows.{ProgramRows, routine_at, row_at, type_at, type_in}
+use Rattle.core_program.specs.Tree.{ActTree, Address, Body, Cells, Count, Do, Enter, Establish, Eval, Exec, Gather, Halt, Here, Jump, Line, Locate, Meaningless}
+use Rattle.core_program.specs.Tree.{Nothing, Out, Part, Pass, Print, Receive, RestOfLine, Ret, Scalar, Scanning, Sequence, Sub, Turn, doing}
+use Rattle.core_program.specs.WholeTables.{Goes, RoutineFits, RowFits, ScopedRecords, ScopedRow, WholeTables, gives_one_cell, has_result, is_access}
+use Rattle.core_program.specs.WholeTables.{is_access_to, is_actual_item, is_array_access, is_array_type, is_cells, is_cells_row, is_choice_of, is_element_of}
+use Rattle.core_program.specs.WholeTables.{is_end, is_field_row, is_formal, is_function, is_holder_row, is_list, is_member_item, is_ordinal_type}
+use Rattle.core_program.specs.WholeTables.{is_read_access, is_record_access, is_record_type, is_result_type, is_routine, is_scalar, is_scalar_row}
+use Rattle.core_program.specs.WholeTables.{is_simple_type, is_statement, is_statement_row, is_structured_type, is_turns_row, is_value_for, is_variant}
+use Rattle.core_program.specs.WholeTables.{is_variant_row, is_variants_row, is_written_item, signature_of, type_accessed}
+use Rattle.core_program.specs.declared.{components.Components.Components, headings.Signature.Signature, program.Routine.Routine}
+use Rattle.core_program.specs.declared.{rows.ExpressionRow.ExpressionRow, variants.VariantPart.VariantPart}
+use Rattle.core_program.specs.declared.rows.{AccessRow.AccessRow, ItemRow.ItemRow, NameRow.NameRow, Row.Row, StatementRow.StatementRow, TypeRow.TypeRow}
 use Rattle.core_program.specs.declared.rows.AccessRow.TheVariants as access
-use Rattle.core_program.specs.declared.rows.ExpressionRow.{ExpressionRow}
-use Rattle.core_program.specs.declared.rows.ExpressionRow.TheVariants as expression
-use Rattle.core_program.specs.declared.rows.StatementRow.{StatementRow}
-use Rattle.core_program.specs.declared.rows.StatementRow.TheVariants as statement
-use Rattle.core_program.specs.ProgramRows.{ProgramRows, row_at, type_in, type_at, routine_at}
-use Rattle.core_program.specs.declared.headings.Signature.{Signature}
-use Rattle.core_program.specs.Headings.{signature_at, heading_in}
-use Rattle.core_program.specs.WholeTables.{WholeTables, RoutineFits, RowFits, Goes, ScopedRow, ScopedRecords}
-use Rattle.core_program.specs.WholeTables.{is_end, is_list, is_element_of, is_choice_of, is_actual_item, is_written_item, is_member_item}
-use Rattle.core_program.specs.WholeTables.{is_statement, is_statement_row, is_turns_row, is_access, is_access_to, is_record_access, is_read_access}
-use Rattle.core_program.specs.WholeTables.{is_array_access}
-use Rattle.core_program.specs.WholeTables.{is_scalar, is_scalar_row, is_cells, is_cells_row, gives_one_cell, is_value_for, type_accessed, is_routine}
-use Rattle.core_program.specs.WholeTables.{is_function, is_formal}
-use Rattle.core_program.specs.WholeTables.{is_ordinal_type, is_simple_type, is_structured_type, is_array_type, is_result_type, is_record_type, has_result}
-use Rattle.core_program.specs.WholeTables.{signature_of}
-use Rattle.core_program.specs.WholeTables.{is_variant, is_variants_row, is_variant_row, is_holder_row, is_field_row}
-use Rattle.core_program.specs.declared.components.Components.{Components}
-use Rattle.core_program.specs.declared.variants.VariantPart.{VariantPart}
-use Rattle.core_program.specs.Acts.{Act, Answer, Trouble}
-use Rattle.core_program.specs.Actions.{Action, Give, Fail, NoMeaning, Perform, ◌>>=◌}
-use Rattle.core_program.specs.Tree.{Out, Nothing, Scalar, Cells, Address, Jump, Here, Part, ActTree, Ret, Halt, Meaningless, Do, Sub, Enter, Line, doing}
-use Rattle.core_program.specs.Tree.{Eval, Locate, Pass, Gather, Establish, Exec, Sequence, Turn, Count, Receive, Scanning, RestOfLine, Print, Body}
-use Rattle.core_program.specs.Accesses.{on_scalar, on_cells, on_address, eval, eval_cells, locate, locate_target, until_end, with_bounds, with_size}
-use Rattle.core_program.specs.Accesses.{with_components, with_formal}
-use Rattle.core_program.proofs.ActionsMeant.{no, Meant, IsMeant, MayStand}
+use Rattle.core_program.specs.declared.rows.ItemRow.TheVariants as item
+use Rattle.core_program.specs.declared.rows.PartRow.TheVariants as part
 
 -- ---- what a place takes
 
@@ -95,8 +75,8 @@ abbrev pub is_value : ProgramRows → ℕ → Bool
 is_value p n = is_scalar p n || is_cells p n
 
 abbrev pub is_turn_row : Row → Bool
-is_turn_row (rows.Statement (statement.While line condition body)) = true
-is_turn_row (rows.Statement (statement.Repeat line statements condition)) = true
+is_turn_row (Row.Statement (StatementRow.While line condition body)) = true
+is_turn_row (Row.Statement (StatementRow.Repeat line statements condition)) = true
 is_turn_row r = false
 
 -- the fields of with statements' records in a construct belong to records that are there
@@ -212,13 +192,13 @@ module _ (p : ProgramRows) (W : WholeTables p) where
   on_variable k go g out f = absurd f
 
   simple_not_structured : (t : Option TypeRow) → is_structured_type t ≡ true → is_simple_type t ≡ false
-  simple_not_structured (Some (kind.Array packed index component cells)) h = refl
-  simple_not_structured (Some (kind.Record packed region cells variants)) h = refl
+  simple_not_structured (Some (TypeRow.Array packed index component cells)) h = refl
+  simple_not_structured (Some (TypeRow.Record packed region cells variants)) h = refl
   simple_not_structured t h = no h
 
   pub cells_not_scalar : (r : Row) → is_cells_row p r ≡ true → is_scalar_row p r ≡ false
-  cells_not_scalar (rows.Expression (expression.Text token)) h = refl
-  cells_not_scalar (rows.Access a) h = simple_not_structured (type_at p (type_accessed a)) h
+  cells_not_scalar (Row.Expression (ExpressionRow.Text token)) h = refl
+  cells_not_scalar (Row.Access a) h = simple_not_structured (type_at p (type_accessed a)) h
   cells_not_scalar r h = no h
 
   pub good_eval : (k : Takes) (n : ℕ) (here : Here) (go : Value → ActTree) → is_scalar p n ≡ true → Inside p W (length here.records) n
@@ -246,8 +226,8 @@ module _ (p : ProgramRows) (W : WholeTables p) where
 
   pub good_bounds : (k : Takes) (t : Option TypeRow) (go : ℤ → ℤ → ActTree) → is_ordinal_type t ≡ true → ((least greatest : ℤ) → Good p W k (go least greatest))
       → Good p W k (with_bounds t go)
-  good_bounds k (Some (kind.Ordinal least greatest)) go h g = g least greatest
-  good_bounds k (Some (kind.Subrange host least greatest)) go h g = g least greatest
+  good_bounds k (Some (TypeRow.Ordinal least greatest)) go h g = g least greatest
+  good_bounds k (Some (TypeRow.Subrange host least greatest)) go h g = g least greatest
   good_bounds k t go h g = no h
 
   pub good_size : (k : Takes) (t : Option TypeRow) (go : ℕ → ActTree) → is_some t ≡ true → ((n : ℕ) → Good p W k (go n)) → Good p W k (with_size t go)
@@ -256,13 +236,13 @@ module _ (p : ProgramRows) (W : WholeTables p) where
 
   pub good_formal : (k : Takes) (r : Row) (go : ℕ → ℕ → ActTree) → is_some (heading_in r) ≡ true
       → ((place heading : ℕ) → heading_in r ≡ Some heading → Good p W k (go place heading)) → Good p W k (with_formal r go)
-  good_formal k (rows.Name (named.RoutineFormal place level heading)) go h g = g place heading refl
+  good_formal k (Row.Name (NameRow.RoutineFormal place level heading)) go h g = g place heading refl
   good_formal k r go h g = no h
 
   -- an array type, by its row
   pub good_components : (k : Takes) (n : ℕ) (r : Row) (go : Components → ActTree) → RowFits p n r → is_array_type (type_in r) ≡ true
       → ((a : Components) → Good p W k (go a)) → Good p W k (with_components p (type_in r) go)
-  good_components k n (rows.Type (kind.Array packed index component cells)) go f h g =
+  good_components k n (Row.Type (TypeRow.Array packed index component cells)) go f h g =
       good_bounds k (type_at p index) _ f.0 (λ least greatest. good_size k (type_at p component) _ f.1 (λ size. g _))
-  good_components k n (rows.Type t) go f h g = no h
+  good_components k n (Row.Type t) go f h g = no h
   good_components k n r go f h g = no h

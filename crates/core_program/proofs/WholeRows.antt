@@ -1,54 +1,32 @@
 -- Where tables are whole, what each part does is meant.
-use Rattle.std.proofs.Common.{◌≡◌, ◌⊎◌, inl, inr, ℕ, zero, suc, ◌+◌, ◌<◌, ◌≤◌, ◌==◌, ℤ, Bool, true, false, List, [], ◌∷◌, ◌++◌, Option, Some, None, refl}
-use Rattle.std.proofs.Common.{sym, ap, subst, ◌∙◌, length, nat_lt, if◌then◌else◌, slice_get, arith, is_some}
-use Rattle.std.specs.Prelude.{◌&&◌, ◌||◌, Result, not}
-use Rattle.std.proofs.lemmas.Bool.Decides.{nat_tests}
-use Rattle.std.specs.Ordering.{int_eq}
-use Rattle.cell_value.specs.declared.faults.OpFault.{OpFault}
-use Rattle.cell_value.specs.declared.values.Value.{Value}
-use Rattle.cell_value.specs.declared.values.Value.TheVariants as value
-use Rattle.core_program.specs.declared.program.Routine.{Routine}
-use Rattle.core_program.specs.declared.rows.Row.{Row}
-use Rattle.core_program.specs.declared.rows.Row.TheVariants as rows
-use Rattle.core_program.specs.declared.rows.TypeRow.{TypeRow}
-use Rattle.core_program.specs.declared.rows.TypeRow.TheVariants as kind
-use Rattle.core_program.specs.declared.rows.ItemRow.{ItemRow}
-use Rattle.core_program.specs.declared.rows.ItemRow.TheVariants as item
-use Rattle.core_program.specs.declared.rows.AccessRow.{AccessRow}
-use Rattle.core_program.specs.declared.rows.AccessRow.TheVariants as access
-use Rattle.core_program.specs.declared.rows.ExpressionRow.{ExpressionRow}
+use Rattle.std.proofs.Common.{if◌then◌else◌, ◌&&◌, ◌++◌, ◌+◌, ◌<◌, ◌==◌, ◌||◌, ◌∙◌, ◌∷◌, ◌≡◌, ◌≤◌, ◌⊎◌, [], ℕ, ℤ, Bool, List, None, Option, Result, Some, ap}
+use Rattle.std.proofs.Common.{arith, false, inl, inr, is_some, length, nat_lt, not, refl, slice_get, subst, suc, sym, true, zero}
+use Rattle.std.{proofs.lemmas.Bool.Decides.nat_tests, specs.Ordering.int_eq}
+use Rattle.cell_value.specs.{Arithmetic.arith_of, declared.faults.OpFault.OpFault, declared.values.Value.Value}
+use Rattle.core_program.proofs.ActionsMeant.{IsMeant, MayStand, Meant, cell_meant, component_meant, end_meant, fault_meant, frame_meant, line_end_meant, next}
+use Rattle.core_program.proofs.ActionsMeant.{no, ordinal_meant, pointed_meant, pointer_meant, reads_meant, reference_meant, routine_cell_meant, set_meant}
+use Rattle.core_program.proofs.WholeActions.{field_meant, tested_meant}
+use Rattle.core_program.proofs.WholeParts.{Anything, Fits, Good, Inside, IsWhole, ManyCells, OneCell, Takes, Variable, and_both, cells_if, cells_not_scalar}
+use Rattle.core_program.proofs.WholeParts.{gives, gives_call, good_after, good_bounds, good_cells, good_components, good_doing, good_eval, good_formal, good_if}
+use Rattle.core_program.proofs.WholeParts.{good_locate, good_size, good_until, in_part, is_value, jump_fits, listed, on_many, on_one, on_variable, opened}
+use Rattle.core_program.proofs.WholeParts.{or_cases, or_left, or_right, or_second, result_if}
+use Rattle.core_program.specs.{Accesses.until_end, Accesses.value_at, Accesses.with_record, Actions.◌>>=◌, Actions.Action, Actions.Give, Heap.pointed_at}
+use Rattle.core_program.specs.{Heap.pointer_at, Heap.pointers_compared, Input.at_end, Input.at_line_end, Tree.Sub, Tree.doing, Variants.field_at}
+use Rattle.core_program.specs.{WholeTables.type_accessed, declared.headings.Signature.Signature, declared.program.Routine.Routine}
+use Rattle.core_program.specs.Accesses.{access_in, address, eval, locate_before, locate_field, of_access, on_address, on_cells, on_scalar, scalar, spend}
+use Rattle.core_program.specs.Cells.{cell_out, component, frame_out, ordinal_at, read_values, reference_out, routine_out, set_at}
+use Rattle.core_program.specs.Expressions.{call, call_formal, enter, expression_in, gather, of_actual, of_expression, of_members, on_actual, operation_result}
+use Rattle.core_program.specs.Expressions.{pass_routine, string_in, with_frame_size}
+use Rattle.core_program.specs.Headings.{heading_in, is_congruous, lists_match, may_stand_for, same_result, signature_at, signatures_match}
+use Rattle.core_program.specs.ProgramRows.{ProgramRows, routine_at, row_at, type_at, type_in}
+use Rattle.core_program.specs.Tree.{ActTree, Address, Cells, Do, Enter, Eval, Gather, Halt, Here, Jump, Line, Locate, Meaningless, Out, Part, Pass, Ret, Scalar}
+use Rattle.core_program.specs.Values.{comparison, function_of, in_set, members_added, or_fault, sets_compared, sets_of, tested, texts_compared, with_sign_of}
+use Rattle.core_program.specs.WholeTables.{RowFits, ScopedRow, WholeTables, gives_one_cell, has_result, is_access, is_access_to, is_actual_item, is_array_type}
+use Rattle.core_program.specs.WholeTables.{is_cells, is_cells_row, is_end, is_field_row, is_formal, is_function, is_list, is_member_item, is_ordinal_type}
+use Rattle.core_program.specs.WholeTables.{is_result_type, is_routine, is_scalar, is_scalar_row, is_simple_type, is_structured_type, is_value_for, signature_of}
+use Rattle.core_program.specs.declared.rows.{AccessRow.AccessRow, ExpressionRow.ExpressionRow, ItemRow.ItemRow, Row.Row, TypeRow.TypeRow}
 use Rattle.core_program.specs.declared.rows.ExpressionRow.TheVariants as expression
-use Rattle.core_program.specs.ProgramRows.{ProgramRows, row_at, type_in, type_at, routine_at}
-use Rattle.core_program.specs.declared.headings.Signature.{Signature}
-use Rattle.core_program.specs.Headings.{signature_at, heading_in, same_result, signatures_match, lists_match, is_congruous, may_stand_for}
-use Rattle.core_program.specs.WholeTables.{WholeTables, RowFits, ScopedRow, is_end, is_list, is_actual_item, is_member_item, is_access, is_access_to}
-use Rattle.core_program.specs.WholeTables.{is_scalar, is_scalar_row, is_cells, is_cells_row, gives_one_cell, type_accessed, is_value_for, is_routine}
-use Rattle.core_program.specs.WholeTables.{is_function, is_formal}
-use Rattle.core_program.specs.WholeTables.{is_ordinal_type, is_simple_type, is_structured_type, is_array_type, is_result_type, has_result, signature_of}
-use Rattle.core_program.specs.WholeTables.{is_field_row}
-use Rattle.core_program.specs.Actions.{Action, Give, ◌>>=◌}
-use Rattle.core_program.specs.Tree.{Out, Scalar, Cells, Address, Jump, Here, Part, ActTree, Ret, Halt, Meaningless, Do, Sub, Enter, Line, doing}
-use Rattle.core_program.specs.Tree.{Eval, Locate, Pass, Gather}
-use Rattle.core_program.specs.Values.{or_fault, tested, with_sign_of, comparison, sets_of, sets_compared, in_set, function_of, texts_compared, members_added}
-use Rattle.core_program.specs.Heap.{pointers_compared}
-use Rattle.cell_value.specs.Arithmetic.{arith_of}
-use Rattle.core_program.specs.Cells.{frame_out, cell_out, reference_out, routine_out, component, read_values, ordinal_at, set_at}
-use Rattle.core_program.specs.Heap.{pointer_at, pointed_at}
-use Rattle.core_program.specs.Variants.{field_at}
-use Rattle.core_program.specs.Input.{at_end, at_line_end}
-use Rattle.core_program.specs.Accesses.{on_scalar, on_cells, on_address, until_end, eval, scalar, address, spend, locate_before, locate_field, of_access}
-use Rattle.core_program.specs.Accesses.{access_in, with_record, value_at}
-use Rattle.core_program.specs.Expressions.{operation_result, with_frame_size, call, enter, call_formal, string_in, of_expression, expression_in, on_actual}
-use Rattle.core_program.specs.Expressions.{pass_routine, of_actual, gather, of_members}
-use Rattle.core_program.proofs.ActionsMeant.{no, Meant, IsMeant, MayStand, next, fault_meant, frame_meant, cell_meant, reference_meant, routine_cell_meant}
-use Rattle.core_program.proofs.ActionsMeant.{component_meant, pointed_meant}
-use Rattle.core_program.proofs.ActionsMeant.{reads_meant, ordinal_meant, set_meant, pointer_meant, end_meant, line_end_meant}
-use Rattle.core_program.proofs.WholeParts.{Takes, Anything, OneCell, ManyCells, Variable, Fits, jump_fits, cells_if, result_if, gives, gives_call, is_value}
-use Rattle.core_program.proofs.WholeParts.{Inside, IsWhole, Good}
-use Rattle.core_program.proofs.WholeParts.{good_doing, good_after, good_if, good_until, or_left, or_right, or_second, or_cases, and_both, listed, opened}
-use Rattle.core_program.proofs.WholeParts.{on_one, on_many, on_variable, cells_not_scalar}
-use Rattle.core_program.proofs.WholeParts.{in_part, good_eval, good_cells, good_locate, good_bounds, good_size, good_formal, good_components}
-use Rattle.core_program.proofs.WholeActions.{tested_meant, field_meant}
+use Rattle.core_program.specs.declared.rows.ItemRow.TheVariants as item
 
 module _ (p : ProgramRows) (W : WholeTables p) where
   -- ---- accesses
@@ -70,43 +48,43 @@ module _ (p : ProgramRows) (W : WholeTables p) where
   field_good target line addr field h = good_after p W Variable line (field_at p target addr (row_at p field)) address (field_meant p W target addr field h)
       (λ _. tt)
 
-  access_good : (n : ℕ) (target : Bool) (here : Here) (a : AccessRow) (d : Inside p W (length here.records) n) → RowFits p n (rows.Access a)
-      → ScopedRow p W.around n (rows.Access a)
+  access_good : (n : ℕ) (target : Bool) (here : Here) (a : AccessRow) (d : Inside p W (length here.records) n) → RowFits p n (Row.Access a)
+      → ScopedRow p W.around n (Row.Access a)
       → Good p W Variable (of_access p n target here a)
-  access_good n target here (access.Variable place levels of') d f s =
+  access_good n target here (AccessRow.Variable place levels of') d f s =
       λ _. good_after p W Variable here.line (cell_out levels here.base place) address (cell_meant levels here.base place) (λ _. tt)
-  access_good n target here (access.Reference place levels of') d f s =
+  access_good n target here (AccessRow.Reference place levels of') d f s =
       λ _. good_after p W Variable here.line (reference_out levels here.base place) address (reference_meant levels here.base place) (λ _. tt)
-  access_good n target here (access.Within record' field of') d f s =
+  access_good n target here (AccessRow.Within record' field of') d f s =
       λ _. established record' here.records _ (omega (arith, s, d.there)) (λ addr. field_good target here.line addr field f.0)
-  access_good n target here (access.Index inner index array of') d f s = located_before n inner target here _ f.1 f.0 (in_part p W d s.0) (λ addr _.
+  access_good n target here (AccessRow.Index inner index array of') d f s = located_before n inner target here _ f.1 f.0 (in_part p W d s.0) (λ addr _.
       good_eval p W Variable index here _ f.2 (in_part p W d s.1.0) (λ v. good_components p W Variable array (row_at p array) _ (W.rows array) f.3 (λ a.
       good_after p W Variable here.line (component a addr v) address (component_meant a addr v) (λ _. tt))))
-  access_good n target here (access.Field inner field of') d f s = located_before n inner target here _ f.1 f.0 (in_part p W d s.0) (λ addr _.
+  access_good n target here (AccessRow.Field inner field of') d f s = located_before n inner target here _ f.1 f.0 (in_part p W d s.0) (λ addr _.
       field_good target here.line addr field f.2)
-  access_good n target here (access.Dereference inner of') d f s = located_before n inner target here _ f.1 f.0 (in_part p W d s.0) (λ addr _.
+  access_good n target here (AccessRow.Dereference inner of') d f s = located_before n inner target here _ f.1 f.0 (in_part p W d s.0) (λ addr _.
       good_after p W Variable here.line (pointed_at addr) address (pointed_meant addr) (λ _. tt))
 
   located : (n : ℕ) (target : Bool) (here : Here) (r : Row) (d : Inside p W (length here.records) n) → RowFits p n r → ScopedRow p W.around n r
       → is_access_to is_some p r ≡ true
       → Good p W Variable (access_in p n target here r)
-  located n target here (rows.Access a) d f s h = access_good n target here a d f s
+  located n target here (Row.Access a) d f s h = access_good n target here a d f s
   located n target here r d f s h = no h
 
   -- ---- values of variables, by the rows of their types
 
   value_good : (line addr n : ℕ) (r : Row) → RowFits p n r → is_some (type_in r) ≡ true
       → Good p W (cells_if (is_simple_type (type_in r))) (value_at p line addr (type_in r))
-  value_good line addr n (rows.Type (kind.Ordinal least greatest)) f h =
+  value_good line addr n (Row.Type (TypeRow.Ordinal least greatest)) f h =
       good_after p W OneCell line (ordinal_at least greatest addr) scalar (ordinal_meant least greatest addr) (λ _. tt)
-  value_good line addr n (rows.Type (kind.Subrange host least greatest)) f h =
+  value_good line addr n (Row.Type (TypeRow.Subrange host least greatest)) f h =
       good_after p W OneCell line (ordinal_at least greatest addr) scalar (ordinal_meant least greatest addr) (λ _. tt)
-  value_good line addr n (rows.Type (kind.Set packed base)) f h = good_bounds p W OneCell (type_at p base) _ f (λ least greatest.
+  value_good line addr n (Row.Type (TypeRow.Set packed base)) f h = good_bounds p W OneCell (type_at p base) _ f (λ least greatest.
       good_after p W OneCell line (set_at least greatest addr) scalar (set_meant least greatest addr) (λ _. tt))
-  value_good line addr n (rows.Type (kind.Pointer domain)) f h = good_after p W OneCell line (pointer_at addr) scalar (pointer_meant addr) (λ _. tt)
-  value_good line addr n (rows.Type (kind.Array packed index component cells)) f h =
+  value_good line addr n (Row.Type (TypeRow.Pointer domain)) f h = good_after p W OneCell line (pointer_at addr) scalar (pointer_meant addr) (λ _. tt)
+  value_good line addr n (Row.Type (TypeRow.Array packed index component cells)) f h =
       good_after p W ManyCells line (read_values [] addr cells) _ (reads_meant [] addr cells) (λ _. tt)
-  value_good line addr n (rows.Type (kind.Record packed region cells variants)) f h =
+  value_good line addr n (Row.Type (TypeRow.Record packed region cells variants)) f h =
       good_after p W ManyCells line (read_values [] addr cells) _ (reads_meant [] addr cells) (λ _. tt)
   value_good line addr n r f h = no h
 
@@ -194,8 +172,8 @@ module _ (p : ProgramRows) (W : WholeTables p) where
   two here left right n d go f s g = good_eval p W OneCell left here _ f.0 (in_part p W d s.0)
       (λ x. good_eval p W OneCell right here _ f.1 (in_part p W d s.1.0) (λ y. g x y))
 
-  expression_good : (n : ℕ) (here : Here) (e : ExpressionRow) (d : Inside p W (length here.records) n) → RowFits p n (rows.Expression e)
-      → ScopedRow p W.around n (rows.Expression e)
+  expression_good : (n : ℕ) (here : Here) (e : ExpressionRow) (d : Inside p W (length here.records) n) → RowFits p n (Row.Expression e)
+      → ScopedRow p W.around n (Row.Expression e)
       → Good p W (cells_if (gives_one_cell p e)) (of_expression p here e)
   expression_good n here (expression.Constant v) d f s = tt
   expression_good n here (expression.Text token) d f s = string_good (slice_get p.texts token) f
@@ -235,8 +213,8 @@ module _ (p : ProgramRows) (W : WholeTables p) where
   evaluated : (n : ℕ) (here : Here) (r : Row) (d : Inside p W (length here.records) n) → row_at p n ≡ r → RowFits p n r → ScopedRow p W.around n r
       → Inside p W (length here.records) n
       → (is_scalar_row p r || is_cells_row p r) ≡ true → Good p W (cells_if (is_scalar_row p r)) (expression_in p n here r)
-  evaluated n here (rows.Expression e) d q f s i h = λ _. expression_good n here e d f s
-  evaluated n here (rows.Access a) d q f s i h =
+  evaluated n here (Row.Expression e) d q f s i h = λ _. expression_good n here e d f s
+  evaluated n here (Row.Access a) d q f s i h =
       let t = value_type (type_at p (type_accessed a)) h in
       good_locate p W (cells_if (is_simple_type (type_at p (type_accessed a)))) n here _ (ap (λ r. is_access_to is_some p r) q ∙ t) i (λ addr.
       value_good here.line addr (type_accessed a) (row_at p (type_accessed a)) (W.rows (type_accessed a)) t)
@@ -284,21 +262,21 @@ module _ (p : ProgramRows) (W : WholeTables p) where
   actual_good : (n : ℕ) (here : Here) (passed : List Value) (r : Row) (d : Inside p W (length here.records) n) → RowFits p n r → ScopedRow p W.around n r
       → is_actual_item r ≡ true
       → Good p W ManyCells (of_actual p passed here r)
-  actual_good n here passed (rows.Item (item.Value v of' nx)) d f s h =
+  actual_good n here passed (Row.Item (item.Value v of' nx)) d f s h =
       let go : List Value → ActTree = λ vs. Sub (Pass nx (passed ++ vs) here) Ret in
       good_value ManyCells of' v here (on_actual p here (type_at p of') go) f.0 (in_part p W d s.0)
       (λ e out q. actual_scalar here of' go e (λ vs. more_actuals here nx (passed ++ vs) f.1.0 (in_part p W d s.1.0)) out q)
       (λ out q. actual_cells here (type_at p of') go (λ vs. more_actuals here nx (passed ++ vs) f.1.0 (in_part p W d s.1.0)) out q)
-  actual_good n here passed (rows.Item (item.Place a nx)) d f s h =
-      good_locate p W ManyCells a here _ f.0 (in_part p W d s.0) (λ addr. more_actuals here nx (passed ++ value.Place addr ∷ []) f.1.0 (in_part p W d s.1.0))
-  actual_good n here passed (rows.Item (item.Routine routine levels nx)) d f s h = λ _.
+  actual_good n here passed (Row.Item (item.Place a nx)) d f s h =
+      good_locate p W ManyCells a here _ f.0 (in_part p W d s.0) (λ addr. more_actuals here nx (passed ++ Value.Place addr ∷ []) f.1.0 (in_part p W d s.1.0))
+  actual_good n here passed (Row.Item (item.Routine routine levels nx)) d f s h = λ _.
       good_after p W ManyCells here.line (frame_out levels here.base >>= λ frame. Give (routine, frame)) _
       (next (frame_out levels here.base) _ (frame_meant levels here.base) (λ _. tt))
-      (λ x. more_actuals here nx (passed ++ value.Routine x.0 x.1 ∷ []) f.1.0 (in_part p W d s.0))
-  actual_good n here passed (rows.Item (item.RoutineFormal formal levels nx)) d f s h = good_formal p W ManyCells (row_at p formal) _ f.0 (λ place heading e _.
+      (λ x. more_actuals here nx (passed ++ Value.Routine x.0 x.1 ∷ []) f.1.0 (in_part p W d s.0))
+  actual_good n here passed (Row.Item (item.RoutineFormal formal levels nx)) d f s h = good_formal p W ManyCells (row_at p formal) _ f.0 (λ place heading e _.
       good_doing p W ManyCells (MayStand p heading) here.line (routine_out p heading levels here.base place) _
       (routine_cell_meant p heading levels here.base place)
-      (λ x m. more_actuals here nx (passed ++ value.Routine x.0 x.1 ∷ []) f.1.0 (in_part p W d s.0)))
+      (λ x m. more_actuals here nx (passed ++ Value.Routine x.0 x.1 ∷ []) f.1.0 (in_part p W d s.0)))
   actual_good n here passed r d f s h = no h
 
   more_members : (here : Here) (at : ℕ) (r : Result Value OpFault) → is_list is_member_item p at ≡ true → Inside p W (length here.records) at
@@ -308,9 +286,9 @@ module _ (p : ProgramRows) (W : WholeTables p) where
   member_good : (n : ℕ) (set : Value) (here : Here) (r : Row) (d : Inside p W (length here.records) n) → RowFits p n r → ScopedRow p W.around n r
       → is_member_item r ≡ true
       → Good p W OneCell (of_members set here r)
-  member_good n set here (rows.Item (item.Member v nx)) d f s h =
+  member_good n set here (Row.Item (item.Member v nx)) d f s h =
       good_eval p W OneCell v here _ f.0 (in_part p W d s.0) (λ x. more_members here nx _ f.1.0 (in_part p W d s.1.0))
-  member_good n set here (rows.Item (item.Members first last nx)) d f s h = good_eval p W OneCell first here _ f.0 (in_part p W d s.0) (λ x.
+  member_good n set here (Row.Item (item.Members first last nx)) d f s h = good_eval p W OneCell first here _ f.0 (in_part p W d s.0) (λ x.
       good_eval p W OneCell last here _ f.1 (in_part p W d s.1.0) (λ y. more_members here nx _ f.2.0 (in_part p W d s.1.1.0)))
   member_good n set here r d f s h = no h
 

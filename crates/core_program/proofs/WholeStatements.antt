@@ -1,69 +1,42 @@
 -- Where tables are whole, what each statement does is meant; and so is what each part does.
-use Rattle.std.proofs.Common.{◌≡◌, ◌⊎◌, inl, inr, ℕ, zero, suc, ◌+◌, ◌<◌, ◌≤◌, ◌==◌, ℤ, Bool, true, false, List, [], ◌∷◌, ◌++◌, Option, Some, None, refl}
-use Rattle.std.proofs.Common.{sym, ap, subst, ◌∙◌, length, nat_lt, if◌then◌else◌, slice_get, arith, is_some}
-use Rattle.std.specs.Prelude.{◌&&◌, ◌||◌, Result, Ok, Err}
-use Rattle.std.specs.Ordering.{int_eq}
-use Rattle.cell_value.specs.declared.faults.OpFault.{OpFault}
-use Rattle.std.proofs.lemmas.Bool.Decides.{nat_tests}
-use Rattle.cell_value.specs.declared.values.Value.{Value}
-use Rattle.cell_value.specs.declared.values.Value.TheVariants as value
-use Rattle.core_program.specs.declared.program.Routine.{Routine}
-use Rattle.core_program.specs.declared.rows.Row.{Row}
-use Rattle.core_program.specs.declared.rows.Row.TheVariants as rows
-use Rattle.core_program.specs.declared.rows.TypeRow.{TypeRow}
-use Rattle.core_program.specs.declared.rows.TypeRow.TheVariants as kind
-use Rattle.core_program.specs.declared.rows.PartRow.TheVariants as part
-use Rattle.core_program.specs.declared.rows.ItemRow.{ItemRow}
+use Rattle.std.proofs.Common.{if◌then◌else◌, ◌&&◌, ◌++◌, ◌+◌, ◌<◌, ◌==◌, ◌||◌, ◌∙◌, ◌∷◌, ◌≡◌, ◌≤◌, ◌⊎◌, [], ℕ, ℤ, Bool, Err, List, None, Ok, Option, Result}
+use Rattle.std.proofs.Common.{Some, ap, arith, false, inl, inr, is_some, length, nat_lt, refl, slice_get, subst, suc, sym, true, zero}
+use Rattle.std.{proofs.lemmas.Bool.Decides.nat_tests, specs.Ordering.int_eq}
+use Rattle.cell_value.specs.declared.{faults.OpFault.OpFault, values.Value.Value}
+use Rattle.core_program.proofs.ActionsMeant.{IsMeant, Meant, copies_meant, dispose_meant, end_line_meant, end_page_meant, fault_meant, frame_meant, made_meant}
+use Rattle.core_program.proofs.ActionsMeant.{moved_meant, next, next_char_meant, no, past_meant, pointer_result_meant, read_meant, scan_meant, write_meant}
+use Rattle.core_program.proofs.ActionsMeant.{writes_meant, written_meant}
+use Rattle.core_program.proofs.WholeActions.{Found, assign_meant, enough_items, found_if, found_on, target_ok, tested_meant, there}
+use Rattle.core_program.proofs.WholeParts.{Anything, Fits, Good, Inside, InsideRecords, IsWhole, ManyCells, OneCell, Takes, Variable, and_both, cells_if}
+use Rattle.core_program.proofs.WholeParts.{cells_not_scalar, gives, gives_call, good_after, good_bounds, good_cells, good_components, good_doing, good_eval}
+use Rattle.core_program.proofs.WholeParts.{good_if, good_locate, good_size, good_target, good_until, in_part, is_turn_row, is_value, jump_fits, listed, on_one}
+use Rattle.core_program.proofs.WholeParts.{opened, or_cases, or_left, or_right, or_second, result_if}
+use Rattle.core_program.proofs.WholeRows.{call_formal_good, call_good, eval_good, gather_good, good_value, locate_good, pass_good}
+use Rattle.core_program.specs.{Actions.◌>>=◌, Actions.Action, Cells.frame_out, Cells.read_value, Cells.write, Cells.writes, Heap.dispose, Heap.made_variable}
+use Rattle.core_program.specs.{Heap.pointer_result_at, Input.next_char, Input.past_item, Input.scan_on, Layer.layer, Layer.of_body, Layer.outermost}
+use Rattle.core_program.specs.{State.moved, Values.is_true, Values.tested, Variants.assign_to, Variants.tag_accessed}
+use Rattle.core_program.specs.Accesses.{eval, on_scalar, scalar, spend, until_end, with_components}
+use Rattle.core_program.specs.Choices.{Sought, along, choice_of, choose_at, on_to}
+use Rattle.core_program.specs.Headings.{heading_in, signature_at, signature_in}
+use Rattle.core_program.specs.Output.{Text, char_type, end_line, end_page, written}
+use Rattle.core_program.specs.Packing.{copies, first_moved, moves, pack, with_array}
+use Rattle.core_program.specs.ProgramRows.{ProgramRows, routine_at, row_at, type_at, type_in}
+use Rattle.core_program.specs.Run.{or_no_result, result_of_type, result_read, return_of, type_in_heading, whole}
+use Rattle.core_program.specs.Statements.{bounds, bounds_tested, choose, chosen_by, finally, first_turn, has_label, has_turn, inside, item_labelled, jumped}
+use Rattle.core_program.specs.Statements.{labelled_in, nothing, of_count, of_records, of_sequence, of_statement, of_turn, on_labelled, on_normal, on_statement}
+use Rattle.core_program.specs.Statements.{on_value, point, put_into, statement_in, turn_after, undefine, value_after}
+use Rattle.core_program.specs.Transfers.{into, of_printed, of_received, of_rest_of_line, of_scan, on_scanned, on_text, print, read_for, received, with_host}
+use Rattle.core_program.specs.Tree.{ActTree, Address, Body, Cells, Count, Do, Enter, Establish, Eval, Exec, Gather, Halt, Here, Jump, Line, Locate, Meaningless}
+use Rattle.core_program.specs.Tree.{Nothing, Out, Part, Pass, Print, Receive, RestOfLine, Ret, Scalar, Scanning, Sequence, Sub, Turn, doing}
+use Rattle.core_program.specs.WholeTables.{Goes, RowFits, ScopedItem, ScopedRecords, ScopedRow, WholeTables, has_result, is_access, is_access_to}
+use Rattle.core_program.specs.WholeTables.{is_array_access, is_array_type, is_cells, is_choice_of, is_element_of, is_end, is_function, is_list, is_ordinal}
+use Rattle.core_program.specs.WholeTables.{is_ordinal_type, is_read_access, is_record_access, is_record_type, is_result_type, is_routine, is_scalar}
+use Rattle.core_program.specs.WholeTables.{is_simple_type, is_statement, is_statement_row, is_turns_row, is_value_for, is_written_item, type_accessed}
+use Rattle.core_program.specs.declared.{components.Components.Components, headings.Signature.Signature, program.Routine.Routine, rows.StatementRow.StatementRow}
+use Rattle.core_program.specs.declared.rows.{AccessRow.AccessRow, Direction.Direction, ItemRow.ItemRow, PartRow.PartRow, Row.Row, TypeRow.TypeRow}
 use Rattle.core_program.specs.declared.rows.ItemRow.TheVariants as item
-use Rattle.core_program.specs.declared.rows.AccessRow.{AccessRow}
-use Rattle.core_program.specs.declared.rows.Direction.{Direction}
-use Rattle.core_program.specs.declared.rows.StatementRow.{StatementRow}
-use Rattle.core_program.specs.declared.rows.StatementRow.TheVariants as statement
-use Rattle.core_program.specs.ProgramRows.{ProgramRows, row_at, type_in, type_at, routine_at}
-use Rattle.core_program.specs.declared.headings.Signature.{Signature}
-use Rattle.core_program.specs.Headings.{signature_in, signature_at, heading_in}
-use Rattle.core_program.specs.WholeTables.{WholeTables, RowFits, Goes, ScopedRow, ScopedItem, ScopedRecords, is_end, is_list, is_element_of}
-use Rattle.core_program.specs.WholeTables.{is_choice_of, is_statement, is_statement_row}
-use Rattle.core_program.specs.WholeTables.{is_turns_row, is_access, is_access_to, is_record_access, is_read_access, is_array_access, is_written_item}
-use Rattle.core_program.specs.WholeTables.{is_scalar, is_cells, type_accessed}
-use Rattle.core_program.specs.WholeTables.{is_routine, is_function, is_ordinal, is_ordinal_type, is_simple_type, is_array_type, is_record_type}
-use Rattle.core_program.specs.WholeTables.{is_result_type, has_result, is_value_for}
-use Rattle.core_program.specs.declared.components.Components.{Components}
-use Rattle.core_program.specs.State.{moved}
-use Rattle.core_program.specs.Actions.{Action, ◌>>=◌}
-use Rattle.core_program.specs.Tree.{Out, Nothing, Scalar, Cells, Address, Jump, Here, Part, ActTree, Ret, Halt, Meaningless, Do, Sub, Enter, Line, doing}
-use Rattle.core_program.specs.Tree.{Eval, Locate, Pass, Gather, Establish, Exec, Sequence, Turn, Count, Receive, Scanning, RestOfLine, Print, Body}
-use Rattle.core_program.specs.declared.scan.Scan.{Scan}
-use Rattle.core_program.specs.declared.scan.Scan.TheVariants.{Blanks}
-use Rattle.core_program.specs.declared.scan.Scanned.{Scanned}
-use Rattle.core_program.specs.declared.scan.Scanned.TheVariants.{Further, Whole}
-use Rattle.core_program.specs.Values.{tested, is_true}
-use Rattle.core_program.specs.Cells.{write, writes, frame_out, read_value}
-use Rattle.core_program.specs.Choices.{Sought, along, on_to, choose_at, choice_of}
-use Rattle.core_program.specs.Variants.{tag_accessed, assign_to}
-use Rattle.core_program.specs.Heap.{made_variable, dispose, pointer_result_at}
-use Rattle.core_program.specs.Input.{next_char, past_item, scan_on}
-use Rattle.core_program.specs.Output.{Text, char_type, written, end_line, end_page}
-use Rattle.core_program.specs.Packing.{first_moved, copies, with_array, moves, pack}
-use Rattle.core_program.specs.Accesses.{on_scalar, until_end, eval, scalar, spend, with_components}
-use Rattle.core_program.specs.Statements.{on_normal, nothing, finally, put_into, on_value, choose, chosen_by, has_turn, undefine, bounds_tested, first_turn}
-use Rattle.core_program.specs.Statements.{bounds, point}
-use Rattle.core_program.specs.Statements.{of_statement, on_labelled, statement_in, has_label, item_labelled, labelled_in, jumped, on_statement, of_sequence}
-use Rattle.core_program.specs.Statements.{of_turn, value_after, turn_after, of_count, inside, of_records}
-use Rattle.core_program.specs.Transfers.{with_host, into, read_for, received, of_received, on_scanned, of_scan, of_rest_of_line, on_text, print, of_printed}
-use Rattle.core_program.specs.Layer.{outermost, of_body, layer}
-use Rattle.core_program.specs.Run.{type_in_heading, result_read, or_no_result, result_of_type, return_of, whole}
-use Rattle.core_program.proofs.ActionsMeant.{no, Meant, IsMeant, next, fault_meant, read_meant, write_meant, writes_meant, frame_meant, moved_meant}
-use Rattle.core_program.proofs.ActionsMeant.{copies_meant, made_meant, dispose_meant}
-use Rattle.core_program.proofs.ActionsMeant.{pointer_result_meant, next_char_meant, past_meant, scan_meant, written_meant, end_line_meant, end_page_meant}
-use Rattle.core_program.proofs.WholeParts.{Takes, Anything, OneCell, ManyCells, Variable, Fits, jump_fits, cells_if, result_if, gives, gives_call, is_value}
-use Rattle.core_program.proofs.WholeParts.{is_turn_row, Inside, InsideRecords}
-use Rattle.core_program.proofs.WholeParts.{IsWhole, Good, good_doing, good_after, good_if, good_until, or_left, or_right, or_second, or_cases, and_both}
-use Rattle.core_program.proofs.WholeParts.{listed, opened, on_one}
-use Rattle.core_program.proofs.WholeParts.{in_part, cells_not_scalar, good_eval, good_cells, good_locate, good_target, good_bounds, good_size}
-use Rattle.core_program.proofs.WholeParts.{good_components}
-use Rattle.core_program.proofs.WholeActions.{Found, found_if, found_on, there, enough_items, tested_meant, target_ok, assign_meant}
-use Rattle.core_program.proofs.WholeRows.{call_good, call_formal_good, good_value, eval_good, locate_good, pass_good, gather_good}
+use Rattle.core_program.specs.declared.rows.TypeRow.TheVariants as kind
+use Rattle.core_program.specs.declared.scan.{Scan.Scan, Scan.TheVariants.Blanks, Scanned.Scanned, Scanned.TheVariants.Further, Scanned.TheVariants.Whole}
 
 module _ (p : ProgramRows) (W : WholeTables p) where
   done : (part : Part) → IsWhole p W part → Good p W Anything (Sub part Ret)
@@ -101,7 +74,7 @@ module _ (p : ProgramRows) (W : WholeTables p) where
   -- ---- for statements
 
   undefined_good : (here : Here) (place : ℕ) → Good p W Anything (undefine here place)
-  undefined_good here place = ended here (write (moved here.base place) value.Undefined) (write_meant (moved here.base place) value.Undefined)
+  undefined_good here place = ended here (write (moved here.base place) Value.Undefined) (write_meant (moved here.base place) Value.Undefined)
 
   ordinal_is_simple : (t : Option TypeRow) → is_ordinal_type t ≡ true → is_simple_type t ≡ true
   ordinal_is_simple (Some (kind.Ordinal least greatest)) h = refl
@@ -112,20 +85,20 @@ module _ (p : ProgramRows) (W : WholeTables p) where
       → Inside p W (length here.records) turns
       → (i j : Value)
       → Good p W Anything (first_turn p here turns r i j)
-  first_good here turns (rows.Statement (statement.Turns direction last place of' body)) f h q s (value.Number i) (value.Number j) =
+  first_good here turns (Row.Statement (StatementRow.Turns direction last place of' body)) f h q s (Value.Number i) (Value.Number j) =
       good_if p W Anything (has_turn direction i j) _ (undefine here place) (λ _.
       let e = ordinal_is_simple (type_at p of') f.1 in
       good_after p W Anything here.line (bounds_tested p (type_at p of') i j) _
-      (next (tested p (type_at p of') (value.Number i)) _ (tested_meant p W of' (value.Number i) e) (λ _. tested_meant p W of' (value.Number j) e))
+      (next (tested p (type_at p of') (Value.Number i)) _ (tested_meant p W of' (Value.Number i) e) (λ _. tested_meant p W of' (Value.Number j) e))
       (λ _. done (Count turns i j here) (q, s))) (λ _. undefined_good here place)
-  first_good here turns (rows.Statement (statement.Turns direction last place of' body)) f h q s i j = tt
+  first_good here turns (Row.Statement (StatementRow.Turns direction last place of' body)) f h q s i j = tt
   first_good here turns r f h q s i j = no h
 
   bounds_good : (here : Here) (initial turns : ℕ) (r : Row) (d : Inside p W (length here.records) turns) → RowFits p turns r → is_turns_row r ≡ true
       → ScopedRow p W.around turns r
       → is_turns_row (row_at p turns) ≡ true → Inside p W (length here.records) turns → is_scalar p initial ≡ true → Inside p W (length here.records) initial
       → Good p W Anything (bounds p here initial turns r)
-  bounds_good here initial turns (rows.Statement (statement.Turns direction last place of' body)) d f h s q i e k =
+  bounds_good here initial turns (Row.Statement (StatementRow.Turns direction last place of' body)) d f h s q i e k =
       good_eval p W Anything initial here _ e k (λ x. good_eval p W Anything last here _ f.0 (in_part p W d s.0) (λ y.
       first_good here turns (row_at p turns) (W.rows turns) q q i x y))
   bounds_good here initial turns r d f h s q i e k = no h
@@ -140,8 +113,8 @@ module _ (p : ProgramRows) (W : WholeTables p) where
   counted : (here : Here) (row : ℕ) (i last : ℤ) (r : Row) (d : Inside p W (length here.records) row) → RowFits p row r → is_turns_row r ≡ true
       → ScopedRow p W.around row r
       → is_turns_row (row_at p row) ≡ true → Inside p W (length here.records) row → Good p W Anything (of_count row here i last r)
-  counted here row i last (rows.Statement (statement.Turns direction last' place of' body)) d f h s q k =
-      good_after p W Anything here.line (write (moved here.base place) (value.Number i)) _ (write_meant (moved here.base place) (value.Number i)) (λ _.
+  counted here row i last (Row.Statement (StatementRow.Turns direction last' place of' body)) d f h s q k =
+      good_after p W Anything here.line (write (moved here.base place) (Value.Number i)) _ (write_meant (moved here.base place) (Value.Number i)) (λ _.
       ((f.2, (in_part p W d s.1.0)), λ out g. normally _ (turn_ended here row direction place i last q k) out))
   counted here row i last r d f h s q k = no h
 
@@ -149,9 +122,9 @@ module _ (p : ProgramRows) (W : WholeTables p) where
 
   turned : (here : Here) (row : ℕ) (r : Row) (d : Inside p W (length here.records) row) → RowFits p row r → is_turn_row r ≡ true → ScopedRow p W.around row r
       → is_turn_row (row_at p row) ≡ true → Inside p W (length here.records) row → Good p W Anything (of_turn row here r)
-  turned here row (rows.Statement (statement.While line condition body)) d f h s q k = good_eval p W Anything condition here _ f.0 (in_part p W d s.0) (λ v.
+  turned here row (Row.Statement (StatementRow.While line condition body)) d f h s q k = good_eval p W Anything condition here _ f.0 (in_part p W d s.0) (λ v.
       good_if p W Anything (is_true v) _ nothing (λ _. ((f.1, (in_part p W d s.1.0)), λ out g. normally _ (done (Turn row here) (q, k)) out)) (λ _. tt))
-  turned here row (rows.Statement (statement.Repeat line statements condition)) d f h s q k = (
+  turned here row (Row.Statement (StatementRow.Repeat line statements condition)) d f h s q k = (
     (f.0, f.0, (in_part p W d s.0), (in_part p W d s.0)),
     λ out g. normally _ (good_eval p W Anything condition here _ f.1 (in_part p W d s.1.0) (λ v.
         good_if p W Anything (is_true v) nothing _ (λ _. tt) (λ _. done (Turn row here) (q, k)))) out,
@@ -165,7 +138,7 @@ module _ (p : ProgramRows) (W : WholeTables p) where
   array_good n go h g = by (row_at p n) h
     where
       by : (r : Row) → is_access_to is_array_type p r ≡ true → Good p W Anything (with_array p r go)
-      by (rows.Access a) e = good_components p W Anything (type_accessed a) (row_at p (type_accessed a)) _ (W.rows (type_accessed a)) e (λ c. g _ c)
+      by (Row.Access a) e = good_components p W Anything (type_accessed a) (row_at p (type_accessed a)) _ (W.rows (type_accessed a)) e (λ c. g _ c)
       by r e = no e
 
   copied : (here : Here) (packing : Bool) (from to cells : ℕ) → Good p W Anything
@@ -179,7 +152,7 @@ module _ (p : ProgramRows) (W : WholeTables p) where
       good_after p W Anything here.line (first_moved wide close a v) _ (moved_meant wide close a v) (λ at. copied here packing at z cells)))
 
   array_is_access : (r : Row) → is_access_to is_array_type p r ≡ true → is_access_to is_some p r ≡ true
-  array_is_access (rows.Access a) h = by (type_at p (type_accessed a)) h
+  array_is_access (Row.Access a) h = by (type_at p (type_accessed a)) h
     where
       by : (t : Option TypeRow) → is_array_type t ≡ true → is_some t ≡ true
       by None e = no e
@@ -220,7 +193,7 @@ module _ (p : ProgramRows) (W : WholeTables p) where
     where
       looked : (r : Row) (d : Inside p W (length here.records) at) → RowFits p at r → ScopedRow p W.around at r
           → is_element_of (is_statement p) r ≡ true → Found (Listed here) (item_labelled p r at label (along (Labels label) n))
-      looked (rows.Item (item.Element x nx)) d g s c =
+      looked (Row.Item (item.Element x nx)) d g s c =
           let l = g.0 c in
           found_if (Listed here) (has_label (row_at p x) label) (Some (Some at)) _ (λ _. (or_right (is_end at) _ h, t))
           (λ _. found_on p (Listed here) at nx (along (Labels label) n) l.1
@@ -246,7 +219,7 @@ module _ (p : ProgramRows) (W : WholeTables p) where
     where
       looked : (r : Row) (d : Inside p W (length here.records) at) → RowFits p at r → ScopedRow p W.around at r
           → is_choice_of (is_statement p) r ≡ true → Found (Chosen here) (choose_at r at i (along (Choices i) n))
-      looked (rows.Item (item.Choice v c nx)) d g s hc =
+      looked (Row.Item (item.Choice v c nx)) d g s hc =
           let l = g.0 hc in
           found_if (Chosen here) (int_eq v i) (Some (Some c)) _ (λ _. (hc, (in_part p W d s.0)))
           (λ _. found_on p (Chosen here) at nx (along (Choices i) n) l.1
@@ -266,7 +239,7 @@ module _ (p : ProgramRows) (W : WholeTables p) where
 
   case_good : (here : Here) (choices : ℕ) → is_list (is_choice_of (is_statement p)) p choices ≡ true → Inside p W (length here.records) choices → (v : Value)
       → Good p W Anything (chosen_by p here choices v)
-  case_good here choices h s (value.Number i) =
+  case_good here choices h s (Value.Number i) =
       chosen_good here (choice_of p (length p.rows) choices i) (branch_found here choices i h s)
   case_good here choices h s v = tt
 
@@ -287,7 +260,7 @@ module _ (p : ProgramRows) (W : WholeTables p) where
   sequence_item : (here : Here) (first at : ℕ) (r : Row) (d : Inside p W (length here.records) at) → RowFits p at r → ScopedRow p W.around at r
       → is_element_of (is_statement p) r ≡ true
       → Listed here first → Good p W Anything (of_sequence p here first r)
-  sequence_item here first at (rows.Item (item.Element s nx)) d f k h l =
+  sequence_item here first at (Row.Item (item.Element s nx)) d f k h l =
       ((h, (in_part p W d k.0)), λ out g. after_statement here first nx l ((f.0 h).0, (in_part p W d k.1.0)) out)
   sequence_item here first at r d f k h l = no h
 
@@ -298,7 +271,7 @@ module _ (p : ProgramRows) (W : WholeTables p) where
   length_more (m ∷ ns) n = let e = length_more ns n in omega (arith, e)
 
   record_is_access : (r : Row) → is_access_to is_record_type p r ≡ true → is_access_to is_some p r ≡ true
-  record_is_access (rows.Access a) h = by (type_at p (type_accessed a)) h
+  record_is_access (Row.Access a) h = by (type_at p (type_accessed a)) h
     where
       by : (t : Option TypeRow) → is_record_type t ≡ true → is_some t ≡ true
       by None e = no e
@@ -308,7 +281,7 @@ module _ (p : ProgramRows) (W : WholeTables p) where
   -- what needs so many records around it is well inside of more
   item_more : (w v body : ℕ) (More Others : (records at : ℕ) → Type 0) (r : Row) → w ≤ v → ((at : ℕ) → More (w + 1) at → Others (v + 1) at)
       → ScopedItem W.around More w body r → ScopedItem W.around Others v body r
-  item_more w v body More Others (rows.Item (item.Element a nx)) l k s = (omega (arith, l, s.0), k nx s.1)
+  item_more w v body More Others (Row.Item (item.Element a nx)) l k s = (omega (arith, l, s.0), k nx s.1)
   item_more w v body More Others r l k s = omega (arith, l, s)
 
   more_records : (n w v at body : ℕ) → w ≤ v → ScopedRecords p W.around n w at body → ScopedRecords p W.around n v at body
@@ -318,7 +291,7 @@ module _ (p : ProgramRows) (W : WholeTables p) where
 
   record_good : (here : Here) (at body n : ℕ) (r : Row) → RowFits p at r → is_element_of (is_record_access p) r ≡ true → is_statement p body ≡ true
       → ScopedItem W.around (λ v nx. ScopedRecords p W.around n v nx body) (length here.records) body r → Good p W Anything (of_records here body r)
-  record_good here at body n (rows.Item (item.Element a nx)) f h b s =
+  record_good here at body n (Row.Item (item.Element a nx)) f h b s =
       good_locate p W Anything a here _ (record_is_access (row_at p a) h) (record { there = s.0 }) (λ addr.
       done (Establish nx body (inside here addr)) (
         (f.1 h).0,
@@ -333,7 +306,7 @@ module _ (p : ProgramRows) (W : WholeTables p) where
 
   scoped_at_end : (w body : ℕ) (More : (records at : ℕ) → Type 0) (r : Row) → is_some (type_in r) ≡ true
       → ScopedItem W.around More w body r → Inside p W w body
-  scoped_at_end w body More (rows.Type t) h s = record { there = s }
+  scoped_at_end w body More (Row.Type t) h s = record { there = s }
   scoped_at_end w body More r h s = no h
 
   type_at_end : (at : ℕ) → is_end at ≡ true → is_some (type_at p at) ≡ true
@@ -364,14 +337,14 @@ module _ (p : ProgramRows) (W : WholeTables p) where
 
   received_row : (here : Here) (a nx : ℕ) (q : Row) → is_access_to is_ordinal_type p q ≡ true → is_access p a ≡ true → Inside p W (length here.records) a
       → (is_list (is_element_of (is_read_access p)) p nx ≡ true) → Inside p W (length here.records) nx → Good p W Anything (received p here a nx q)
-  received_row here a nx (rows.Access x) h e s l i = host_good Anything (type_accessed x) (type_at p (type_accessed x)) _ h (λ host.
+  received_row here a nx (Row.Access x) h e s l i = host_good Anything (type_accessed x) (type_at p (type_accessed x)) _ h (λ host.
       read_for_good here host (into p here a (type_accessed x) nx) (λ v. good_target p W Anything a here _ e s (λ addr.
       good_after p W Anything here.line _ _ (assign_meant p W (tag_accessed p (row_at p a)) (type_accessed x) addr v (target_ok p W a e)
       (ordinal_is_simple (type_at p (type_accessed x)) h)) (λ _. done (Receive nx here) (l, i)))))
   received_row here a nx q h e s l i = no h
 
   read_is_access : (r : Row) → is_access_to is_ordinal_type p r ≡ true → is_access_to is_some p r ≡ true
-  read_is_access (rows.Access a) h = by (type_at p (type_accessed a)) h
+  read_is_access (Row.Access a) h = by (type_at p (type_accessed a)) h
     where
       by : (t : Option TypeRow) → is_ordinal_type t ≡ true → is_some t ≡ true
       by None e = no e
@@ -381,7 +354,7 @@ module _ (p : ProgramRows) (W : WholeTables p) where
   received_item : (here : Here) (at : ℕ) (r : Row) (d : Inside p W (length here.records) at) → RowFits p at r → ScopedRow p W.around at r
       → is_element_of (is_read_access p) r ≡ true
       → Good p W Anything (of_received p here r)
-  received_item here at (rows.Item (item.Element a nx)) d f s h =
+  received_item here at (Row.Item (item.Element a nx)) d f s h =
       received_row here a nx (row_at p a) h (read_is_access (row_at p a) h) (in_part p W d s.0) ((f.2 h).0) (in_part p W d s.1.0)
   received_item here at r d f s h = no h
 
@@ -423,9 +396,9 @@ module _ (p : ProgramRows) (W : WholeTables p) where
   printed_item : (here : Here) (at : ℕ) (r : Row) (d : Inside p W (length here.records) at) → RowFits p at r → ScopedRow p W.around at r
       → is_written_item r ≡ true
       → Good p W Anything (of_printed p here r)
-  printed_item here at (rows.Item (item.Written v of' nx)) d f s h =
+  printed_item here at (Row.Item (item.Written v of' nx)) d f s h =
       text_good here v of' (λ text. print here nx text None) f.0.0 f.0.1 (in_part p W d s.0) (λ text. printed here nx text None f.1.0 (in_part p W d s.1.0))
-  printed_item here at (rows.Item (item.WrittenWide v of' width nx)) d f s h = text_good here v of' (λ text. eval width here (λ w. print here nx text (Some w)))
+  printed_item here at (Row.Item (item.WrittenWide v of' width nx)) d f s h = text_good here v of' (λ text. eval width here (λ w. print here nx text (Some w)))
       f.0.0 f.0.1 (in_part p W d s.0) (λ text. good_eval p W Anything width here (λ w. print here nx text (Some w)) f.1 (in_part p W d s.1.0)
       (λ w. printed here nx text (Some w) f.2.0 (in_part p W d s.1.1.0)))
   printed_item here at r d f s h = no h
@@ -440,65 +413,65 @@ module _ (p : ProgramRows) (W : WholeTables p) where
   statement_good : (n : ℕ) (here : Here) (r : Row) (d : Inside p W (length here.records) n) → row_at p n ≡ r → RowFits p n r → ScopedRow p W.around n r
       → Inside p W (length here.records) n
       → is_statement_row r ≡ true → Good p W Anything (statement_in p n here r)
-  statement_good n here (rows.Statement statement.Empty) d q f s i h = λ _. tt
-  statement_good n here (rows.Statement (statement.Assign line target e of')) d q f s i h =
+  statement_good n here (Row.Statement StatementRow.Empty) d q f s i h = λ _. tt
+  statement_good n here (Row.Statement (StatementRow.Assign line target e of')) d q f s i h =
       good_value p W Anything of' e (record here { line = line }) (on_value p (record here { line = line }) target of') f.1 (in_part p W d s.1.0)
       (λ t out g. put_scalar (record here { line = line }) target of' f.0 (in_part p W d s.0) t out g)
       (λ out g. put_cells (record here { line = line }) target of' f.0 (in_part p W d s.0) out g)
-  statement_good n here (rows.Statement (statement.Call line routine levels actuals)) d q f s i h =
+  statement_good n here (Row.Statement (StatementRow.Call line routine levels actuals)) d q f s i h =
       call_good p W Anything (record here { line = line }) routine levels actuals _ f.0 f.1 (in_part p W d s.0) (λ out g. normally nothing tt out)
-  statement_good n here (rows.Statement (statement.CallFormal line formal levels actuals)) d q f s i h =
+  statement_good n here (Row.Statement (StatementRow.CallFormal line formal levels actuals)) d q f s i h =
       call_formal_good p W Anything (record here { line = line }) formal levels actuals _ f.0 f.1 (in_part p W d s.0)
       (λ heading routine e m out g. normally nothing tt out)
-  statement_good n here (rows.Statement (statement.Goto line label levels)) d q f s i h =
+  statement_good n here (Row.Statement (StatementRow.Goto line label levels)) d q f s i h =
       good_after p W Anything line (frame_out levels here.base) _ (frame_meant levels here.base) (λ base. tt)
-  statement_good n here (rows.Statement (statement.Labelled label inner)) d q f s i h = good_if p W Anything (nat_lt n inner) _ Meaningless
+  statement_good n here (Row.Statement (StatementRow.Labelled label inner)) d q f s i h = good_if p W Anything (nat_lt n inner) _ Meaningless
       (λ _. ((f.0, (in_part p W d s.0)), λ out g. labelled_out n label here (ap is_statement_row q ∙ refl) i out)) (λ e. no (sym e ∙ f.1))
-  statement_good n here (rows.Statement (statement.Compound statements)) d q f s i h =
+  statement_good n here (Row.Statement (StatementRow.Compound statements)) d q f s i h =
       λ _. done (Sequence statements statements here) (f, f, (in_part p W d s.0), (in_part p W d s.0))
-  statement_good n here (rows.Statement (statement.If line condition then')) d q f s i h =
+  statement_good n here (Row.Statement (StatementRow.If line condition then')) d q f s i h =
       good_eval p W Anything condition (record here { line = line }) _ f.0 (in_part p W d s.0) (λ v.
       good_if p W Anything (is_true v) _ nothing (λ _. done (Exec then' (record here { line = line })) (f.1, (in_part p W d s.1.0))) (λ _. tt))
-  statement_good n here (rows.Statement (statement.IfElse line condition then' otherwise)) d q f s i h =
+  statement_good n here (Row.Statement (StatementRow.IfElse line condition then' otherwise)) d q f s i h =
       good_eval p W Anything condition (record here { line = line }) _ f.0 (in_part p W d s.0) (λ v.
       good_if p W Anything (is_true v) _ _ (λ _. done (Exec then' (record here { line = line })) (f.1, (in_part p W d s.1.0)))
       (λ _. done (Exec otherwise (record here { line = line })) (f.2, (in_part p W d s.1.1.0))))
-  statement_good n here (rows.Statement (statement.Case line selector choices)) d q f s i h =
+  statement_good n here (Row.Statement (StatementRow.Case line selector choices)) d q f s i h =
       good_eval p W Anything selector (record here { line = line }) _ f.0 (in_part p W d s.0)
       (case_good (record here { line = line }) choices f.1 (in_part p W d s.1.0))
-  statement_good n here (rows.Statement (statement.Repeat line statements condition)) d q f s i h =
+  statement_good n here (Row.Statement (StatementRow.Repeat line statements condition)) d q f s i h =
       done (Turn n (record here { line = line })) (ap is_turn_row q ∙ refl, i)
-  statement_good n here (rows.Statement (statement.While line condition body)) d q f s i h =
+  statement_good n here (Row.Statement (StatementRow.While line condition body)) d q f s i h =
       done (Turn n (record here { line = line })) (ap is_turn_row q ∙ refl, i)
-  statement_good n here (rows.Statement (statement.For line initial turns)) d q f s i h =
+  statement_good n here (Row.Statement (StatementRow.For line initial turns)) d q f s i h =
       let t = opened p W (record here { line = line }) turns (in_part p W d s.1.0) in
       bounds_good (record here { line = line }) initial turns (row_at p turns) t.0 (W.rows turns) f.1 t.1 f.1 (in_part p W d s.1.0) f.0 (in_part p W d s.0)
-  statement_good n here (rows.Statement (statement.Turns direction last place of' body)) d q f s i h = no h
-  statement_good n here (rows.Statement (statement.With line records' body)) d q f s i h =
+  statement_good n here (Row.Statement (StatementRow.Turns direction last place of' body)) d q f s i h = no h
+  statement_good n here (Row.Statement (StatementRow.With line records' body)) d q f s i h =
       done (Establish records' body (record here { line = line })) (
         f.0,
         f.1,
         (length p.rows, more_records (length p.rows) (W.around n) (length here.records) records' body d.there s),
       )
-  statement_good n here (rows.Statement (statement.Read ends_line line actuals)) d q f s i h = (
+  statement_good n here (Row.Statement (StatementRow.Read ends_line line actuals)) d q f s i h = (
     (f, (in_part p W d s.0)),
     λ out g. normally _
         (good_if p W Anything ends_line _ nothing (λ _. done (RestOfLine (record here { line = line })) tt) (λ _. tt)) out,
   )
-  statement_good n here (rows.Statement (statement.Write ends_line line actuals)) d q f s i h = (
+  statement_good n here (Row.Statement (StatementRow.Write ends_line line actuals)) d q f s i h = (
     (f, (in_part p W d s.0)),
     λ out g. normally _
         (good_if p W Anything ends_line _ nothing (λ _. ended (record here { line = line }) end_line end_line_meant) (λ _. tt)) out,
   )
-  statement_good n here (rows.Statement (statement.Page line)) d q f s i h = ended (record here { line = line }) end_page end_page_meant
-  statement_good n here (rows.Statement (statement.New line a of')) d q f s i h = good_size p W Anything (type_at p of') _ f.1 (λ cells.
+  statement_good n here (Row.Statement (StatementRow.Page line)) d q f s i h = ended (record here { line = line }) end_page end_page_meant
+  statement_good n here (Row.Statement (StatementRow.New line a of')) d q f s i h = good_size p W Anything (type_at p of') _ f.1 (λ cells.
       good_after p W Anything line (made_variable cells of') (point (record here { line = line }) a) (made_meant cells of')
       (λ v. good_target p W Anything a (record here { line = line }) _ f.0 (in_part p W d s.0) (λ addr.
       ended (record here { line = line }) (write addr v) (write_meant addr v))))
-  statement_good n here (rows.Statement (statement.Dispose line e of')) d q f s i h =
+  statement_good n here (Row.Statement (StatementRow.Dispose line e of')) d q f s i h =
       good_eval p W Anything e (record here { line = line }) _ f.0 (in_part p W d s.0) (λ v.
       good_size p W Anything (type_at p of') _ f.1 (λ cells. ended (record here { line = line }) (dispose cells v) (dispose_meant cells v)))
-  statement_good n here (rows.Statement (statement.Pack packing line unpacked index packed)) d q f s i h =
+  statement_good n here (Row.Statement (StatementRow.Pack packing line unpacked index packed)) d q f s i h =
       packed_good (record here { line = line }) packing unpacked index packed f.0 f.1 f.2 (in_part p W d s.0) (in_part p W d s.1.0) (in_part p W d s.1.1.0)
   statement_good n here r d q f s i h = no h
 
@@ -527,8 +500,8 @@ module _ (p : ProgramRows) (W : WholeTables p) where
 
   result_row : (n line addr : ℕ) (r : Row) → RowFits p n r → has_result (signature_in r) ≡ true
       → Good p W OneCell (result_of_type line addr (type_in_heading p r))
-  result_row n line addr (rows.Part (part.Heading name sections (Some t))) f h = result_type_good line addr (type_at p t) (f.1 t refl)
-  result_row n line addr (rows.Part (part.Heading name sections None)) f h = no h
+  result_row n line addr (Row.Part (PartRow.Heading name sections (Some t))) f h = result_type_good line addr (type_at p t) (f.1 t refl)
+  result_row n line addr (Row.Part (PartRow.Heading name sections None)) f h = no h
   result_row n line addr r f h = no h
 
   normally_to : (k : Takes) (t : ActTree) → Good p W k t → (out : Out) → Good p W k (on_normal t out)

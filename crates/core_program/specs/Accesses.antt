@@ -1,44 +1,18 @@
 -- What each access does (6.5), and the parts of constructs that evaluate and locate.
-use Rattle.std.specs.Prelude.{ℕ, ℤ, Bool, true, false, List, [], Option, Some, None, nat_lt, slice_get, if◌then◌else◌}
+use Rattle.std.specs.Prelude.{if◌then◌else◌, [], ℕ, ℤ, Bool, List, None, Option, Some, false, nat_lt, slice_get, true}
 use Rattle.cell_value.specs.declared.values.Value.{Value}
-use Rattle.core_program.specs.declared.rows.Row.{Row}
-use Rattle.core_program.specs.declared.rows.Row.TheVariants as rows
+use Rattle.core_program.specs.{Headings.heading_in, declared.rows.Row.Row, declared.rows.TypeRow.TypeRow}
+use Rattle.core_program.specs.ProgramRows.{ProgramRows, cells_in, row_at, type_at}
+use Rattle.core_program.specs.declared.rows.AccessRow.{AccessRow, TheVariants.Within}
+use Rattle.core_program.specs.declared.rows.AccessRow.TheVariants.{Dereference, Field, Index, Reference, Variable}
 use Rattle.core_program.specs.declared.rows.NameRow.TheVariants as named
-use Rattle.core_program.specs.declared.rows.AccessRow.{AccessRow}
-use Rattle.core_program.specs.declared.rows.AccessRow.TheVariants.{
-  Variable,
-  Reference,
-  Within,
-  Index,
-  Field,
-  Dereference,
-}
-use Rattle.core_program.specs.declared.rows.TypeRow.{TypeRow}
-use Rattle.core_program.specs.declared.rows.TypeRow.TheVariants.{Ordinal, Subrange, Set, Pointer, Array, Record}
-use Rattle.core_program.specs.ProgramRows.{ProgramRows, row_at, type_at, cells_in}
-use Rattle.core_program.specs.Headings.{heading_in}
+use Rattle.core_program.specs.declared.rows.Row.TheVariants as rows
+use Rattle.core_program.specs.declared.rows.TypeRow.TheVariants.{Array, Ordinal, Pointer, Record, Set, Subrange}
 pub use Rattle.core_program.specs.WholeTables.{is_end, type_accessed}
-use Rattle.core_program.specs.declared.components.Components.{Components}
-use Rattle.core_program.specs.Acts.{Spend}
-use Rattle.core_program.specs.Tree.{
-  Out,
-  Scalar,
-  Cells,
-  Address,
-  Jump,
-  Here,
-  Eval,
-  Locate,
-  ActTree,
-  Ret,
-  Meaningless,
-  Do,
-  Sub,
-  doing,
-}
-use Rattle.core_program.specs.Cells.{read_values, ordinal_at, set_at, cell_out, reference_out, component}
-use Rattle.core_program.specs.Variants.{field_at}
-use Rattle.core_program.specs.Heap.{pointer_at, pointed_at}
+use Rattle.core_program.specs.{Acts.Spend, Heap.pointed_at, Heap.pointer_at, Tree.Scalar, Tree.Sub, Tree.doing}
+use Rattle.core_program.specs.{Variants.field_at, declared.components.Components.Components}
+use Rattle.core_program.specs.Cells.{cell_out, component, ordinal_at, read_values, reference_out, set_at}
+use Rattle.core_program.specs.Tree.{ActTree, Address, Cells, Do, Eval, Here, Jump, Locate, Meaningless, Out, Ret}
 
 -- the tables name a row that they do not have, or that is of another kind than its place takes
 abbrev pub no_row : ActTree

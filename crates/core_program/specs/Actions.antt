@@ -1,8 +1,8 @@
 -- Actions made of several acts, with an answer of any type.
-use Rattle.std.specs.Prelude.{List, [], ◌++◌}
+use Rattle.std.specs.Prelude.{◌++◌, [], List}
 use Rattle.cell_value.specs.declared.entries.Touch.{Touch}
+use Rattle.core_program.specs.Acts.{Act, ActResult, Answer, Stops, Trouble, Went, perform}
 use Rattle.core_program.specs.State.{State}
-use Rattle.core_program.specs.Acts.{Trouble, Act, Answer, ActResult, Went, Stops, perform}
 
 pub data Action (A : Type 0) : Type 0 where
   Give : (answer : A) → Action A

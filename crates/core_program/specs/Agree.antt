@@ -1,22 +1,15 @@
 -- When the record of a call stands for a run of it from another state.
-use Rattle.std.specs.Prelude.{◌≡◌, ◌<◌, ◌≤◌, ℕ, ◌+◌, ◌-◌, List, Option, Some, None, IsSome, max, map, fold}
-use Rattle.std.specs.List.{All}
-use Rattle.std.specs.FinMap.{get}
-use Rattle.std.specs.Prelude.{slice_get}
-use Rattle.cell_value.specs.declared.values.Value.{Value}
-use Rattle.cell_value.specs.declared.entries.Seen.{Seen}
-use Rattle.cell_value.specs.declared.entries.Seen.TheVariants.{Held, There, Absent}
-use Rattle.cell_value.specs.declared.ways_out.WayOut.{WayOut}
-use Rattle.cell_value.specs.declared.ways_out.WayOut.TheVariants as way
-use Rattle.cell_value.specs.Effects.{reads_of, made_of, looked_of}
-use Rattle.core_program.specs.State.{State, most_calls, most_depth}
-use Rattle.core_program.specs.Run.{Call}
-use Rattle.core_program.specs.Apply.{steps_taken}
+use Rattle.std.specs.Prelude.{◌+◌, ◌-◌, ◌<◌, ◌≡◌, ◌≤◌, ℕ, IsSome, List, None, Option, Some, fold, map, max, slice_get}
+use Rattle.std.specs.{FinMap.get, List.All}
+use Rattle.cell_value.specs.Effects.{looked_of, made_of, reads_of}
+use Rattle.cell_value.specs.declared.{values.Value.Value, ways_out.WayOut.WayOut}
+use Rattle.cell_value.specs.declared.entries.Seen.{Seen, TheVariants.Absent, TheVariants.Held, TheVariants.There}
+use Rattle.core_program.specs.{Apply.steps_taken, Run.Call, State.State, State.most_calls, State.most_depth}
 
 -- a call that ended by itself, by a jump or by a fault: neither for want of steps nor at a limit
 abbrev pub EndedByItself : WayOut → Type 0
-EndedByItself way.OutOfSteps = ⊥
-EndedByItself (way.Limited which) = ⊥
+EndedByItself WayOut.OutOfSteps = ⊥
+EndedByItself (WayOut.Limited which) = ⊥
 EndedByItself way = Unit {0}
 
 -- a cell is as it was seen

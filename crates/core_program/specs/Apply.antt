@@ -1,13 +1,10 @@
 -- The effect of a recorded call, put in place of its run: what it changes is changed, and all else stays.
-use Rattle.std.specs.Prelude.{ℕ, ◌+◌, ◌-◌, List, [], ◌∷◌, ◌++◌}
-use Rattle.std.specs.Ordering.{nat_cmp}
-use Rattle.std.specs.FinMap.{FinMap, insert, remove}
+use Rattle.std.specs.Prelude.{◌++◌, ◌+◌, ◌-◌, ◌∷◌, [], ℕ, List}
+use Rattle.std.specs.{FinMap.FinMap, FinMap.insert, FinMap.remove, Ordering.nat_cmp}
+use Rattle.cell_value.specs.Effects.{changes_of, given_of, made_of, taken_of}
+use Rattle.cell_value.specs.declared.entries.Change.{Change, TheVariants.Gone, TheVariants.Set}
 use Rattle.cell_value.specs.declared.values.Value.{Value}
-use Rattle.cell_value.specs.declared.entries.Change.{Change}
-use Rattle.cell_value.specs.declared.entries.Change.TheVariants.{Set, Gone}
-use Rattle.cell_value.specs.Effects.{changes_of, made_of, taken_of, given_of}
-use Rattle.core_program.specs.State.{State}
-use Rattle.core_program.specs.Run.{Call}
+use Rattle.core_program.specs.{Run.Call, State.State}
 
 -- cells with these changes made
 abbrev pub changed_cells : List (ℕ × Change) → FinMap nat_cmp Value → FinMap nat_cmp Value

@@ -1,9 +1,7 @@
 -- Cells side by side: those of a frame on the stack, and those of a block on the heap.
-use Rattle.std.specs.Prelude.{ℕ, zero, suc, ◌+◌, List, [], ◌∷◌, max, Bool, nat_le, ◌&&◌}
-use Rattle.std.specs.Ordering.{nat_cmp}
-use Rattle.std.specs.FinMap.{FinMap, insert, remove}
-use Rattle.cell_value.specs.declared.values.Value.{Value}
-use Rattle.cell_value.specs.Effects.{heap_end}
+use Rattle.std.specs.Prelude.{◌&&◌, ◌+◌, ◌∷◌, [], ℕ, Bool, List, max, nat_le, suc, zero}
+use Rattle.std.specs.{FinMap.FinMap, FinMap.insert, FinMap.remove, Ordering.nat_cmp}
+use Rattle.cell_value.specs.{Effects.heap_end, declared.values.Value.Value}
 use Rattle.core_program.specs.State.{stack_end}
 
 -- values in the cells from an address on

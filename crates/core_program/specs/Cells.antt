@@ -1,23 +1,16 @@
 -- Actions on cells and frames.
-use Rattle.std.specs.Prelude.{ℕ, zero, suc, ◌*◌, ℤ, ◌-ℤ◌, List, [], ◌∷◌, ◌++◌, Bool, true, false, Option, Some, None}
-use Rattle.std.specs.Prelude.{min, int_le, unsigned_abs, ◌&&◌, if◌then◌else◌}
-use Rattle.cell_value.specs.declared.values.Value.{Value}
-use Rattle.cell_value.specs.declared.values.Value.TheVariants as value
-use Rattle.cell_value.specs.declared.ways_out.Kind.TheVariants as kind
-use Rattle.core_program.specs.declared.rows.TypeRow.{TypeRow}
-use Rattle.core_program.specs.declared.components.Components.{Components}
-use Rattle.cell_value.specs.Effects.{heap_end}
-use Rattle.core_program.specs.State.{moved}
-use Rattle.core_program.specs.Acts.{Fault, ReadCell, WriteCell}
-use Rattle.core_program.specs.Actions.{Action, Give, Fail, ◌>>=◌, act}
-use Rattle.core_program.specs.ProgramRows.{ProgramRows}
-use Rattle.core_program.specs.Headings.{may_stand_for}
-use Rattle.core_program.specs.Values.{defined, defined_set, tested}
+use Rattle.std.specs.Prelude.{if◌then◌else◌, ◌&&◌, ◌*◌, ◌++◌, ◌-ℤ◌, ◌∷◌, [], ℕ, ℤ, Bool, List, None, Option, Some}
+use Rattle.std.specs.Prelude.{false, int_le, min, suc, true, unsigned_abs, zero}
+use Rattle.cell_value.specs.{Effects.heap_end, declared.values.Value.Value, declared.ways_out.Kind.Kind}
+use Rattle.core_program.specs.{Acts.Fault, Acts.ReadCell, Acts.WriteCell, Headings.may_stand_for}
+use Rattle.core_program.specs.{ProgramRows.ProgramRows, State.moved, Values.defined, Values.defined_set, Values.tested}
+use Rattle.core_program.specs.Actions.{◌>>=◌, Action, Fail, Give, act}
+use Rattle.core_program.specs.declared.{components.Components.Components, rows.TypeRow.TypeRow}
 
 -- a cell of the heap that is not there was disposed of
 abbrev pub or_disposed : Option Value → Action Value
 or_disposed (Some v) = Give v
-or_disposed None = Fail (Fault kind.Disposed)
+or_disposed None = Fail (Fault Kind.Disposed)
 
 -- the value in a cell
 abbrev pub read_value : (addr : ℕ) → Action Value
@@ -27,7 +20,7 @@ read_value addr = do
 
 abbrev pub if_there : Bool → Action (Unit {0})
 if_there true = Give tt
-if_there false = Fail (Fault kind.Disposed)
+if_there false = Fail (Fault Kind.Disposed)
 
 -- a value is put into a cell
 abbrev pub write : (addr : ℕ) → Value → Action (Unit {0})
@@ -57,8 +50,8 @@ assign p t addr v = tested p t v >>= write addr
 
 -- the base of the frame that a link names
 abbrev pub frame_of_link : Value → Action ℕ
-frame_of_link (value.Frame base) = Give base
-frame_of_link _ = Fail (Fault kind.Undefined)
+frame_of_link (Value.Frame base) = Give base
+frame_of_link _ = Fail (Fault Kind.Undefined)
 
 -- The base of the frame in which a frame's routine was declared. The link to it is the cell at the frame's base.
 abbrev pub linked : (base : ℕ) → Action ℕ
@@ -75,8 +68,8 @@ cell_out levels base place = frame_out levels base >>= λ frame. Give (moved fra
 
 -- the address of the variable that a variable parameter stands for
 abbrev pub variable_of : Value → Action ℕ
-variable_of (value.Place addr) = Give (min addr heap_end)
-variable_of _ = Fail (Fault kind.Undefined)
+variable_of (Value.Place addr) = Give (min addr heap_end)
+variable_of _ = Fail (Fault Kind.Undefined)
 
 -- the same, of a variable parameter whose cell is at an address
 abbrev pub referred : (addr : ℕ) → Action ℕ
@@ -89,9 +82,9 @@ reference_out levels base place = cell_out levels base place >>= referred
 -- The routine that a routine parameter with this heading stands for, and the frame in which that was declared. A
 -- routine that may be no actual of it counts as undefined.
 abbrev pub routine_meant : ProgramRows → (heading : ℕ) → Value → Action (ℕ × ℕ)
-routine_meant p heading (value.Routine routine frame) =
-    if may_stand_for p heading routine then Give (routine, frame) else Fail (Fault kind.Undefined)
-routine_meant p heading _ = Fail (Fault kind.Undefined)
+routine_meant p heading (Value.Routine routine frame) =
+    if may_stand_for p heading routine then Give (routine, frame) else Fail (Fault Kind.Undefined)
+routine_meant p heading _ = Fail (Fault Kind.Undefined)
 
 -- the same, of a routine parameter whose cell is at an address
 abbrev pub routine_held : ProgramRows → (heading addr : ℕ) → Action (ℕ × ℕ)
@@ -103,9 +96,9 @@ routine_out p heading levels base place = cell_out levels base place >>= routine
 
 -- how far an ordinal stands from the least of its type
 abbrev pub position_between : (least greatest : ℤ) → Value → Action ℕ
-position_between least greatest (value.Number n) =
-    if int_le least n && int_le n greatest then Give (unsigned_abs (n -ℤ least)) else Fail (Fault kind.OutOfRange)
-position_between least greatest _ = Fail (Fault kind.Undefined)
+position_between least greatest (Value.Number n) =
+    if int_le least n && int_le n greatest then Give (unsigned_abs (n -ℤ least)) else Fail (Fault Kind.OutOfRange)
+position_between least greatest _ = Fail (Fault Kind.Undefined)
 
 -- the component of an array variable at an address, by the value of its index (6.5.3.2)
 abbrev pub component : Components → (addr : ℕ) → Value → Action ℕ

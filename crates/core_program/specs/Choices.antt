@@ -1,11 +1,8 @@
 -- What is looked for among items, and what a constant chooses.
-use Rattle.std.specs.Prelude.{ℕ, zero, suc, ℤ, Option, Some, None, nat_lt, if◌then◌else◌}
+use Rattle.std.specs.Prelude.{if◌then◌else◌, ℕ, ℤ, None, Option, Some, nat_lt, suc, zero}
 use Rattle.std.specs.Ordering.{int_eq}
-use Rattle.core_program.specs.declared.rows.Row.{Row}
-use Rattle.core_program.specs.declared.rows.Row.TheVariants as rows
-use Rattle.core_program.specs.declared.rows.ItemRow.TheVariants as item
-use Rattle.core_program.specs.ProgramRows.{ProgramRows, row_at}
-use Rattle.core_program.specs.WholeTables.{is_end}
+use Rattle.core_program.specs.{ProgramRows.ProgramRows, ProgramRows.row_at, WholeTables.is_end}
+use Rattle.core_program.specs.declared.rows.{ItemRow.ItemRow, Row.Row}
 
 -- What was found in a list, if it is there. There is no answer where the list does not end as it says.
 abbrev pub Sought : Type 0
@@ -27,7 +24,7 @@ along look (suc n) at = look at (along look n)
 -- The statement that a case constant chooses, or the variant that a constant of a variant part chooses, among those
 -- from an item on (6.8.3.5, 6.4.3.3).
 abbrev pub choose_at : Row → ℕ → ℤ → (ℕ → Sought) → Sought
-choose_at (rows.Item (item.Choice constant chosen next)) at i go =
+choose_at (Row.Item (ItemRow.Choice constant chosen next)) at i go =
     if int_eq constant i then Some (Some chosen) else on_to at next go
 choose_at r at i go = None
 

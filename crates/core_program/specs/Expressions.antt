@@ -1,72 +1,19 @@
 -- What each expression does (6.7), with function designators, actual parameters and set constructors.
-use Rattle.std.specs.Prelude.{ℕ, List, [], ◌∷◌, ◌++◌, not, Option, Some, None, Result, slice_get}
-use Rattle.cell_value.specs.Arithmetic.{arith_of}
-use Rattle.cell_value.specs.declared.faults.OpFault.{OpFault}
-use Rattle.cell_value.specs.declared.values.Value.{Value}
-use Rattle.cell_value.specs.declared.values.Value.TheVariants as value
-use Rattle.core_program.specs.declared.program.Routine.{Routine}
-use Rattle.core_program.specs.declared.rows.Row.{Row}
-use Rattle.core_program.specs.declared.rows.Row.TheVariants as rows
-use Rattle.core_program.specs.declared.rows.ItemRow.TheVariants as item
-use Rattle.core_program.specs.declared.rows.TypeRow.{TypeRow}
-use Rattle.core_program.specs.declared.rows.ExpressionRow.{ExpressionRow}
-use Rattle.core_program.specs.declared.rows.ExpressionRow.TheVariants.{
-  Constant,
-  Text,
-  Nil,
-  Sign,
-  Not,
-  Arithmetic,
-  Logic,
-  Sets,
-  Compare,
-  CompareTexts,
-  CompareSets,
-  ComparePointers,
-  In,
-  Set,
-  Apply,
-  ApplyFormal,
-  Function,
-  Eof,
-  Eoln,
-}
-use Rattle.core_program.specs.ProgramRows.{ProgramRows, row_at, type_at, routine_at}
-use Rattle.core_program.specs.Tree.{Out, Scalar, Cells, Jump, Here, Eval, Pass, Gather, ActTree, Ret, Sub, Enter}
-use Rattle.core_program.specs.Tree.{doing}
-use Rattle.core_program.specs.Values.{
-  or_fault,
-  tested,
-  truth,
-  is_true,
-  with_sign_of,
-  logic_of,
-  comparison,
-  function_of,
-  sets_of,
-  sets_compared,
-  in_set,
-  no_members,
-  members_added,
-  string_of,
-  texts_compared,
-}
-use Rattle.core_program.specs.Actions.{Action, Give, ◌>>=◌}
-use Rattle.core_program.specs.Input.{at_end, at_line_end}
-use Rattle.core_program.specs.Cells.{frame_out, routine_out}
-use Rattle.core_program.specs.Heap.{pointers_compared}
-use Rattle.core_program.specs.Accesses.{
-  no_row,
-  spend,
-  on_cells,
-  eval,
-  eval_cells,
-  locate,
-  scalar,
-  type_accessed,
-  value_at,
-  with_formal,
-}
+use Rattle.std.specs.Prelude.{◌++◌, ◌∷◌, [], ℕ, List, None, Option, Result, Some, not, slice_get}
+use Rattle.cell_value.specs.{Arithmetic.arith_of, declared.faults.OpFault.OpFault, declared.values.Value.Value}
+use Rattle.core_program.specs.{Accesses.value_at, Accesses.with_formal, Actions.◌>>=◌, Actions.Action, Actions.Give}
+use Rattle.core_program.specs.{Cells.frame_out, Cells.routine_out, Heap.pointers_compared, Input.at_end}
+use Rattle.core_program.specs.{Input.at_line_end, Values.with_sign_of, declared.program.Routine.Routine}
+use Rattle.core_program.specs.Accesses.{eval, eval_cells, locate, no_row, on_cells, scalar, spend, type_accessed}
+use Rattle.core_program.specs.ProgramRows.{ProgramRows, routine_at, row_at, type_at}
+use Rattle.core_program.specs.Tree.{ActTree, Cells, Enter, Eval, Gather, Here, Jump, Out, Pass, Ret, Scalar, Sub, doing}
+use Rattle.core_program.specs.Values.{comparison, function_of, in_set, is_true, logic_of, members_added, no_members}
+use Rattle.core_program.specs.Values.{or_fault, sets_compared, sets_of, string_of, tested, texts_compared, truth}
+use Rattle.core_program.specs.declared.rows.{ExpressionRow.ExpressionRow, ItemRow.ItemRow, Row.Row, TypeRow.TypeRow}
+use Rattle.core_program.specs.declared.rows.ExpressionRow.TheVariants.{Apply, ApplyFormal, Arithmetic, Compare}
+use Rattle.core_program.specs.declared.rows.ExpressionRow.TheVariants.{ComparePointers, CompareSets, CompareTexts}
+use Rattle.core_program.specs.declared.rows.ExpressionRow.TheVariants.{Constant, Eof, Eoln, Function, In, Logic, Nil}
+use Rattle.core_program.specs.declared.rows.ExpressionRow.TheVariants.{Not, Set, Sets, Sign, Text}
 
 -- the result of an operation as a value, or its fault
 abbrev pub operation_result : Here → Result Value OpFault → ActTree
@@ -83,12 +30,12 @@ with_frame_size (Some r) go = go r.cells
 abbrev pub call : ProgramRows → Here → (routine levels actuals : ℕ) → (Out → ActTree) → ActTree
 call p here routine levels actuals go = Sub (Pass actuals [] here) (on_cells (λ args.
     with_frame_size (routine_at p routine) (λ cells. doing here.line (frame_out levels here.base) (λ frame.
-    Enter routine cells (value.Frame frame ∷ args) go))))
+    Enter routine cells (Value.Frame frame ∷ args) go))))
 
 -- a routine is entered with its link and the cells of its parameters, unless a limit forbids it
 abbrev pub enter : ProgramRows → (routine frame : ℕ) → List Value → (Out → ActTree) → ActTree
 enter p routine frame args go =
-    with_frame_size (routine_at p routine) (λ cells. Enter routine cells (value.Frame frame ∷ args) go)
+    with_frame_size (routine_at p routine) (λ cells. Enter routine cells (Value.Frame frame ∷ args) go)
 
 -- The call of a routine parameter: the actual parameters, then the links to the frame that has the parameter, its cell,
 -- and the routine that it stands for is entered, with a link to the frame in which that was declared (6.6.3.4,
@@ -107,9 +54,9 @@ string_in (Some text) = Ret (Cells (string_of text))
 -- An expression, once its step is taken. Operands are evaluated from left to right, and both operands of `and` and of
 -- `or` always.
 abbrev pub of_expression : ProgramRows → Here → ExpressionRow → ActTree
-of_expression p here (Constant n) = scalar (value.Number n)
+of_expression p here (Constant n) = scalar (Value.Number n)
 of_expression p here (Text token) = string_in (slice_get p.texts token)
-of_expression p here Nil = scalar value.Nil
+of_expression p here Nil = scalar Value.Nil
 of_expression p here (Sign minus operand) = eval operand here (λ v. operation_result here (with_sign_of minus v))
 of_expression p here (Not operand) = eval operand here (λ v. scalar (truth (not (is_true v))))
 of_expression p here (Arithmetic operator left right) =
@@ -138,8 +85,8 @@ of_expression p here Eoln = doing here.line at_line_end scalar
 
 -- An access that is used for its value takes no step beside its own.
 abbrev pub expression_in : ProgramRows → (row : ℕ) → Here → Row → ActTree
-expression_in p row here (rows.Expression e) = spend here (of_expression p here e)
-expression_in p row here (rows.Access a) = locate row here (λ addr.
+expression_in p row here (Row.Expression e) = spend here (of_expression p here e)
+expression_in p row here (Row.Access a) = locate row here (λ addr.
     value_at p here.line addr (type_at p (type_accessed a)))
 expression_in p row here r = no_row
 
@@ -154,17 +101,17 @@ on_actual p here t go out = no_row
 -- A routine as an actual parameter, whose name takes a step, is passed with the frame in which it was declared.
 abbrev pub pass_routine : Here → (next : ℕ) → List Value → Action (ℕ × ℕ) → ActTree
 pass_routine here next passed found = spend here (doing here.line found (λ (routine, frame).
-    Sub (Pass next (passed ++ value.Routine routine frame ∷ []) here) Ret))
+    Sub (Pass next (passed ++ Value.Routine routine frame ∷ []) here) Ret))
 
 -- The actual parameters from an item on, from left to right (6.6.3.2 to 6.6.3.5).
 abbrev pub of_actual : ProgramRows → List Value → Here → Row → ActTree
-of_actual p passed here (rows.Item (item.Value e of' next)) =
+of_actual p passed here (Row.Item (ItemRow.Value e of' next)) =
     Sub (Eval e here) (on_actual p here (type_at p of') (λ vs. Sub (Pass next (passed ++ vs) here) Ret))
-of_actual p passed here (rows.Item (item.Place access next)) = locate access here (λ addr.
-    Sub (Pass next (passed ++ value.Place addr ∷ []) here) Ret)
-of_actual p passed here (rows.Item (item.Routine routine levels next)) =
+of_actual p passed here (Row.Item (ItemRow.Place access next)) = locate access here (λ addr.
+    Sub (Pass next (passed ++ Value.Place addr ∷ []) here) Ret)
+of_actual p passed here (Row.Item (ItemRow.Routine routine levels next)) =
     pass_routine here next passed (frame_out levels here.base >>= λ frame. Give (routine, frame))
-of_actual p passed here (rows.Item (item.RoutineFormal formal levels next)) =
+of_actual p passed here (Row.Item (ItemRow.RoutineFormal formal levels next)) =
     with_formal (row_at p formal) (λ place heading.
     pass_routine here next passed (routine_out p heading levels here.base place))
 of_actual p passed here r = no_row
@@ -176,8 +123,8 @@ gather here next r = doing here.line (or_fault r) (λ set. Sub (Gather next set 
 -- The members of a set constructor from an item on, from left to right (6.7.1): each member, or both ends of a range,
 -- is tested directly after it is evaluated.
 abbrev pub of_members : Value → Here → Row → ActTree
-of_members set here (rows.Item (item.Member e next)) =
+of_members set here (Row.Item (ItemRow.Member e next)) =
     eval e here (λ v. gather here next (members_added set v v))
-of_members set here (rows.Item (item.Members first last next)) =
+of_members set here (Row.Item (ItemRow.Members first last next)) =
     eval first here (λ v. eval last here (λ w. gather here next (members_added set v w)))
 of_members set here r = no_row

@@ -1,22 +1,14 @@
 -- Headings by their rows, and which are congruous (6.6.3.6).
-use Rattle.std.specs.Prelude.{ℕ, zero, suc, Bool, true, false, Option, Some, None, nat_eq, ◌&&◌, length}
+use Rattle.std.specs.Prelude.{◌&&◌, ℕ, Bool, None, Option, Some, false, length, nat_eq, suc, true, zero}
+use Rattle.core_program.specs.ProgramRows.{ProgramRows, routine_at, row_at}
+use Rattle.core_program.specs.declared.headings.{FormalSection.FormalSection, Signature.Signature}
 use Rattle.core_program.specs.declared.program.Routine.{Routine}
-use Rattle.core_program.specs.declared.rows.Row.{Row}
-use Rattle.core_program.specs.declared.rows.Row.TheVariants as row
-use Rattle.core_program.specs.declared.rows.ItemRow.TheVariants as item
-use Rattle.core_program.specs.declared.rows.Mode.{Mode}
-use Rattle.core_program.specs.declared.rows.Mode.TheVariants as mode
-use Rattle.core_program.specs.declared.rows.NameRow.TheVariants as named
-use Rattle.core_program.specs.declared.rows.PartRow.TheVariants as part
-use Rattle.core_program.specs.declared.headings.Signature.{Signature}
-use Rattle.core_program.specs.declared.headings.FormalSection.{FormalSection}
-use Rattle.core_program.specs.declared.headings.FormalSection.TheVariants as section
-use Rattle.core_program.specs.ProgramRows.{ProgramRows, row_at, routine_at}
+use Rattle.core_program.specs.declared.rows.{ItemRow.ItemRow, Mode.Mode, NameRow.NameRow, PartRow.PartRow, Row.Row}
 
 -- ---- headings and their sections by rows
 
 abbrev pub signature_in : Row → Option Signature
-signature_in (row.Part (part.Heading name sections result)) = Some (record { sections = sections; result = result })
+signature_in (Row.Part (PartRow.Heading name sections result)) = Some (record { sections = sections; result = result })
 signature_in r = None
 
 -- the parameters and the result of a heading, by its number
@@ -25,17 +17,17 @@ signature_at p heading = signature_in (row_at p heading)
 
 -- the number of the heading of a routine parameter, by the row of its name
 abbrev pub heading_in : Row → Option ℕ
-heading_in (row.Name (named.RoutineFormal place level heading)) = Some heading
+heading_in (Row.Name (NameRow.RoutineFormal place level heading)) = Some heading
 heading_in r = None
 
 abbrev pub variable_type : Row → ℕ → ℕ
-variable_type (row.Name (named.Variable m of' place level)) otherwise = of'
+variable_type (Row.Name (NameRow.Variable m of' place level)) otherwise = of'
 variable_type r otherwise = otherwise
 
 abbrev pub section_in : ProgramRows → Row → Option (FormalSection × ℕ)
-section_in p (row.Item (item.Section m first count next)) =
-    Some (section.Names m (variable_type (row_at p first) first) count, next)
-section_in p (row.Item (item.RoutineSection heading next)) = Some (section.Heading heading, next)
+section_in p (Row.Item (ItemRow.Section m first count next)) =
+    Some (FormalSection.Names m (variable_type (row_at p first) first) count, next)
+section_in p (Row.Item (ItemRow.RoutineSection heading next)) = Some (FormalSection.Heading heading, next)
 section_in p r = None
 
 -- the section at a number and the number of the next one; none where the list ends
@@ -45,9 +37,9 @@ section_at p at = section_in p (row_at p at)
 -- ---- congruous lists
 
 abbrev pub same_mode : Mode → Mode → Bool
-same_mode mode.Own mode.Own = true
-same_mode mode.Value mode.Value = true
-same_mode mode.Place mode.Place = true
+same_mode Mode.Own Mode.Own = true
+same_mode Mode.Value Mode.Value = true
+same_mode Mode.Place Mode.Place = true
 same_mode m n = false
 
 abbrev pub same_result : Option ℕ → Option ℕ → Bool
@@ -62,9 +54,9 @@ signatures_match lists g h = false
 
 -- both by value or both `var`, with equally many names and the same type; or headings that match
 abbrev pub sections_match : ProgramRows → (lists : ℕ → ℕ → Bool) → FormalSection → FormalSection → Bool
-sections_match p lists (section.Names m a count) (section.Names n b other) =
+sections_match p lists (FormalSection.Names m a count) (FormalSection.Names n b other) =
     same_mode m n && nat_eq count other && nat_eq a b
-sections_match p lists (section.Heading g) (section.Heading h) =
+sections_match p lists (FormalSection.Heading g) (FormalSection.Heading h) =
     signatures_match lists (signature_at p g) (signature_at p h)
 sections_match p lists s t = false
 

@@ -1,17 +1,11 @@
 -- Actions on the input, one turn of each loop at a time (6.6.6.5, 6.9.1, 6.9.2).
-use Rattle.std.specs.Prelude.{ℕ, ◌+◌, ◌-◌, ◌*◌, ℤ, pos, neg_ℤ, Bool, true, false, ◌==◌, ◌||◌, ◌&&◌, if◌then◌else◌}
-use Rattle.std.specs.Prelude.{Option, Some, None, is_none, min, nat_le}
-use Rattle.cell_value.specs.Arithmetic.{integer}
-use Rattle.cell_value.specs.declared.values.Value.{Value}
-use Rattle.cell_value.specs.declared.values.Value.TheVariants as value
-use Rattle.cell_value.specs.declared.ways_out.Kind.TheVariants as kind
-use Rattle.core_program.specs.declared.scan.Scan.{Scan}
-use Rattle.core_program.specs.declared.scan.Scan.TheVariants.{Blanks, Digits}
-use Rattle.core_program.specs.declared.scan.Scanned.{Scanned}
-use Rattle.core_program.specs.declared.scan.Scanned.TheVariants.{Further, Whole}
-use Rattle.core_program.specs.Acts.{Fault, TakeIf}
-use Rattle.core_program.specs.Actions.{Action, Give, Fail, ◌>>=◌, act}
-use Rattle.core_program.specs.Values.{or_fault, truth}
+use Rattle.std.specs.Prelude.{if◌then◌else◌, ◌&&◌, ◌*◌, ◌+◌, ◌-◌, ◌==◌, ◌||◌, ℕ, ℤ, Bool, None, Option, Some, false}
+use Rattle.std.specs.Prelude.{is_none, min, nat_le, neg_ℤ, pos, true}
+use Rattle.cell_value.specs.{Arithmetic.integer, declared.values.Value.Value, declared.ways_out.Kind.Kind}
+use Rattle.core_program.specs.{Acts.Fault, Acts.TakeIf, Values.or_fault, Values.truth}
+use Rattle.core_program.specs.Actions.{◌>>=◌, Action, Fail, Give, act}
+use Rattle.core_program.specs.declared.scan.Scan.{Scan, TheVariants.Blanks, TheVariants.Digits}
+use Rattle.core_program.specs.declared.scan.Scanned.{Scanned, TheVariants.Further, TheVariants.Whole}
 
 -- the item that ends a line
 abbrev pub line_end : ℕ
@@ -52,7 +46,7 @@ abbrev pub at_end : Action Value
 at_end = act (TakeIf no_item) >>= λ item. Give (truth (is_none item))
 
 abbrev pub tells_line_end : Option ℕ → Action Bool
-tells_line_end None = Fail (Fault kind.PastEnd)
+tells_line_end None = Fail (Fault Kind.PastEnd)
 tells_line_end (Some item) = Give (item == line_end)
 
 -- whether the input is at a line end; at its end that is a fault (6.6.6.5)
@@ -63,8 +57,8 @@ at_line_end = act (TakeIf no_item) >>= λ item. tells_line_end item >>= λ ends.
 
 -- a line end is read as a space
 abbrev pub char_of : Option ℕ → Action Value
-char_of None = Fail (Fault kind.PastEnd)
-char_of (Some item) = Give (value.Number (pos (if item == line_end then space else item)))
+char_of None = Fail (Fault Kind.PastEnd)
+char_of (Some item) = Give (Value.Number (pos (if item == line_end then space else item)))
 
 -- reads a char (6.9.1)
 abbrev pub next_char : Action Value
@@ -91,13 +85,13 @@ integer_read minus number = or_fault (integer (signed_number minus number)) >>= 
 
 -- the first digit, without which there is no integer
 abbrev pub first_digit : (minus : Bool) → Option ℕ → Action Scanned
-first_digit minus None = Fail (Fault kind.BadNumber)
+first_digit minus None = Fail (Fault Kind.BadNumber)
 first_digit minus (Some item) =
-    if is_digit item then Give (Further (Digits minus (with_digit 0 item))) else Fail (Fault kind.BadNumber)
+    if is_digit item then Give (Further (Digits minus (with_digit 0 item))) else Fail (Fault Kind.BadNumber)
 
 -- what stands where an integer is to be read: a blank, or its sign with a digit after that, or its first digit
 abbrev pub leading : Option ℕ → Action Scanned
-leading None = Fail (Fault kind.PastEnd)
+leading None = Fail (Fault Kind.PastEnd)
 leading (Some item) =
     if is_blank item then Give (Further Blanks)
     else if is_sign item then act (TakeIf is_digit) >>= first_digit (is_minus item)

@@ -1,12 +1,10 @@
 -- What holds of every run.
-use Rattle.std.specs.Prelude.{◌≡◌, ◌↔◌, ℕ, ◌+◌, ◌<◌, ◌≤◌, List, Some, None, IsSome, length}
+use Rattle.std.specs.Prelude.{◌+◌, ◌<◌, ◌↔◌, ◌≡◌, ◌≤◌, ℕ, IsSome, List, None, Some, length}
 use Rattle.std.specs.List.{All}
 use Rattle.cell_value.specs.declared.values.Value.{Value}
-use Rattle.core_program.specs.ProgramRows.{ProgramRows, routine_at}
-use Rattle.core_program.specs.WholeTables.{WholeTables}
-use Rattle.core_program.specs.State.{State}
-use Rattle.core_program.specs.Run.{Result, Call, call_of, run, run_of, block, start, depth_enough}
-use Rattle.core_program.specs.Numbering.{StandsAt, belows, last_below, parent_of, depth_of, InSubtree}
+use Rattle.core_program.specs.{ProgramRows.ProgramRows, ProgramRows.routine_at, State.State, WholeTables.WholeTables}
+use Rattle.core_program.specs.Numbering.{InSubtree, StandsAt, belows, depth_of, last_below, parent_of}
+use Rattle.core_program.specs.Run.{Call, Result, block, call_of, depth_enough, run, run_of, start}
 
 -- Every program with whole tables has a run with every input and budget: no state of a run comes to a row that is
 -- missing or of the wrong kind, nor to a list that does not end as it says.

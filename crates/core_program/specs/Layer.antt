@@ -1,33 +1,13 @@
 -- What a part does, by the program's tables: its own acts, and its parts by name.
-use Rattle.std.specs.Prelude.{ℕ, [], Option, Some, None}
-use Rattle.core_program.specs.declared.program.Routine.{Routine}
-use Rattle.core_program.specs.ProgramRows.{ProgramRows, row_at, routine_at}
-use Rattle.core_program.specs.Tree.{
-  Cells,
-  Here,
-  Part,
-  Eval,
-  Locate,
-  Pass,
-  Gather,
-  Establish,
-  Exec,
-  Sequence,
-  Turn,
-  Count,
-  Receive,
-  Scanning,
-  RestOfLine,
-  Print,
-  Body,
-  ActTree,
-  Ret,
-  Sub,
-}
-use Rattle.core_program.specs.Accesses.{no_row, spend, scalar, until_end, access_in}
+use Rattle.std.specs.Prelude.{[], ℕ, None, Option, Some}
+use Rattle.core_program.specs.Accesses.{access_in, no_row, scalar, spend, until_end}
 use Rattle.core_program.specs.Expressions.{expression_in, of_actual, of_members}
-use Rattle.core_program.specs.Statements.{nothing, statement_in, of_sequence, of_turn, of_count, of_records}
-use Rattle.core_program.specs.Transfers.{of_received, of_scan, of_rest_of_line, of_printed}
+use Rattle.core_program.specs.ProgramRows.{ProgramRows, routine_at, row_at}
+use Rattle.core_program.specs.Statements.{nothing, of_count, of_records, of_sequence, of_turn, statement_in}
+use Rattle.core_program.specs.Transfers.{of_printed, of_received, of_rest_of_line, of_scan}
+use Rattle.core_program.specs.Tree.{ActTree, Body, Cells, Count, Establish, Eval, Exec, Gather, Here, Locate, Part}
+use Rattle.core_program.specs.Tree.{Pass, Print, Receive, RestOfLine, Ret, Scanning, Sequence, Sub, Turn}
+use Rattle.core_program.specs.declared.program.Routine.{Routine}
 
 -- where the statement part of a routine is at work, whose frame is at a base: no with statement is around it
 abbrev pub outermost : Routine → (base : ℕ) → Here

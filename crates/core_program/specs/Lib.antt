@@ -6,6 +6,7 @@ pub mod Apply
 pub mod Blocks
 pub mod Cells
 pub mod Choices
+pub mod Classes
 pub mod Expressions
 pub mod Headings
 pub mod Heap

@@ -1,28 +1,9 @@
 -- How the calls of a run are numbered: in order of entry, from 0. A call is told from the numbers of
 -- calls that each has below it.
-use Rattle.std.specs.Prelude.{
-  ◌≡◌,
-  ◌<◌,
-  ℕ,
-  zero,
-  suc,
-  ◌+◌,
-  Bool,
-  List,
-  [],
-  ◌∷◌,
-  ◌++◌,
-  Option,
-  Some,
-  None,
-  length,
-  map,
-  cond,
-  nat_le,
-  slice_index,
-}
+use Rattle.std.specs.Prelude.{◌++◌, ◌+◌, ◌<◌, ◌∷◌, ◌≡◌, [], ℕ, Bool, List, None, Option, Some, cond, length, map}
+use Rattle.std.specs.Prelude.{nat_le, slice_index, suc, zero}
 use Rattle.cell_value.specs.declared.entries.Touch.{Touch}
-use Rattle.core_program.specs.Run.{Marked, Call, Outcome}
+use Rattle.core_program.specs.Run.{Call, Marked, Outcome}
 
 -- the greatest number below n that passes
 abbrev pub greatest : (ℕ → Bool) → ℕ → Option ℕ

@@ -1,14 +1,10 @@
 -- What is written of a value, byte by byte (6.9.3, 6.9.5).
-use Rattle.std.specs.Prelude.{ℕ, ◌-◌, pos, Bool, true, false, ◌&&◌, ◌==◌, if◌then◌else◌, int_le, unsigned_abs}
-use Rattle.std.specs.Prelude.{List, [], ◌∷◌, ◌++◌, Option, Some, None, length, map, take, replicate, codes}
+use Rattle.std.specs.Prelude.{if◌then◌else◌, ◌&&◌, ◌++◌, ◌-◌, ◌==◌, ◌∷◌, [], ℕ, Bool, List, None, Option, Some, codes}
+use Rattle.std.specs.Prelude.{false, int_le, length, map, pos, replicate, take, true, unsigned_abs}
 use Rattle.std.specs.Fmt.{signed_decimal}
-use Rattle.cell_value.specs.declared.values.Value.{Value}
-use Rattle.cell_value.specs.declared.values.Value.TheVariants as value
-use Rattle.cell_value.specs.declared.ways_out.Kind.TheVariants as kind
-use Rattle.core_program.specs.Acts.{Fault, GiveByte}
-use Rattle.core_program.specs.Actions.{Action, Give, Fail, ◌>>=◌, act}
-use Rattle.core_program.specs.Values.{is_true}
-use Rattle.core_program.specs.Input.{space}
+use Rattle.cell_value.specs.declared.{values.Value.Value, ways_out.Kind.Kind}
+use Rattle.core_program.specs.{Acts.Fault, Acts.GiveByte, Input.space, Values.is_true}
+use Rattle.core_program.specs.Actions.{◌>>=◌, Action, Fail, Give, act}
 
 -- ---- types
 
@@ -29,7 +25,7 @@ pub record Text : Type 0 where
 
 -- the byte of a char, if the value is one
 abbrev pub byte_of : Value → Option ℕ
-byte_of (value.Number n) = if int_le (pos 0) n && int_le n (pos 255) then Some (unsigned_abs n) else None
+byte_of (Value.Number n) = if int_le (pos 0) n && int_le n (pos 255) then Some (unsigned_abs n) else None
 byte_of v = None
 
 -- a char for each of these bytes
@@ -38,7 +34,7 @@ all_of bytes = map Some bytes
 
 -- an integer in decimal, with `-` if it is negative (6.9.3.2)
 abbrev pub integer_chars : Value → List (Option ℕ)
-integer_chars (value.Number n) = all_of (signed_decimal n)
+integer_chars (Value.Number n) = all_of (signed_decimal n)
 integer_chars v = None ∷ []
 
 -- the word for a value of Boolean (6.9.3.5)
@@ -88,12 +84,12 @@ give_byte byte = act (GiveByte byte)
 abbrev pub gives : List (Option ℕ) → Action (Unit {0})
 gives [] = Give tt
 gives (Some byte ∷ cs) = give_byte byte >>= λ _. gives cs
-gives (None ∷ cs) = Fail (Fault kind.Undefined)
+gives (None ∷ cs) = Fail (Fault Kind.Undefined)
 
 -- a width, which is at least 1 (6.9.3.1)
 abbrev pub width_of : Value → Action ℕ
-width_of (value.Number n) = if int_le (pos 1) n then Give (unsigned_abs n) else Fail (Fault kind.BadWidth)
-width_of v = Fail (Fault kind.Undefined)
+width_of (Value.Number n) = if int_le (pos 1) n then Give (unsigned_abs n) else Fail (Fault Kind.BadWidth)
+width_of v = Fail (Fault Kind.Undefined)
 
 -- writes a text, in a width if one is given
 abbrev pub written : Text → Option Value → Action (Unit {0})

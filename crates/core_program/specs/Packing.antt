@@ -1,17 +1,11 @@
 -- Packing and unpacking of arrays (6.6.5.4).
-use Rattle.std.specs.Prelude.{ℕ, ◌+◌, ◌*◌, ◌-ℤ◌, Bool, true, false, [], nat_lt, unsigned_abs, if◌then◌else◌}
-use Rattle.cell_value.specs.declared.values.Value.{Value}
-use Rattle.cell_value.specs.declared.ways_out.Kind.TheVariants as kind
-use Rattle.core_program.specs.declared.rows.Row.{Row}
-use Rattle.core_program.specs.declared.rows.Row.TheVariants as rows
-use Rattle.core_program.specs.ProgramRows.{ProgramRows, row_at, type_at, size_of}
-use Rattle.core_program.specs.declared.components.Components.{Components}
-use Rattle.core_program.specs.State.{moved}
-use Rattle.core_program.specs.Acts.{Fault}
-use Rattle.core_program.specs.Actions.{Action, Give, Fail, ◌>>=◌}
-use Rattle.core_program.specs.Tree.{Here, ActTree, doing}
-use Rattle.core_program.specs.Cells.{read_values, writes, position_between}
-use Rattle.core_program.specs.Accesses.{no_row, eval, locate, type_accessed, with_components}
+use Rattle.std.specs.Prelude.{if◌then◌else◌, ◌*◌, ◌+◌, ◌-ℤ◌, [], ℕ, Bool, false, nat_lt, true, unsigned_abs}
+use Rattle.cell_value.specs.declared.{values.Value.Value, ways_out.Kind.Kind}
+use Rattle.core_program.specs.{Actions.◌>>=◌, Actions.Action, Actions.Fail, Actions.Give, Acts.Fault}
+use Rattle.core_program.specs.{Cells.position_between, Cells.read_values, Cells.writes, State.moved, Tree.ActTree}
+use Rattle.core_program.specs.{Tree.Here, Tree.doing, declared.components.Components.Components, declared.rows.Row.Row}
+use Rattle.core_program.specs.Accesses.{eval, locate, no_row, type_accessed, with_components}
+use Rattle.core_program.specs.ProgramRows.{ProgramRows, row_at, size_of, type_at}
 
 -- how many components an array has
 abbrev pub count_of : Components → ℕ
@@ -21,7 +15,7 @@ count_of array = unsigned_abs (array.greatest -ℤ array.least) + 1
 -- a packed one.
 abbrev pub start_at : (unpacked packed : Components) → (addr n : ℕ) → Action ℕ
 start_at unpacked packed addr n =
-    if nat_lt (count_of unpacked) (n + count_of packed) then Fail (Fault kind.OutOfRange)
+    if nat_lt (count_of unpacked) (n + count_of packed) then Fail (Fault Kind.OutOfRange)
     else Give (moved addr (n * unpacked.size))
 
 -- the same by the value of an index
@@ -35,7 +29,7 @@ copies from to cells = read_values [] from cells >>= writes to
 
 -- goes on with an array that is accessed: its cells, and what its type says of its components
 abbrev pub with_array : ProgramRows → Row → (ℕ → Components → ActTree) → ActTree
-with_array p (rows.Access a) go = with_components p (type_at p (type_accessed a)) (go (size_of p (type_accessed a)))
+with_array p (Row.Access a) go = with_components p (type_at p (type_accessed a)) (go (size_of p (type_accessed a)))
 with_array p r go = no_row
 
 -- once both arrays are located and the index is known

@@ -1,11 +1,7 @@
 -- A program, as a contract sees it: its tables.
-use Rattle.std.specs.Prelude.{ℕ, List, [], replicate, Option, Some, None, unwrap_or, slice_get, slice_set}
+use Rattle.std.specs.Prelude.{[], ℕ, List, None, Option, Some, replicate, slice_get, slice_set, unwrap_or}
 use Rattle.core_program.specs.declared.program.Routine.{Routine}
-use Rattle.core_program.specs.declared.rows.Row.{Row}
-use Rattle.core_program.specs.declared.rows.Row.TheVariants as row
-use Rattle.core_program.specs.declared.rows.TypeRow.{TypeRow}
-use Rattle.core_program.specs.declared.rows.TypeRow.TheVariants as kind
-use Rattle.core_program.specs.declared.rows.NameRow.TheVariants as named
+use Rattle.core_program.specs.declared.rows.{NameRow.NameRow, Row.Row, TypeRow.TypeRow}
 
 pub record ProgramRows : Type 0 where
   -- what stands at each number
@@ -17,13 +13,13 @@ pub record ProgramRows : Type 0 where
 
 -- the tables of a program of which only the texts are known
 abbrev pub blank_tables : ℕ → List (List ℕ) → ProgramRows
-blank_tables rows texts = record { rows = replicate rows row.Nothing; routines = []; texts = texts }
+blank_tables rows texts = record { rows = replicate rows Row.Nothing; routines = []; texts = texts }
 
 abbrev pub row_at : ProgramRows → ℕ → Row
-row_at p number = unwrap_or (slice_get p.rows number) row.Nothing
+row_at p number = unwrap_or (slice_get p.rows number) Row.Nothing
 
 abbrev pub type_in : Row → Option TypeRow
-type_in (row.Type t) = Some t
+type_in (Row.Type t) = Some t
 type_in r = None
 
 -- the type of a number, and none where a broken rule leaves it unknown
@@ -54,8 +50,8 @@ frame_of p routine = frame_in (routine_at p routine)
 
 abbrev pub cells_in : Option TypeRow → ℕ
 cells_in None = 0
-cells_in (Some (kind.Array packed index component cells)) = cells
-cells_in (Some (kind.Record packed region cells variants)) = cells
+cells_in (Some (TypeRow.Array packed index component cells)) = cells
+cells_in (Some (TypeRow.Record packed region cells variants)) = cells
 cells_in (Some t) = 1
 
 -- the cells of a variable of a type
@@ -63,8 +59,8 @@ abbrev pub size_of : ProgramRows → ℕ → ℕ
 size_of p t = cells_in (type_at p t)
 
 abbrev pub offset_in : Row → ℕ
-offset_in (row.Name (named.Field of' offset holder)) = offset
-offset_in (row.Name (named.Tag of' offset holder variants)) = offset
+offset_in (Row.Name (NameRow.Field of' offset holder)) = offset
+offset_in (Row.Name (NameRow.Tag of' offset holder variants)) = offset
 offset_in r = 0
 
 -- where a field's cells begin in its record

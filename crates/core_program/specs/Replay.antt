@@ -1,54 +1,11 @@
 -- A recorded call's own work done again, with the recorded effects of the calls that it made in place of their runs.
-use Rattle.std.specs.Prelude.{
-  ℕ,
-  ◌+◌,
-  Bool,
-  true,
-  false,
-  List,
-  [],
-  ◌∷◌,
-  Option,
-  Some,
-  None,
-  drop,
-  ◌==◌,
-  ◌&&◌,
-  if◌then◌else◌,
-}
-use Rattle.std.specs.Ordering.{int_eq}
-use Rattle.cell_value.specs.declared.values.Value.{Value}
-use Rattle.cell_value.specs.declared.values.Value.TheVariants.{
-  Undefined,
-  Number,
-  Bits,
-  Nil,
-  Heap,
-  Place,
-  Frame,
-  Routine,
-}
-use Rattle.cell_value.specs.declared.ways_out.WayOut.{WayOut}
-use Rattle.cell_value.specs.declared.ways_out.WayOut.TheVariants as way
-use Rattle.core_program.specs.ProgramRows.{ProgramRows, routine_at}
-use Rattle.core_program.specs.State.{State}
-use Rattle.core_program.specs.Tree.{Nothing, Scalar, Jump, ActTree}
-use Rattle.core_program.specs.Run.{
-  End,
-  Ended,
-  Halted,
-  Result,
-  Rules,
-  Call,
-  within,
-  after_all,
-  Holder,
-  framed_run,
-  at_work,
-  opened,
-  call_closed,
-}
-use Rattle.core_program.specs.Apply.{apply}
+use Rattle.std.specs.Prelude.{if◌then◌else◌, ◌&&◌, ◌+◌, ◌==◌, ◌∷◌, [], ℕ, Bool, List, None, Option, Some, drop, false}
+use Rattle.std.specs.{Prelude.true, Ordering.int_eq}
+use Rattle.cell_value.specs.declared.{values.Value.Value, values.Value.TheVariants.Undefined, ways_out.WayOut.WayOut}
+use Rattle.cell_value.specs.declared.values.Value.TheVariants.{Bits, Frame, Heap, Nil, Number, Place, Routine}
+use Rattle.core_program.specs.{Apply.apply, ProgramRows.ProgramRows, ProgramRows.routine_at, Run.framed_run, Run.opened}
+use Rattle.core_program.specs.{Run.within, State.State, Tree.ActTree, Tree.Jump, Tree.Nothing, Tree.Scalar}
+use Rattle.core_program.specs.Run.{Call, End, Ended, Halted, Holder, Result, Rules, after_all, at_work, call_closed}
 
 -- what is met on the way
 pub data Event : Type 0 where
@@ -87,9 +44,9 @@ same_args vs ws = false
 
 -- how a call ended, by its record
 abbrev pub end_of : WayOut → Option Value → End
-end_of way.Returned None = Ended Nothing
-end_of way.Returned (Some v) = Ended (Scalar v)
-end_of (way.Jumped label base) result = Ended (Jump label base)
+end_of WayOut.Returned None = Ended Nothing
+end_of WayOut.Returned (Some v) = Ended (Scalar v)
+end_of (WayOut.Jumped label base) result = Ended (Jump label base)
 end_of way result = Halted way
 
 abbrev pub Replayed : Type 0

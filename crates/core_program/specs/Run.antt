@@ -1,86 +1,19 @@
 -- The meaning of a tree, of a call and of a run.
-use Rattle.std.specs.Prelude.{
-  ℕ,
-  zero,
-  suc,
-  ◌+◌,
-  ◌-◌,
-  ◌*◌,
-  ℤ,
-  List,
-  [],
-  ◌∷◌,
-  ◌++◌,
-  ◌&&◌,
-  ◌==◌,
-  Option,
-  Some,
-  None,
-  Result as Outcome_of,
-  Ok,
-  Err,
-  length,
-  map,
-  take,
-  replicate,
-  nat_lt,
-  if◌then◌else◌,
-}
+use Rattle.std.specs.Prelude.{if◌then◌else◌, ◌&&◌, ◌*◌, ◌++◌, ◌+◌, ◌-◌, ◌==◌, ◌∷◌, [], ℕ, ℤ, Err, List, None, Ok}
+use Rattle.std.specs.Prelude.{Option, Result as Outcome_of, Some, length, map, nat_lt, replicate, suc, take, zero}
 use Rattle.std.specs.FinMap.{empty}
-use Rattle.cell_value.specs.Arithmetic.{in_range_of}
-use Rattle.cell_value.specs.declared.values.Value.{Value}
-use Rattle.cell_value.specs.declared.values.Value.TheVariants.{Undefined, Nil}
-use Rattle.cell_value.specs.declared.entries.Touch.{Touch}
-use Rattle.cell_value.specs.declared.faults.OpFault.{OpFault}
-use Rattle.cell_value.specs.declared.ways_out.WayOut.{WayOut}
-use Rattle.cell_value.specs.declared.ways_out.WayOut.TheVariants as way
-use Rattle.cell_value.specs.declared.ways_out.Which.{Which}
-use Rattle.cell_value.specs.declared.ways_out.Which.TheVariants.{Stack}
-use Rattle.cell_value.specs.declared.ways_out.Kind.TheVariants as kind
-use Rattle.core_program.specs.declared.program.Routine.{Routine}
-use Rattle.core_program.specs.declared.rows.Row.{Row}
-use Rattle.core_program.specs.declared.rows.Row.TheVariants as rows
-use Rattle.core_program.specs.declared.rows.PartRow.TheVariants as part
-use Rattle.core_program.specs.declared.rows.TypeRow.{TypeRow}
-use Rattle.core_program.specs.declared.rows.TypeRow.TheVariants.{Pointer}
-use Rattle.core_program.specs.ProgramRows.{ProgramRows, row_at, type_at, routine_at}
-use Rattle.core_program.specs.State.{State, stack_end, moved}
-use Rattle.core_program.specs.Blocks.{filled, cleared}
-use Rattle.core_program.specs.Acts.{
-  Fault,
-  OutOfSteps,
-  Limited,
-  Spend,
-  ActResult,
-  Went,
-  Stops,
-  perform,
-  spent,
-  limit_passed,
-}
-use Rattle.core_program.specs.Actions.{Action, Give, Fail, ◌>>=◌}
-use Rattle.core_program.specs.Tree.{
-  Out,
-  Scalar,
-  Jump,
-  Part,
-  Body,
-  ActTree,
-  Ret,
-  Halt,
-  Meaningless,
-  Do,
-  Sub,
-  Enter,
-  Line,
-  way_of,
-  doing,
-}
-use Rattle.core_program.specs.Cells.{read_value}
-use Rattle.core_program.specs.Heap.{pointer_result_at}
-use Rattle.core_program.specs.Accesses.{scalar, with_bounds}
-use Rattle.core_program.specs.Statements.{on_normal, nothing}
-use Rattle.core_program.specs.Layer.{layer}
+use Rattle.cell_value.specs.{Arithmetic.in_range_of, declared.entries.Touch.Touch, declared.faults.OpFault.OpFault}
+use Rattle.cell_value.specs.declared.values.Value.{Value, TheVariants.Nil, TheVariants.Undefined}
+use Rattle.cell_value.specs.declared.ways_out.{Kind.Kind, WayOut.WayOut, Which.Which, Which.TheVariants.Stack}
+use Rattle.core_program.specs.{Accesses.scalar, Accesses.with_bounds, Acts.spent, Blocks.cleared, Blocks.filled}
+use Rattle.core_program.specs.{Cells.read_value, Heap.pointer_result_at, Layer.layer, State.State, State.moved}
+use Rattle.core_program.specs.{State.stack_end, Statements.nothing, Statements.on_normal, Tree.Sub, Tree.doing}
+use Rattle.core_program.specs.{Tree.way_of, declared.program.Routine.Routine}
+use Rattle.core_program.specs.Actions.{◌>>=◌, Action, Fail, Give}
+use Rattle.core_program.specs.Acts.{ActResult, Fault, Limited, OutOfSteps, Spend, Stops, Went, limit_passed, perform}
+use Rattle.core_program.specs.ProgramRows.{ProgramRows, routine_at, row_at, type_at}
+use Rattle.core_program.specs.Tree.{ActTree, Body, Do, Enter, Halt, Jump, Line, Meaningless, Out, Part, Ret, Scalar}
+use Rattle.core_program.specs.declared.rows.{PartRow.PartRow, Row.Row, TypeRow.TypeRow, TypeRow.TheVariants.Pointer}
 
 -- ---- trees
 
@@ -145,7 +78,7 @@ module _ {S E : Type 0} where
   -- a limit that would be passed stops the run, and no step is taken for that
   abbrev pub if_allowed : Option Which → S → Option (Result S E) → Option (Result S E)
   if_allowed None σ goes = goes
-  if_allowed (Some which) σ goes = ends (Halted (way.Limited which)) σ
+  if_allowed (Some which) σ goes = ends (Halted (WayOut.Limited which)) σ
 
   -- A tree from a state, with its parts and its calls left open. Where the tables are not whole there is no result.
   abbrev pub walk : Rules S E → (Part → S → Option (Result S E)) → (ℕ → List Value → S → Option (Result S E)) → ActTree
@@ -172,8 +105,8 @@ module _ {S E : Type 0} where
 
 -- the way out of a call
 abbrev pub way_out : End → WayOut
-way_out (Ended (Jump label base)) = way.Jumped label base
-way_out (Ended out) = way.Returned
+way_out (Ended (Jump label base)) = WayOut.Jumped label base
+way_out (Ended out) = WayOut.Returned
 way_out (Halted way) = way
 
 -- the value of a function that returned
@@ -256,13 +189,13 @@ recorded routine args σ (Some r) = Some (record r {
 
 -- the type of a function's result, by its heading
 abbrev pub type_in_heading : ProgramRows → Row → Option TypeRow
-type_in_heading p (rows.Part (part.Heading name sections (Some t))) = type_at p t
+type_in_heading p (Row.Part (PartRow.Heading name sections (Some t))) = type_at p t
 type_in_heading p r = None
 
 -- a function whose result has no value of its type does not return
 abbrev pub or_no_result : Outcome_of Value OpFault → Action Value
 or_no_result (Ok v) = Give v
-or_no_result (Err e) = Fail (Fault kind.UndefinedResult)
+or_no_result (Err e) = Fail (Fault Kind.UndefinedResult)
 
 abbrev pub result_read : (least greatest : ℤ) → (addr : ℕ) → Action Value
 result_read least greatest addr = read_value addr >>= λ v. or_no_result (in_range_of v least greatest)

@@ -1,20 +1,14 @@
 -- What holds of the states of every run, and of the records of its calls.
-use Rattle.std.specs.Prelude.{◌≡◌, ◌<◌, ◌≤◌, ℕ, ◌+◌, ◌^◌, List, [], Some, length, map, take, drop, slice_range}
+use Rattle.std.specs.Prelude.{◌+◌, ◌<◌, ◌^◌, ◌≡◌, ◌≤◌, [], ℕ, List, Some, drop, length, map, slice_range, take}
 use Rattle.std.specs.List.{All, slice_get}
-use Rattle.cell_value.specs.declared.values.Value.{Value}
-use Rattle.cell_value.specs.declared.entries.Touch.{Touch}
-use Rattle.cell_value.specs.Effects.{IsCountable, reads_of, changes_of, made_of, looked_of, taken_of, given_of}
-use Rattle.core_program.specs.ProgramRows.{ProgramRows}
-use Rattle.core_program.specs.WholeTables.{WholeTables}
-use Rattle.core_program.specs.State.{State, IsSound, most_calls, most_depth}
-use Rattle.core_program.specs.Acts.{Act, ActResult, Went, Stops, perform}
-use Rattle.core_program.specs.Tree.{Part}
-use Rattle.core_program.specs.Layer.{layer}
-use Rattle.core_program.specs.Run.{Marked, Result, Call, Outcome, way_out, result_in, call_of, run_of, run, start}
-use Rattle.core_program.specs.Run.{depth_enough, input_items}
-use Rattle.core_program.specs.Apply.{apply}
-use Rattle.core_program.specs.Agree.{Agrees}
-use Rattle.core_program.specs.Replay.{Event, LineOf, ChildOf, Replaying, Replayed, body}
+use Rattle.cell_value.specs.Effects.{IsCountable, changes_of, given_of, looked_of, made_of, reads_of, taken_of}
+use Rattle.cell_value.specs.declared.{entries.Touch.Touch, values.Value.Value}
+use Rattle.core_program.specs.{Agree.Agrees, Apply.apply, Layer.layer, ProgramRows.ProgramRows, Run.run_of, Run.start}
+use Rattle.core_program.specs.{Run.way_out, Tree.Part, WholeTables.WholeTables}
+use Rattle.core_program.specs.Acts.{Act, ActResult, Stops, Went, perform}
+use Rattle.core_program.specs.Replay.{ChildOf, Event, LineOf, Replayed, Replaying, body}
+use Rattle.core_program.specs.Run.{Call, Marked, Outcome, Result, call_of, depth_enough, input_items, result_in, run}
+use Rattle.core_program.specs.State.{IsSound, State, most_calls, most_depth}
 
 -- the calls of a run, in order of entry
 abbrev pub calls_in : Result State Call → List Call

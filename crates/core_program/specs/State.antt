@@ -1,9 +1,7 @@
 -- The state of a run, and the limits of a run.
-use Rattle.std.specs.Prelude.{◌≡◌, ℕ, ◌+◌, ◌<◌, ◌≤◌, List, None, IsSome, length, min, nat_lt, nat_le, ◌&&◌, ◌||◌, Bool}
-use Rattle.std.specs.Ordering.{nat_cmp}
-use Rattle.std.specs.FinMap.{FinMap, get}
-use Rattle.cell_value.specs.declared.values.Value.{Value}
-use Rattle.cell_value.specs.Effects.{heap_end}
+use Rattle.std.specs.Prelude.{◌&&◌, ◌+◌, ◌<◌, ◌||◌, ◌≡◌, ◌≤◌, ℕ, Bool, IsSome, List, None, length, min, nat_le, nat_lt}
+use Rattle.std.specs.{FinMap.FinMap, FinMap.get, Ordering.nat_cmp}
+use Rattle.cell_value.specs.{Effects.heap_end, declared.values.Value.Value}
 
 pub record State : Type 0 where
   -- the value of each cell, by its address: the stack's from 0 on, the heap's from 524,288 on

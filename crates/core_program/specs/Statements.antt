@@ -1,77 +1,27 @@
 -- What each statement does (6.8).
-use Rattle.std.specs.Prelude.{ℕ, ℤ, pos, ◌+ℤ◌, ◌-ℤ◌, Bool, false, [], ◌∷◌, ◌++◌, Option, Some, None, length}
-use Rattle.std.specs.Prelude.{nat_lt, int_le, ◌==◌, ◌&&◌, if◌then◌else◌}
+use Rattle.std.specs.Prelude.{if◌then◌else◌, ◌&&◌, ◌++◌, ◌+ℤ◌, ◌-ℤ◌, ◌==◌, ◌∷◌, [], ℕ, ℤ, Bool, None, Option, Some}
+use Rattle.std.specs.Prelude.{false, int_le, length, nat_lt, pos}
 use Rattle.std.specs.Ordering.{int_eq}
 use Rattle.cell_value.specs.declared.values.Value.{Value}
 use Rattle.cell_value.specs.declared.values.Value.TheVariants as value
 use Rattle.cell_value.specs.declared.ways_out.Kind.TheVariants as kind
-use Rattle.core_program.specs.declared.rows.Row.{Row}
-use Rattle.core_program.specs.declared.rows.Row.TheVariants as rows
-use Rattle.core_program.specs.declared.rows.ItemRow.TheVariants as item
-use Rattle.core_program.specs.declared.rows.TypeRow.{TypeRow}
-use Rattle.core_program.specs.declared.rows.Direction.{Direction}
-use Rattle.core_program.specs.declared.rows.Direction.TheVariants.{Up, Down}
-use Rattle.core_program.specs.declared.rows.StatementRow.{StatementRow}
-use Rattle.core_program.specs.declared.rows.StatementRow.TheVariants.{
-  Empty,
-  Assign,
-  Call,
-  CallFormal,
-  Goto,
-  Labelled,
-  Compound,
-  If,
-  IfElse,
-  Case,
-  Repeat,
-  While,
-  For,
-  Turns,
-  With,
-  Read,
-  Write,
-  Page,
-  Pack,
-  New,
-  Dispose,
-}
+use Rattle.core_program.specs.{Actions.◌>>=◌, Actions.Action, Acts.Fault, Cells.frame_out, Cells.write, Cells.writes}
+use Rattle.core_program.specs.{State.moved, Values.is_true, Values.tested, WholeTables.is_end}
 use Rattle.core_program.specs.ProgramRows.{ProgramRows, row_at, type_at}
-use Rattle.core_program.specs.WholeTables.{is_end}
-use Rattle.core_program.specs.State.{moved}
-use Rattle.core_program.specs.Acts.{Fault}
-use Rattle.core_program.specs.Actions.{Action, ◌>>=◌}
-use Rattle.core_program.specs.Tree.{
-  Out,
-  Nothing,
-  Scalar,
-  Cells,
-  Jump,
-  Here,
-  Eval,
-  Establish,
-  Exec,
-  Sequence,
-  Turn,
-  Count,
-  Receive,
-  RestOfLine,
-  Print,
-  ActTree,
-  Ret,
-  Halt,
-  Sub,
-  Line,
-  doing,
-}
-use Rattle.core_program.specs.Values.{tested, is_true}
-use Rattle.core_program.specs.Cells.{write, writes, frame_out}
+use Rattle.core_program.specs.Tree.{ActTree, Cells, Count, Establish, Eval, Exec, Halt, Here, Jump, Line, Nothing, Out}
+use Rattle.core_program.specs.Tree.{Print, Receive, RestOfLine, Ret, Scalar, Sequence, Sub, Turn, doing}
+use Rattle.core_program.specs.declared.rows.{Row.Row, StatementRow.StatementRow, TypeRow.TypeRow}
+use Rattle.core_program.specs.declared.rows.Direction.{Direction, TheVariants.Down, TheVariants.Up}
+use Rattle.core_program.specs.declared.rows.ItemRow.TheVariants as item
+use Rattle.core_program.specs.declared.rows.Row.TheVariants as rows
+use Rattle.core_program.specs.declared.rows.StatementRow.TheVariants.{Assign, Call, CallFormal, Case, Compound, Dispose}
+use Rattle.core_program.specs.declared.rows.StatementRow.TheVariants.{Empty, For, Goto, If, IfElse, Labelled, New, Pack}
+use Rattle.core_program.specs.declared.rows.StatementRow.TheVariants.{Page, Read, Repeat, Turns, While, With, Write}
 pub use Rattle.core_program.specs.Choices.{Sought, unless_end, along, on_to, choose_at, choice_along, choice_of}
-use Rattle.core_program.specs.Variants.{tag_accessed, assign_to}
-use Rattle.core_program.specs.Heap.{made_variable, dispose}
-use Rattle.core_program.specs.Accesses.{no_row, spend, eval, locate, locate_target, with_size}
+use Rattle.core_program.specs.{Heap.dispose, Heap.made_variable, Output.end_line, Output.end_page, Packing.pack}
+use Rattle.core_program.specs.Accesses.{eval, locate, locate_target, no_row, spend, with_size}
 use Rattle.core_program.specs.Expressions.{call, call_formal}
-use Rattle.core_program.specs.Output.{end_line, end_page}
-use Rattle.core_program.specs.Packing.{pack}
+use Rattle.core_program.specs.Variants.{assign_to, tag_accessed}
 
 -- goes on after a statement that ended normally; a jump goes on outward
 abbrev pub on_normal : ActTree → Out → ActTree

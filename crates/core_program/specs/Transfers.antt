@@ -1,37 +1,15 @@
 -- What read and write statements do with their actuals, one after the other (6.9).
-use Rattle.std.specs.Prelude.{ℕ, ◌==◌, Option, Some, None, if◌then◌else◌}
+use Rattle.std.specs.Prelude.{if◌then◌else◌, ◌==◌, ℕ, None, Option, Some}
 use Rattle.cell_value.specs.declared.values.Value.{Value}
-use Rattle.core_program.specs.declared.rows.Row.{Row}
-use Rattle.core_program.specs.declared.rows.Row.TheVariants as rows
-use Rattle.core_program.specs.declared.rows.ItemRow.TheVariants as item
-use Rattle.core_program.specs.declared.rows.TypeRow.{TypeRow}
-use Rattle.core_program.specs.declared.rows.TypeRow.TheVariants.{Ordinal, Subrange}
-use Rattle.core_program.specs.ProgramRows.{ProgramRows, row_at, type_at}
-use Rattle.core_program.specs.declared.scan.Scan.{Scan}
-use Rattle.core_program.specs.declared.scan.Scan.TheVariants.{Blanks}
-use Rattle.core_program.specs.declared.scan.Scanned.{Scanned}
-use Rattle.core_program.specs.declared.scan.Scanned.TheVariants.{Further, Whole}
-use Rattle.core_program.specs.Tree.{
-  Out,
-  Scalar,
-  Cells,
-  Jump,
-  Here,
-  Eval,
-  Receive,
-  Scanning,
-  RestOfLine,
-  Print,
-  ActTree,
-  Ret,
-  Sub,
-  doing,
-}
-use Rattle.core_program.specs.Input.{next_char, past_item, scan_on}
+use Rattle.core_program.specs.{Input.next_char, Input.past_item, Input.scan_on, ProgramRows.ProgramRows}
+use Rattle.core_program.specs.{ProgramRows.row_at, ProgramRows.type_at, Statements.nothing, Tree.Scanning, Tree.Sub}
+use Rattle.core_program.specs.{Tree.doing, Variants.assign_to, Variants.tag_accessed, declared.rows.ItemRow.ItemRow}
+use Rattle.core_program.specs.{declared.rows.Row.Row, declared.scan.Scan.Scan, declared.scan.Scan.TheVariants.Blanks}
+use Rattle.core_program.specs.Accesses.{eval, locate_target, no_row, on_scalar, scalar, type_accessed}
 use Rattle.core_program.specs.Output.{Text, char_type, scalar_text, string_text, written}
-use Rattle.core_program.specs.Variants.{tag_accessed, assign_to}
-use Rattle.core_program.specs.Accesses.{no_row, on_scalar, eval, locate_target, scalar, type_accessed}
-use Rattle.core_program.specs.Statements.{nothing}
+use Rattle.core_program.specs.Tree.{ActTree, Cells, Eval, Here, Jump, Out, Print, Receive, RestOfLine, Ret, Scalar}
+use Rattle.core_program.specs.declared.rows.TypeRow.{TypeRow, TheVariants.Ordinal, TheVariants.Subrange}
+use Rattle.core_program.specs.declared.scan.Scanned.{Scanned, TheVariants.Further, TheVariants.Whole}
 
 -- goes on with the host of an ordinal type: the type itself, or that of a subrange's constants
 abbrev pub with_host : (of' : ℕ) → Option TypeRow → (ℕ → ActTree) → ActTree
@@ -54,14 +32,14 @@ read_for here host go =
     if host == char_type then doing here.line next_char go else Sub (Scanning Blanks here) (on_scalar go)
 
 abbrev pub received : ProgramRows → Here → (access next : ℕ) → Row → ActTree
-received p here access next (rows.Access a) =
+received p here access next (Row.Access a) =
     with_host (type_accessed a) (type_at p (type_accessed a)) (λ host.
     read_for here host (into p here access (type_accessed a) next))
 received p here access next r = no_row
 
 -- The actuals of a read statement from an item on.
 abbrev pub of_received : ProgramRows → Here → Row → ActTree
-of_received p here (rows.Item (item.Element access next)) = received p here access next (row_at p access)
+of_received p here (Row.Item (ItemRow.Element access next)) = received p here access next (row_at p access)
 of_received p here r = no_row
 
 -- after a turn of the reading of an integer: the next one, or the value
@@ -92,8 +70,8 @@ print here next text width = doing here.line (written text width) (λ _. Sub (Pr
 
 -- The actuals of a write statement from an item on: of each the value, then its width, and then its bytes are given.
 abbrev pub of_printed : ProgramRows → Here → Row → ActTree
-of_printed p here (rows.Item (item.Written e of' next)) =
+of_printed p here (Row.Item (ItemRow.Written e of' next)) =
     Sub (Eval e here) (on_text p of' (λ text. print here next text None))
-of_printed p here (rows.Item (item.WrittenWide e of' width next)) =
+of_printed p here (Row.Item (ItemRow.WrittenWide e of' width next)) =
     Sub (Eval e here) (on_text p of' (λ text. eval width here (λ w. print here next text (Some w))))
 of_printed p here r = no_row

@@ -1,11 +1,9 @@
 -- What a construct does, as a tree: acts, whose answers decide how it goes on, parts, and calls.
 use Rattle.std.specs.Prelude.{ℕ, ℤ, Bool, List}
-use Rattle.cell_value.specs.declared.values.Value.{Value}
-use Rattle.cell_value.specs.declared.ways_out.WayOut.{WayOut}
-use Rattle.cell_value.specs.declared.ways_out.WayOut.TheVariants as way
+use Rattle.cell_value.specs.declared.{values.Value.Value, ways_out.WayOut.WayOut}
+use Rattle.core_program.specs.Actions.{Action, Fail, Give, NoMeaning, Perform}
+use Rattle.core_program.specs.Acts.{Act, Answer, Fault, Limited, OutOfSteps, Trouble}
 use Rattle.core_program.specs.declared.scan.Scan.{Scan}
-use Rattle.core_program.specs.Acts.{Trouble, Fault, OutOfSteps, Limited, Act, Answer}
-use Rattle.core_program.specs.Actions.{Action, Give, Fail, NoMeaning, Perform}
 
 -- how a part ends, if nothing stops the run
 pub data Out : Type 0 where
@@ -78,9 +76,9 @@ pub data ActTree : Type 0 where
 
 -- how the open calls end where a statement on this line stops the run
 abbrev pub way_of : (line : ℕ) → Trouble → WayOut
-way_of line (Fault kind) = way.Faulted kind line
-way_of line OutOfSteps = way.OutOfSteps
-way_of line (Limited which) = way.Limited which
+way_of line (Fault kind) = WayOut.Faulted kind line
+way_of line OutOfSteps = WayOut.OutOfSteps
+way_of line (Limited which) = WayOut.Limited which
 
 -- goes on after a tree
 abbrev pub bind : ActTree → (Out → ActTree) → ActTree

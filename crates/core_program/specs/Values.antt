@@ -1,79 +1,30 @@
 -- Values of scalar types and of sets: tests, operators and the required functions of ordinals; strings.
-use Rattle.std.specs.Prelude.{
-  ◌%◌,
-  ℤ,
-  pos,
-  ◌+ℤ◌,
-  ◌-ℤ◌,
-  ◌*ℤ◌,
-  Bool,
-  true,
-  false,
-  not,
-  ◌&&◌,
-  ◌||◌,
-  Option,
-  Some,
-  None,
-  Result,
-  Ok,
-  Err,
-  nat_eq,
-  int_lt,
-  int_le,
-  unsigned_abs,
-  ℕ,
-  List,
-  map,
-  if◌then◌else◌,
-}
+use Rattle.std.specs.Prelude.{if◌then◌else◌, ◌%◌, ◌&&◌, ◌*ℤ◌, ◌+ℤ◌, ◌-ℤ◌, ◌||◌, ℕ, ℤ, Bool, Err, List, None, Ok, Option}
+use Rattle.std.specs.Prelude.{Result, Some, false, int_le, int_lt, map, nat_eq, not, pos, true, unsigned_abs}
 use Rattle.std.specs.Ordering.{int_eq}
-use Rattle.cell_value.specs.Arithmetic.{integer, negate_of, in_range_of}
-use Rattle.cell_value.specs.declared.values.Value.{Value}
-use Rattle.cell_value.specs.declared.values.Value.TheVariants as value
-use Rattle.cell_value.specs.declared.values.SetBits.{SetBits}
+use Rattle.cell_value.specs.{Sets.union_of, Sets.with_range_of, declared.ways_out.Kind.Kind}
+use Rattle.cell_value.specs.Arithmetic.{in_range_of, integer, negate_of}
 use Rattle.cell_value.specs.Comparisons as lists
-use Rattle.cell_value.specs.Sets.{
-  set_of,
-  has_number,
-  union_of,
-  difference_of,
-  intersection_of,
-  with_range_of,
-  is_included,
-  lies_between,
-}
-use Rattle.cell_value.specs.declared.faults.OpFault.{OpFault}
-use Rattle.cell_value.specs.declared.faults.OpFault.TheVariants.{
-  Overflow,
-  ZeroDivisor,
-  BadModulus,
-  OutOfRange,
-  UndefinedValue,
-}
-use Rattle.cell_value.specs.declared.ways_out.Kind.{Kind}
-use Rattle.cell_value.specs.declared.ways_out.Kind.TheVariants as kind
-use Rattle.core_program.specs.declared.rows.TypeRow.{TypeRow}
-use Rattle.core_program.specs.declared.rows.TypeRow.TheVariants.{Ordinal, Subrange, Set, Pointer}
-use Rattle.cell_value.specs.declared.values.Order.{Order}
-use Rattle.cell_value.specs.declared.values.Order.TheVariants.{Equal, NotEqual, Less, Greater, AtMost, AtLeast}
-use Rattle.core_program.specs.declared.rows.Logic.{Logic}
-use Rattle.core_program.specs.declared.rows.Logic.TheVariants.{And, Or}
-use Rattle.core_program.specs.declared.rows.OrdinalFunction.{OrdinalFunction}
-use Rattle.core_program.specs.declared.rows.OrdinalFunction.TheVariants.{Abs, Sqr, Odd, Ord, Chr, Succ, Pred}
-use Rattle.core_program.specs.declared.rows.SetOperator.{SetOperator}
-use Rattle.core_program.specs.declared.rows.SetOperator.TheVariants.{Union, Difference, Intersection}
-use Rattle.core_program.specs.ProgramRows.{ProgramRows, type_at}
-use Rattle.core_program.specs.Acts.{Fault}
-use Rattle.core_program.specs.Actions.{Action, Give, Fail, NoMeaning}
+use Rattle.cell_value.specs.Sets.{difference_of, has_number, intersection_of, is_included, lies_between, set_of}
+use Rattle.cell_value.specs.declared.faults.OpFault.{OpFault, TheVariants.ZeroDivisor}
+use Rattle.cell_value.specs.declared.faults.OpFault.TheVariants.{BadModulus, OutOfRange, Overflow, UndefinedValue}
+use Rattle.cell_value.specs.declared.values.{Order.Order, SetBits.SetBits, Value.Value}
+use Rattle.cell_value.specs.declared.values.Order.TheVariants.{AtLeast, AtMost, Equal, Greater, Less, NotEqual}
+use Rattle.core_program.specs.{Acts.Fault, ProgramRows.ProgramRows, ProgramRows.type_at}
+use Rattle.core_program.specs.Actions.{Action, Fail, Give, NoMeaning}
+use Rattle.core_program.specs.declared.rows.{OrdinalFunction.OrdinalFunction, SetOperator.SetOperator, TypeRow.TypeRow}
+use Rattle.core_program.specs.declared.rows.Logic.{Logic, TheVariants.And, TheVariants.Or}
+use Rattle.core_program.specs.declared.rows.OrdinalFunction.TheVariants.{Abs, Chr, Odd, Ord, Pred, Sqr, Succ}
+use Rattle.core_program.specs.declared.rows.SetOperator.TheVariants.{Difference, Intersection, Union}
+use Rattle.core_program.specs.declared.rows.TypeRow.TheVariants.{Ordinal, Pointer, Set, Subrange}
 
 -- the fault of an operation that has no result
 abbrev pub kind_of : OpFault → Kind
-kind_of Overflow = kind.Overflow
-kind_of ZeroDivisor = kind.ZeroDivisor
-kind_of BadModulus = kind.BadModulus
-kind_of OutOfRange = kind.OutOfRange
-kind_of UndefinedValue = kind.Undefined
+kind_of Overflow = Kind.Overflow
+kind_of ZeroDivisor = Kind.ZeroDivisor
+kind_of BadModulus = Kind.BadModulus
+kind_of OutOfRange = Kind.OutOfRange
+kind_of UndefinedValue = Kind.Undefined
 
 -- the result of an operation, or its fault
 abbrev pub or_fault : Result Value OpFault → Action Value
@@ -83,7 +34,7 @@ or_fault (Err e) = Fail (Fault (kind_of e))
 -- a value that is none of its type counts as undefined, and its use is a fault
 abbrev pub or_undefined : Result Value OpFault → Action Value
 or_undefined (Ok v) = Give v
-or_undefined (Err e) = Fail (Fault kind.Undefined)
+or_undefined (Err e) = Fail (Fault Kind.Undefined)
 
 -- a value that was read from a variable of an ordinal type with these bounds, for its use (6.5.1)
 abbrev pub defined : (least greatest : ℤ) → Value → Action Value
@@ -92,14 +43,14 @@ defined least greatest v = or_undefined (in_range_of v least greatest)
 -- A value that was read from a variable of a set type, for its use (6.5.1); the base type has these bounds. A set with
 -- a member outside of them is no value of the type.
 abbrev pub defined_set : (least greatest : ℤ) → Value → Action Value
-defined_set least greatest (value.Bits set) =
-    if lies_between set least greatest then Give (value.Bits set) else Fail (Fault kind.Undefined)
-defined_set least greatest _ = Fail (Fault kind.Undefined)
+defined_set least greatest (Value.Bits set) =
+    if lies_between set least greatest then Give (Value.Bits set) else Fail (Fault Kind.Undefined)
+defined_set least greatest _ = Fail (Fault Kind.Undefined)
 
 -- each member of a set is a value of the base type with these bounds
 abbrev pub set_in_range : Value → (least greatest : ℤ) → Result Value OpFault
-set_in_range (value.Bits set) least greatest =
-    if lies_between set least greatest then Ok (value.Bits set) else Err OutOfRange
+set_in_range (Value.Bits set) least greatest =
+    if lies_between set least greatest then Ok (Value.Bits set) else Err OutOfRange
 set_in_range _ least greatest = Err UndefinedValue
 
 -- the test of a value that a variable of a set type with this base type is to get
@@ -127,17 +78,17 @@ tested p t v = as_tested (test_of p t v)
 
 -- false has the ordinal 0, and true 1
 abbrev pub truth : Bool → Value
-truth true = value.Number (pos 1)
-truth false = value.Number (pos 0)
+truth true = Value.Number (pos 1)
+truth false = Value.Number (pos 0)
 
 abbrev pub is_true : Value → Bool
-is_true (value.Number n) = not (int_eq n (pos 0))
+is_true (Value.Number n) = not (int_eq n (pos 0))
 is_true _ = false
 
 -- the sign before an integer (6.7.2.2)
 abbrev pub with_sign_of : (minus : Bool) → Value → Result Value OpFault
 with_sign_of true v = negate_of v
-with_sign_of false (value.Number n) = Ok (value.Number n)
+with_sign_of false (Value.Number n) = Ok (Value.Number n)
 with_sign_of false _ = Err UndefinedValue
 
 -- and, or (6.7.2.3)
@@ -155,7 +106,7 @@ holds AtMost i j = int_le i j
 holds AtLeast i j = int_le j i
 
 abbrev pub comparison : Order → Value → Value → Result Value OpFault
-comparison order (value.Number i) (value.Number j) = Ok (truth (holds order i j))
+comparison order (Value.Number i) (Value.Number j) = Ok (truth (holds order i j))
 comparison order _ _ = Err UndefinedValue
 
 abbrev pub is_odd : ℤ → Bool
@@ -166,19 +117,19 @@ abbrev pub function_at : OrdinalFunction → (least greatest : ℤ) → ℤ → 
 function_at Abs least greatest n = integer (pos (unsigned_abs n))
 function_at Sqr least greatest n = integer (n *ℤ n)
 function_at Odd least greatest n = Ok (truth (is_odd n))
-function_at Ord least greatest n = Ok (value.Number n)
-function_at Chr least greatest n = in_range_of (value.Number n) (pos 0) (pos 255)
-function_at Succ least greatest n = in_range_of (value.Number (n +ℤ pos 1)) least greatest
-function_at Pred least greatest n = in_range_of (value.Number (n -ℤ pos 1)) least greatest
+function_at Ord least greatest n = Ok (Value.Number n)
+function_at Chr least greatest n = in_range_of (Value.Number n) (pos 0) (pos 255)
+function_at Succ least greatest n = in_range_of (Value.Number (n +ℤ pos 1)) least greatest
+function_at Pred least greatest n = in_range_of (Value.Number (n -ℤ pos 1)) least greatest
 
 abbrev pub function_of : OrdinalFunction → (least greatest : ℤ) → Value → Result Value OpFault
-function_of f least greatest (value.Number n) = function_at f least greatest n
+function_of f least greatest (Value.Number n) = function_at f least greatest n
 function_of f least greatest _ = Err UndefinedValue
 
 -- ---- sets
 
 abbrev pub no_members : Value
-no_members = value.Bits (set_of (λ ordinal. false))
+no_members = Value.Bits (set_of (λ ordinal. false))
 
 -- the values that a member of a set constructor can have
 abbrev pub is_member_value : ℤ → Bool
@@ -188,13 +139,13 @@ is_member_value i = int_le (pos 0) i && int_le i (pos 255)
 -- members is tested (6.7.1).
 abbrev pub range_added : SetBits → (first last : ℤ) → Result Value OpFault
 range_added set first last =
-    if int_lt last first then Ok (value.Bits set)
+    if int_lt last first then Ok (Value.Bits set)
     else if is_member_value first && is_member_value last
-    then Ok (value.Bits (with_range_of set (unsigned_abs first) (unsigned_abs last)))
+    then Ok (Value.Bits (with_range_of set (unsigned_abs first) (unsigned_abs last)))
     else Err OutOfRange
 
 abbrev pub members_added : (set first last : Value) → Result Value OpFault
-members_added (value.Bits set) (value.Number first) (value.Number last) = range_added set first last
+members_added (Value.Bits set) (Value.Number first) (Value.Number last) = range_added set first last
 members_added _ _ _ = Err UndefinedValue
 
 -- the operators on sets (6.7.2.4)
@@ -204,7 +155,7 @@ set_by Difference a b = difference_of a b
 set_by Intersection a b = intersection_of a b
 
 abbrev pub sets_of : SetOperator → Value → Value → Result Value OpFault
-sets_of operator (value.Bits a) (value.Bits b) = Ok (value.Bits (set_by operator a b))
+sets_of operator (Value.Bits a) (Value.Bits b) = Ok (Value.Bits (set_by operator a b))
 sets_of operator _ _ = Err UndefinedValue
 
 -- Relations of sets (6.7.2.5): sets with the same members are equal, and `<=` and `>=` say which includes which. The
@@ -220,19 +171,19 @@ sets_related AtLeast a b = Ok (truth (is_included b a))
 sets_related order a b = Err UndefinedValue
 
 abbrev pub sets_compared : Order → Value → Value → Result Value OpFault
-sets_compared order (value.Bits a) (value.Bits b) = sets_related order a b
+sets_compared order (Value.Bits a) (Value.Bits b) = sets_related order a b
 sets_compared order _ _ = Err UndefinedValue
 
 -- whether an ordinal is a member of a set (6.7.2.5)
 abbrev pub in_set : (member set : Value) → Result Value OpFault
-in_set (value.Number i) (value.Bits set) = Ok (truth (has_number set i))
+in_set (Value.Number i) (Value.Bits set) = Ok (truth (has_number set i))
 in_set _ _ = Err UndefinedValue
 
 -- ---- strings
 
 -- the values of the components of a string, by its characters
 abbrev pub string_of : List ℕ → List Value
-string_of text = map (λ character. value.Number (pos character)) text
+string_of text = map (λ character. Value.Number (pos character)) text
 
 abbrev pub as_value : Result Bool OpFault → Result Value OpFault
 as_value (Ok holds) = Ok (truth holds)

@@ -1,28 +1,17 @@
 -- Fields of variants, and which variant of a record is the active one (6.4.3.3, 6.5.3.3).
-use Rattle.std.specs.Prelude.{ℕ, zero, suc, ℤ, pos, Bool, true, false, not, Option, Some, None, length, replicate}
-use Rattle.std.specs.Prelude.{◌+◌, ◌&&◌, nat_lt, if◌then◌else◌}
-use Rattle.std.specs.Ordering.{int_eq}
-use Rattle.cell_value.specs.declared.values.Value.{Value}
+use Rattle.std.specs.Prelude.{if◌then◌else◌, ◌&&◌, ◌+◌, ℕ, ℤ, Bool, None, Option, Some, false, length, nat_lt, not, pos}
+use Rattle.std.specs.{Prelude.replicate, Prelude.suc, Prelude.true, Prelude.zero, Ordering.int_eq}
+use Rattle.cell_value.specs.declared.{values.Value.Value, ways_out.Kind.Kind}
 use Rattle.cell_value.specs.declared.values.Value.TheVariants as value
-use Rattle.cell_value.specs.declared.ways_out.Kind.TheVariants as kind
-use Rattle.core_program.specs.declared.rows.Row.{Row}
-use Rattle.core_program.specs.declared.rows.Row.TheVariants as rows
-use Rattle.core_program.specs.declared.rows.NameRow.TheVariants as named
-use Rattle.core_program.specs.declared.rows.PartRow.TheVariants as parts
-use Rattle.core_program.specs.declared.rows.TypeRow.{TypeRow}
-use Rattle.core_program.specs.declared.rows.TypeRow.TheVariants as kinds
-use Rattle.core_program.specs.declared.rows.AccessRow.TheVariants as access
+use Rattle.core_program.specs.{Acts.Fault, Choices.Sought, Choices.choice_of, State.moved, Values.tested}
+use Rattle.core_program.specs.Actions.{◌>>=◌, Action, Fail, Give, NoMeaning}
+use Rattle.core_program.specs.Cells.{assign, read_value, write, writes}
 use Rattle.core_program.specs.ProgramRows.{ProgramRows, row_at}
-use Rattle.core_program.specs.declared.variants.VariantPart.{VariantPart}
-use Rattle.core_program.specs.State.{moved}
-use Rattle.core_program.specs.Acts.{Fault}
-use Rattle.core_program.specs.Actions.{Action, Give, Fail, NoMeaning, ◌>>=◌}
-use Rattle.core_program.specs.Values.{tested}
-use Rattle.core_program.specs.Cells.{read_value, write, writes, assign}
-use Rattle.core_program.specs.Choices.{Sought, choice_of}
+use Rattle.core_program.specs.declared.{rows.AccessRow.AccessRow, variants.VariantPart.VariantPart}
+use Rattle.core_program.specs.declared.rows.{NameRow.NameRow, PartRow.PartRow, Row.Row, TypeRow.TypeRow}
 
 abbrev pub part_in : Row → Option VariantPart
-part_in (rows.Part (parts.Variants hidden offset cells values holder)) = Some (record {
+part_in (Row.Part (PartRow.Variants hidden offset cells values holder)) = Some (record {
   hidden = hidden;
   offset = offset;
   cells = cells;
@@ -39,8 +28,8 @@ at_position (Some part) position = Some (Some (part, position))
 -- The variant that a holder of fields is, if it is one. A record holds those of its fixed part. What is neither holds
 -- no fields.
 abbrev pub variant_in : ProgramRows → Row → Option (Option (VariantPart × ℕ))
-variant_in p (rows.Part (parts.Variant variants position)) = at_position (part_in (row_at p variants)) position
-variant_in p (rows.Type (kinds.Record packed region cells variants)) = Some None
+variant_in p (Row.Part (PartRow.Variant variants position)) = at_position (part_in (row_at p variants)) position
+variant_in p (Row.Type (TypeRow.Record packed region cells variants)) = Some None
 variant_in p r = None
 
 abbrev pub variant_at : ProgramRows → (holder : ℕ) → Option (Option (VariantPart × ℕ))
@@ -49,7 +38,7 @@ variant_at p holder = variant_in p (row_at p holder)
 -- ---- the chosen variant
 
 abbrev pub position_in : Row → Option (Option ℤ)
-position_in (rows.Part (parts.Variant variants position)) = Some (Some (pos position))
+position_in (Row.Part (PartRow.Variant variants position)) = Some (Some (pos position))
 position_in r = None
 
 abbrev pub position_at : ProgramRows → Sought → Option (Option ℤ)
@@ -108,7 +97,7 @@ abbrev pub or_activated : ProgramRows → (target : Bool) → VariantPart → (p
 or_activated p target part position addr true = Give tt
 or_activated p target part position addr false =
     if target && part.hidden then activate p part addr (value.Number (pos position))
-    else Fail (Fault kind.InactiveVariant)
+    else Fail (Fault Kind.InactiveVariant)
 
 -- the tag before a variant, of the record variable at an address, is read and tested
 abbrev pub variant_entered : ProgramRows → (target : Bool) → (addr : ℕ) → VariantPart → (position : ℕ)
@@ -128,8 +117,8 @@ all_entered p target addr (suc n) holder = on_variant (variant_at p holder) (λ 
 
 -- the place of a field in its record, and what holds it
 abbrev pub field_in : Row → Option (ℕ × ℕ)
-field_in (rows.Name (named.Field of' offset holder)) = Some (offset, holder)
-field_in (rows.Name (named.Tag of' offset holder variants)) = Some (offset, holder)
+field_in (Row.Name (NameRow.Field of' offset holder)) = Some (offset, holder)
+field_in (Row.Name (NameRow.Tag of' offset holder variants)) = Some (offset, holder)
 field_in r = None
 
 abbrev pub field_held : ProgramRows → (target : Bool) → (addr : ℕ) → Option (ℕ × ℕ) → Action ℕ
@@ -149,15 +138,15 @@ tag_before (Some part) = Some (Some part)
 
 -- the variant part whose tag field stands at a row, if that is a tag field
 abbrev pub tag_of : ProgramRows → Row → Option (Option VariantPart)
-tag_of p (rows.Name (named.Tag of' offset holder variants)) = tag_before (part_in (row_at p variants))
-tag_of p (rows.Name (named.Field of' offset holder)) = Some None
+tag_of p (Row.Name (NameRow.Tag of' offset holder variants)) = tag_before (part_in (row_at p variants))
+tag_of p (Row.Name (NameRow.Field of' offset holder)) = Some None
 tag_of p r = None
 
 -- the variant part whose tag field an access denotes, if it denotes one
 abbrev pub tag_accessed : ProgramRows → Row → Option (Option VariantPart)
-tag_accessed p (rows.Access (access.Within record' field of')) = tag_of p (row_at p field)
-tag_accessed p (rows.Access (access.Field inner field of')) = tag_of p (row_at p field)
-tag_accessed p (rows.Access a) = Some None
+tag_accessed p (Row.Access (AccessRow.Within record' field of')) = tag_of p (row_at p field)
+tag_accessed p (Row.Access (AccessRow.Field inner field of')) = tag_of p (row_at p field)
+tag_accessed p (Row.Access a) = Some None
 tag_accessed p r = None
 
 abbrev pub assign_tag : ProgramRows → VariantPart → Option TypeRow → (addr : ℕ) → Value → Action (Unit {0})

@@ -1,29 +1,13 @@
 -- Whole tables: each number that a row names is that of a row of the kind that its place takes, lists end where they
 -- say, no two constructs share a number, and the program block is there. The tables of every checked program are whole.
-use Rattle.std.specs.Prelude.{◌≡◌, ℕ, zero, suc, ◌+◌, ◌<◌, ◌≤◌, Bool, true, false, ◌&&◌, ◌||◌, ◌==◌, nat_lt, List, []}
-use Rattle.std.specs.Prelude.{◌∷◌}
-use Rattle.std.specs.Prelude.{length}
-use Rattle.std.specs.Prelude.{Option, Some, None, is_some, IsSome, slice_get, negsuc, pos}
-use Rattle.core_program.specs.declared.program.Routine.{Routine}
-use Rattle.core_program.specs.declared.rows.Row.{Row}
-use Rattle.core_program.specs.declared.rows.Row.TheVariants as row
-use Rattle.core_program.specs.declared.rows.TypeRow.{TypeRow}
-use Rattle.core_program.specs.declared.rows.TypeRow.TheVariants as kind
-use Rattle.core_program.specs.declared.rows.NameRow.{NameRow}
-use Rattle.core_program.specs.declared.rows.NameRow.TheVariants as named
-use Rattle.core_program.specs.declared.rows.PartRow.{PartRow}
-use Rattle.core_program.specs.declared.rows.PartRow.TheVariants as part
-use Rattle.core_program.specs.declared.rows.ItemRow.{ItemRow}
-use Rattle.core_program.specs.declared.rows.ItemRow.TheVariants as item
-use Rattle.core_program.specs.declared.rows.StatementRow.{StatementRow}
+use Rattle.std.specs.Prelude.{◌&&◌, ◌+◌, ◌<◌, ◌==◌, ◌||◌, ◌∷◌, ◌≡◌, ◌≤◌, [], ℕ, Bool, IsSome, List, None, Option, Some}
+use Rattle.std.specs.Prelude.{false, is_some, length, nat_lt, negsuc, pos, slice_get, suc, true, zero}
+use Rattle.core_program.specs.{Headings.heading_in, Headings.signature_at, declared.rows.ExpressionRow.ExpressionRow}
+use Rattle.core_program.specs.ProgramRows.{ProgramRows, routine_at, row_at, type_at}
+use Rattle.core_program.specs.declared.{headings.Signature.Signature, program.Routine.Routine}
+use Rattle.core_program.specs.declared.rows.{AccessRow.AccessRow, ItemRow.ItemRow, NameRow.NameRow, PartRow.PartRow}
+use Rattle.core_program.specs.declared.rows.{Row.Row, StatementRow.StatementRow, TypeRow.TypeRow}
 use Rattle.core_program.specs.declared.rows.StatementRow.TheVariants as statement
-use Rattle.core_program.specs.declared.rows.ExpressionRow.{ExpressionRow}
-use Rattle.core_program.specs.declared.rows.ExpressionRow.TheVariants as expression
-use Rattle.core_program.specs.declared.rows.AccessRow.{AccessRow}
-use Rattle.core_program.specs.declared.rows.AccessRow.TheVariants as access
-use Rattle.core_program.specs.ProgramRows.{ProgramRows, row_at, type_at, routine_at}
-use Rattle.core_program.specs.declared.headings.Signature.{Signature}
-use Rattle.core_program.specs.Headings.{signature_at, heading_in}
 
 abbrev Holds : Bool → Type 0
 Holds b = b ≡ true
@@ -31,36 +15,36 @@ Holds b = b ≡ true
 -- ---- types and names
 
 abbrev pub is_ordinal_type : Option TypeRow → Bool
-is_ordinal_type (Some (kind.Ordinal least greatest)) = true
-is_ordinal_type (Some (kind.Subrange host least greatest)) = true
+is_ordinal_type (Some (TypeRow.Ordinal least greatest)) = true
+is_ordinal_type (Some (TypeRow.Subrange host least greatest)) = true
 is_ordinal_type t = false
 
 -- a type whose values take one cell
 abbrev pub is_simple_type : Option TypeRow → Bool
-is_simple_type (Some (kind.Set packed base)) = true
-is_simple_type (Some (kind.Pointer domain)) = true
+is_simple_type (Some (TypeRow.Set packed base)) = true
+is_simple_type (Some (TypeRow.Pointer domain)) = true
 is_simple_type t = is_ordinal_type t
 
 abbrev pub is_structured_type : Option TypeRow → Bool
-is_structured_type (Some (kind.Array packed index component cells)) = true
-is_structured_type (Some (kind.Record packed region cells variants)) = true
+is_structured_type (Some (TypeRow.Array packed index component cells)) = true
+is_structured_type (Some (TypeRow.Record packed region cells variants)) = true
 is_structured_type t = false
 
 -- the type of a function's result
 abbrev pub is_result_type : Option TypeRow → Bool
-is_result_type (Some (kind.Pointer domain)) = true
+is_result_type (Some (TypeRow.Pointer domain)) = true
 is_result_type t = is_ordinal_type t
 
 abbrev pub is_host_type : Option TypeRow → Bool
-is_host_type (Some (kind.Ordinal least greatest)) = true
+is_host_type (Some (TypeRow.Ordinal least greatest)) = true
 is_host_type t = false
 
 abbrev pub is_array_type : Option TypeRow → Bool
-is_array_type (Some (kind.Array packed index component cells)) = true
+is_array_type (Some (TypeRow.Array packed index component cells)) = true
 is_array_type t = false
 
 abbrev pub is_record_type : Option TypeRow → Bool
-is_record_type (Some (kind.Record packed region cells variants)) = true
+is_record_type (Some (TypeRow.Record packed region cells variants)) = true
 is_record_type t = false
 
 abbrev pub is_type : ProgramRows → ℕ → Bool
@@ -73,20 +57,20 @@ abbrev pub is_text : ProgramRows → ℕ → Bool
 is_text p token = is_some (slice_get p.texts token)
 
 abbrev pub is_variable_row : Row → Bool
-is_variable_row (row.Name (named.Variable mode of' place level)) = true
+is_variable_row (Row.Name (NameRow.Variable mode of' place level)) = true
 is_variable_row r = false
 
 abbrev pub is_field_row : Row → Bool
-is_field_row (row.Name (named.Field of' offset holder)) = true
-is_field_row (row.Name (named.Tag of' offset holder variants)) = true
+is_field_row (Row.Name (NameRow.Field of' offset holder)) = true
+is_field_row (Row.Name (NameRow.Tag of' offset holder variants)) = true
 is_field_row r = false
 
 abbrev pub is_variants_row : Row → Bool
-is_variants_row (row.Part (part.Variants hidden offset cells values holder)) = true
+is_variants_row (Row.Part (PartRow.Variants hidden offset cells values holder)) = true
 is_variants_row r = false
 
 abbrev pub is_variant_row : Row → Bool
-is_variant_row (row.Part (part.Variant variants position)) = true
+is_variant_row (Row.Part (PartRow.Variant variants position)) = true
 is_variant_row r = false
 
 abbrev pub is_variant : ProgramRows → ℕ → Bool
@@ -94,7 +78,7 @@ is_variant p n = is_variant_row (row_at p n)
 
 -- what holds fields: a record, or a variant
 abbrev pub is_holder_row : Row → Bool
-is_holder_row (row.Type (kind.Record packed region cells variants)) = true
+is_holder_row (Row.Type (TypeRow.Record packed region cells variants)) = true
 is_holder_row r = is_variant_row r
 
 -- a routine of the program that has a heading, or a routine parameter
@@ -108,26 +92,26 @@ is_formal p n = is_some (heading_in (row_at p n))
 
 -- a statement; the turns of a for statement are a part of one
 abbrev pub is_statement_row : Row → Bool
-is_statement_row (row.Statement (statement.Turns direction last place of' body)) = false
-is_statement_row (row.Statement s) = true
+is_statement_row (Row.Statement (statement.Turns direction last place of' body)) = false
+is_statement_row (Row.Statement s) = true
 is_statement_row r = false
 
 abbrev pub is_turns_row : Row → Bool
-is_turns_row (row.Statement (statement.Turns direction last place of' body)) = true
+is_turns_row (Row.Statement (statement.Turns direction last place of' body)) = true
 is_turns_row r = false
 
 -- the type of what is accessed
 abbrev pub type_accessed : AccessRow → ℕ
-type_accessed (access.Variable place levels of') = of'
-type_accessed (access.Reference place levels of') = of'
-type_accessed (access.Within record' field of') = of'
-type_accessed (access.Index access index array of') = of'
-type_accessed (access.Field access field of') = of'
-type_accessed (access.Dereference access of') = of'
+type_accessed (AccessRow.Variable place levels of') = of'
+type_accessed (AccessRow.Reference place levels of') = of'
+type_accessed (AccessRow.Within record' field of') = of'
+type_accessed (AccessRow.Index access index array of') = of'
+type_accessed (AccessRow.Field access field of') = of'
+type_accessed (AccessRow.Dereference access of') = of'
 
 -- an access of a variable of such a type
 abbrev pub is_access_to : (Option TypeRow → Bool) → ProgramRows → Row → Bool
-is_access_to fits p (row.Access a) = fits (type_at p (type_accessed a))
+is_access_to fits p (Row.Access a) = fits (type_at p (type_accessed a))
 is_access_to fits p r = false
 
 abbrev pub is_function : Option Routine → Bool
@@ -144,19 +128,19 @@ signature_of p (Some heading) = signature_at p heading
 
 -- an expression whose value takes one cell
 abbrev pub gives_one_cell : ProgramRows → ExpressionRow → Bool
-gives_one_cell p (expression.Text token) = false
-gives_one_cell p (expression.Apply routine levels actuals) = is_function (routine_at p routine)
-gives_one_cell p (expression.ApplyFormal formal levels actuals) =
+gives_one_cell p (ExpressionRow.Text token) = false
+gives_one_cell p (ExpressionRow.Apply routine levels actuals) = is_function (routine_at p routine)
+gives_one_cell p (ExpressionRow.ApplyFormal formal levels actuals) =
     has_result (signature_of p (heading_in (row_at p formal)))
 gives_one_cell p e = true
 
 abbrev pub is_scalar_row : ProgramRows → Row → Bool
-is_scalar_row p (row.Expression e) = gives_one_cell p e
+is_scalar_row p (Row.Expression e) = gives_one_cell p e
 is_scalar_row p r = is_access_to is_simple_type p r
 
 -- an expression whose value is the cells of an array, a record or a string
 abbrev pub is_cells_row : ProgramRows → Row → Bool
-is_cells_row p (row.Expression (expression.Text token)) = true
+is_cells_row p (Row.Expression (ExpressionRow.Text token)) = true
 is_cells_row p r = is_access_to is_structured_type p r
 
 abbrev pub is_statement : ProgramRows → ℕ → Bool
@@ -197,69 +181,73 @@ is_list is_item p at = is_end at || is_item (row_at p at)
 
 -- an item of a list of statements, of records or of variables that are read
 abbrev pub is_element_of : (ℕ → Bool) → Row → Bool
-is_element_of fits (row.Item (item.Element x next)) = fits x
+is_element_of fits (Row.Item (ItemRow.Element x next)) = fits x
 is_element_of fits r = false
 
 abbrev pub is_actual_item : Row → Bool
-is_actual_item (row.Item (item.Value v of' next)) = true
-is_actual_item (row.Item (item.Place a next)) = true
-is_actual_item (row.Item (item.Routine routine levels next)) = true
-is_actual_item (row.Item (item.RoutineFormal formal levels next)) = true
+is_actual_item (Row.Item (ItemRow.Value v of' next)) = true
+is_actual_item (Row.Item (ItemRow.Place a next)) = true
+is_actual_item (Row.Item (ItemRow.Routine routine levels next)) = true
+is_actual_item (Row.Item (ItemRow.RoutineFormal formal levels next)) = true
 is_actual_item r = false
 
 abbrev pub is_written_item : Row → Bool
-is_written_item (row.Item (item.Written v of' next)) = true
-is_written_item (row.Item (item.WrittenWide v of' width next)) = true
+is_written_item (Row.Item (ItemRow.Written v of' next)) = true
+is_written_item (Row.Item (ItemRow.WrittenWide v of' width next)) = true
 is_written_item r = false
 
 abbrev pub is_member_item : Row → Bool
-is_member_item (row.Item (item.Member v next)) = true
-is_member_item (row.Item (item.Members first last next)) = true
+is_member_item (Row.Item (ItemRow.Member v next)) = true
+is_member_item (Row.Item (ItemRow.Members first last next)) = true
 is_member_item r = false
 
 -- a constant, by what it chooses: a statement in a case statement, a variant in a variant part
 abbrev pub is_choice_of : (ℕ → Bool) → Row → Bool
-is_choice_of fits (row.Item (item.Choice value chosen next)) = fits chosen
+is_choice_of fits (Row.Item (ItemRow.Choice value chosen next)) = fits chosen
 is_choice_of fits r = false
 
 abbrev pub is_section_item : Row → Bool
-is_section_item (row.Item (item.Section mode first count next)) = true
-is_section_item (row.Item (item.RoutineSection heading next)) = true
+is_section_item (Row.Item (ItemRow.Section mode first count next)) = true
+is_section_item (Row.Item (ItemRow.RoutineSection heading next)) = true
 is_section_item r = false
 
 -- ---- what each row may name
 
 -- the types that a type names
 abbrev pub TypeFits : ProgramRows → TypeRow → Type 0
-TypeFits p (kind.Ordinal least greatest) = Unit {0}
-TypeFits p (kind.Subrange host least greatest) = Holds (is_host_type (type_at p host))
-TypeFits p (kind.Set packed base) = Holds (is_ordinal p base)
-TypeFits p (kind.Pointer domain) = Holds (is_type p domain)
-TypeFits p (kind.Array packed index component cells) = Holds (is_ordinal p index) × Holds (is_type p component)
-TypeFits p (kind.Record packed region cells variants) =
+TypeFits p (TypeRow.Ordinal least greatest) = Unit {0}
+TypeFits p (TypeRow.Subrange host least greatest) = Holds (is_host_type (type_at p host))
+TypeFits p (TypeRow.Set packed base) = Holds (is_ordinal p base)
+TypeFits p (TypeRow.Pointer domain) = Holds (is_type p domain)
+TypeFits p (TypeRow.Array packed index component cells) = Holds (is_ordinal p index) × Holds (is_type p component)
+TypeFits p (TypeRow.Record packed region cells variants) =
     (v : ℕ) → variants ≡ Some v → Holds (is_variants_row (row_at p v))
 
 abbrev pub NameFits : ProgramRows → NameRow → Type 0
-NameFits p (named.Constant of' value) = Holds (is_ordinal p of')
-NameFits p (named.Text token) = Holds (is_text p token)
-NameFits p (named.TypeName of') = Holds (is_type p of')
-NameFits p (named.Variable mode of' place level) = Holds (is_type p of')
-NameFits p (named.RoutineFormal place level heading) = Holds (is_some (signature_at p heading))
-NameFits p (named.Field of' offset holder) = Holds (is_type p of') × Holds (is_holder_row (row_at p holder))
-NameFits p (named.Tag of' offset holder variants) =
+NameFits p (NameRow.Constant of' value) = Holds (is_ordinal p of')
+NameFits p (NameRow.Text token) = Holds (is_text p token)
+NameFits p (NameRow.TypeName of') = Holds (is_type p of')
+NameFits p (NameRow.Variable mode of' place level) = Holds (is_type p of')
+NameFits p (NameRow.RoutineFormal place level heading) = Holds (is_some (signature_at p heading))
+NameFits p (NameRow.Field of' offset holder) = Holds (is_type p of') × Holds (is_holder_row (row_at p holder))
+NameFits p (NameRow.Tag of' offset holder variants) =
     Holds (is_ordinal p of') × Holds (is_holder_row (row_at p holder)) × Holds (is_variants_row (row_at p variants))
-NameFits p (named.Routine assigned number region) = Holds (is_routine p number)
+NameFits p (NameRow.Routine assigned number region) = Holds (is_routine p number)
 NameFits p n = Unit {0}
 
--- What holds something stands before it.
+-- The items of a list are of one kind, each after the one before it.
+abbrev pub Goes : (Row → Bool) → ProgramRows → (at next : ℕ) → Type 0
+Goes is_item p at next = Holds (is_list is_item p next) × Holds (is_end next || nat_lt at next)
+
+-- What holds something stands before it, and a heading before its sections.
 abbrev pub PartFits : ProgramRows → (at : ℕ) → PartRow → Type 0
-PartFits p at (part.Variants hidden offset cells values holder) =
+PartFits p at (PartRow.Variants hidden offset cells values holder) =
     Holds (is_list (is_choice_of (is_variant p)) p values) × Holds (is_holder_row (row_at p holder))
     × Holds (nat_lt holder at)
-PartFits p at (part.Variant variants position) =
+PartFits p at (PartRow.Variant variants position) =
     Holds (is_variants_row (row_at p variants)) × Holds (nat_lt variants at)
-PartFits p at (part.Heading name sections result) =
-    Holds (is_list is_section_item p sections) × ((t : ℕ) → result ≡ Some t → Holds (is_result_type (type_at p t)))
+PartFits p at (PartRow.Heading name sections result) =
+    Goes is_section_item p at sections × ((t : ℕ) → result ≡ Some t → Holds (is_result_type (type_at p t)))
 PartFits p at q = Unit {0}
 
 -- The statement that a label marks stands after the label.
@@ -298,35 +286,35 @@ StatementFits p at (statement.Pack packing line unpacked index packed) =
     Holds (is_array_access p unpacked) × Holds (is_scalar p index) × Holds (is_array_access p packed)
 
 abbrev pub ExpressionFits : ProgramRows → ExpressionRow → Type 0
-ExpressionFits p (expression.Text token) = Holds (is_text p token)
-ExpressionFits p (expression.Sign minus operand) = Holds (is_scalar p operand)
-ExpressionFits p (expression.Not operand) = Holds (is_scalar p operand)
-ExpressionFits p (expression.Arithmetic operator left right) = Holds (is_scalar p left) × Holds (is_scalar p right)
-ExpressionFits p (expression.Logic operator left right) = Holds (is_scalar p left) × Holds (is_scalar p right)
-ExpressionFits p (expression.Sets operator left right) = Holds (is_scalar p left) × Holds (is_scalar p right)
-ExpressionFits p (expression.Compare order left right) = Holds (is_scalar p left) × Holds (is_scalar p right)
-ExpressionFits p (expression.CompareTexts order left right) = Holds (is_cells p left) × Holds (is_cells p right)
-ExpressionFits p (expression.CompareSets order left right) = Holds (is_scalar p left) × Holds (is_scalar p right)
-ExpressionFits p (expression.ComparePointers equal left right) = Holds (is_scalar p left) × Holds (is_scalar p right)
-ExpressionFits p (expression.In left right) = Holds (is_scalar p left) × Holds (is_scalar p right)
-ExpressionFits p (expression.Set members) = Holds (is_list is_member_item p members)
-ExpressionFits p (expression.Apply routine levels actuals) =
+ExpressionFits p (ExpressionRow.Text token) = Holds (is_text p token)
+ExpressionFits p (ExpressionRow.Sign minus operand) = Holds (is_scalar p operand)
+ExpressionFits p (ExpressionRow.Not operand) = Holds (is_scalar p operand)
+ExpressionFits p (ExpressionRow.Arithmetic operator left right) = Holds (is_scalar p left) × Holds (is_scalar p right)
+ExpressionFits p (ExpressionRow.Logic operator left right) = Holds (is_scalar p left) × Holds (is_scalar p right)
+ExpressionFits p (ExpressionRow.Sets operator left right) = Holds (is_scalar p left) × Holds (is_scalar p right)
+ExpressionFits p (ExpressionRow.Compare order left right) = Holds (is_scalar p left) × Holds (is_scalar p right)
+ExpressionFits p (ExpressionRow.CompareTexts order left right) = Holds (is_cells p left) × Holds (is_cells p right)
+ExpressionFits p (ExpressionRow.CompareSets order left right) = Holds (is_scalar p left) × Holds (is_scalar p right)
+ExpressionFits p (ExpressionRow.ComparePointers equal left right) = Holds (is_scalar p left) × Holds (is_scalar p right)
+ExpressionFits p (ExpressionRow.In left right) = Holds (is_scalar p left) × Holds (is_scalar p right)
+ExpressionFits p (ExpressionRow.Set members) = Holds (is_list is_member_item p members)
+ExpressionFits p (ExpressionRow.Apply routine levels actuals) =
     Holds (is_function (routine_at p routine)) × Holds (is_list is_actual_item p actuals)
-ExpressionFits p (expression.ApplyFormal formal levels actuals) =
+ExpressionFits p (ExpressionRow.ApplyFormal formal levels actuals) =
     Holds (has_result (signature_of p (heading_in (row_at p formal)))) × Holds (is_list is_actual_item p actuals)
-ExpressionFits p (expression.Function function operand least greatest) = Holds (is_scalar p operand)
+ExpressionFits p (ExpressionRow.Function function operand least greatest) = Holds (is_scalar p operand)
 ExpressionFits p e = Unit {0}
 
 -- The access to which a selector is applied stands before the selector.
 abbrev pub AccessFits : ProgramRows → (at : ℕ) → AccessRow → Type 0
-AccessFits p at (access.Variable place levels of') = Holds (is_type p of')
-AccessFits p at (access.Reference place levels of') = Holds (is_type p of')
-AccessFits p at (access.Within record' field of') = Holds (is_field_row (row_at p field)) × Holds (is_type p of')
-AccessFits p at (access.Index inner index array of') = Holds (is_access p inner) × Holds (nat_lt inner at)
+AccessFits p at (AccessRow.Variable place levels of') = Holds (is_type p of')
+AccessFits p at (AccessRow.Reference place levels of') = Holds (is_type p of')
+AccessFits p at (AccessRow.Within record' field of') = Holds (is_field_row (row_at p field)) × Holds (is_type p of')
+AccessFits p at (AccessRow.Index inner index array of') = Holds (is_access p inner) × Holds (nat_lt inner at)
     × Holds (is_scalar p index) × Holds (is_array_type (type_at p array)) × Holds (is_type p of')
-AccessFits p at (access.Field inner field of') = Holds (is_access p inner) × Holds (nat_lt inner at)
+AccessFits p at (AccessRow.Field inner field of') = Holds (is_access p inner) × Holds (nat_lt inner at)
     × Holds (is_field_row (row_at p field)) × Holds (is_type p of')
-AccessFits p at (access.Dereference inner of') =
+AccessFits p at (AccessRow.Dereference inner of') =
     Holds (is_access p inner) × Holds (nat_lt inner at) × Holds (is_type p of')
 
 -- what is written: of one cell by its type, or the cells of a string
@@ -334,41 +322,37 @@ abbrev pub WrittenFits : ProgramRows → (value of' : ℕ) → Type 0
 WrittenFits p value of' =
     Holds (is_scalar p value || is_cells p value) × (Holds (is_scalar p value) → Holds (is_ordinal p of'))
 
--- The items of a list are of one kind, each after the one before it.
-abbrev pub Goes : (Row → Bool) → ProgramRows → (at next : ℕ) → Type 0
-Goes is_item p at next = Holds (is_list is_item p next) × Holds (is_end next || nat_lt at next)
-
 abbrev pub ItemFits : ProgramRows → (at : ℕ) → ItemRow → Type 0
-ItemFits p at (item.Element x next) = (Holds (is_statement p x) → Goes (is_element_of (is_statement p)) p at next)
+ItemFits p at (ItemRow.Element x next) = (Holds (is_statement p x) → Goes (is_element_of (is_statement p)) p at next)
     × (Holds (is_record_access p x) → Goes (is_element_of (is_record_access p)) p at next)
     × (Holds (is_read_access p x) → Goes (is_element_of (is_read_access p)) p at next)
-ItemFits p at (item.Value v of' next) = Holds (is_value_for p (type_at p of') v) × Goes is_actual_item p at next
-ItemFits p at (item.Place a next) = Holds (is_access p a) × Goes is_actual_item p at next
-ItemFits p at (item.Routine routine levels next) = Holds (is_routine p routine) × Goes is_actual_item p at next
-ItemFits p at (item.RoutineFormal formal levels next) = Holds (is_formal p formal) × Goes is_actual_item p at next
-ItemFits p at (item.Written v of' next) = WrittenFits p v of' × Goes is_written_item p at next
-ItemFits p at (item.WrittenWide v of' width next) =
+ItemFits p at (ItemRow.Value v of' next) = Holds (is_value_for p (type_at p of') v) × Goes is_actual_item p at next
+ItemFits p at (ItemRow.Place a next) = Holds (is_access p a) × Goes is_actual_item p at next
+ItemFits p at (ItemRow.Routine routine levels next) = Holds (is_routine p routine) × Goes is_actual_item p at next
+ItemFits p at (ItemRow.RoutineFormal formal levels next) = Holds (is_formal p formal) × Goes is_actual_item p at next
+ItemFits p at (ItemRow.Written v of' next) = WrittenFits p v of' × Goes is_written_item p at next
+ItemFits p at (ItemRow.WrittenWide v of' width next) =
     WrittenFits p v of' × Holds (is_scalar p width) × Goes is_written_item p at next
-ItemFits p at (item.Member v next) = Holds (is_scalar p v) × Goes is_member_item p at next
-ItemFits p at (item.Members first last next) =
+ItemFits p at (ItemRow.Member v next) = Holds (is_scalar p v) × Goes is_member_item p at next
+ItemFits p at (ItemRow.Members first last next) =
     Holds (is_scalar p first) × Holds (is_scalar p last) × Goes is_member_item p at next
-ItemFits p at (item.Choice value chosen next) =
+ItemFits p at (ItemRow.Choice value chosen next) =
     (Holds (is_statement p chosen) → Goes (is_choice_of (is_statement p)) p at next)
     × (Holds (is_variant p chosen) → Goes (is_choice_of (is_variant p)) p at next)
-ItemFits p at (item.Section mode first count next) =
+ItemFits p at (ItemRow.Section mode first count next) =
     Holds (is_variable_row (row_at p first)) × Goes is_section_item p at next
-ItemFits p at (item.RoutineSection heading next) =
-    Holds (is_some (signature_at p heading)) × Goes is_section_item p at next
+ItemFits p at (ItemRow.RoutineSection heading next) =
+    Holds (is_some (signature_at p heading)) × Holds (nat_lt at heading) × Goes is_section_item p at next
 
 abbrev pub RowFits : ProgramRows → (at : ℕ) → Row → Type 0
-RowFits p at row.Nothing = Unit {0}
-RowFits p at (row.Type t) = TypeFits p t
-RowFits p at (row.Name n) = NameFits p n
-RowFits p at (row.Part q) = PartFits p at q
-RowFits p at (row.Statement s) = StatementFits p at s
-RowFits p at (row.Expression e) = ExpressionFits p e
-RowFits p at (row.Access a) = AccessFits p at a
-RowFits p at (row.Item i) = ItemFits p at i
+RowFits p at Row.Nothing = Unit {0}
+RowFits p at (Row.Type t) = TypeFits p t
+RowFits p at (Row.Name n) = NameFits p n
+RowFits p at (Row.Part q) = PartFits p at q
+RowFits p at (Row.Statement s) = StatementFits p at s
+RowFits p at (Row.Expression e) = ExpressionFits p e
+RowFits p at (Row.Access a) = AccessFits p at a
+RowFits p at (Row.Item i) = ItemFits p at i
 
 -- A routine has its statements, and a function a place for its result as its heading says. The program block has no
 -- heading.
@@ -380,51 +364,51 @@ pub record RoutineFits (p : ProgramRows) (r : Routine) : Type 0 where
 
 -- the constructs of which a construct is made, by their numbers
 abbrev pub parts_of : Row → List ℕ
-parts_of (row.Statement (statement.Assign line target value of')) = target ∷ value ∷ []
-parts_of (row.Statement (statement.Call line routine levels actuals)) = actuals ∷ []
-parts_of (row.Statement (statement.CallFormal line formal levels actuals)) = actuals ∷ []
-parts_of (row.Statement (statement.Labelled label s)) = s ∷ []
-parts_of (row.Statement (statement.Compound statements)) = statements ∷ []
-parts_of (row.Statement (statement.If line condition then')) = condition ∷ then' ∷ []
-parts_of (row.Statement (statement.IfElse line condition then' otherwise)) = condition ∷ then' ∷ otherwise ∷ []
-parts_of (row.Statement (statement.Case line selector choices)) = selector ∷ choices ∷ []
-parts_of (row.Statement (statement.Repeat line statements condition)) = statements ∷ condition ∷ []
-parts_of (row.Statement (statement.While line condition body)) = condition ∷ body ∷ []
-parts_of (row.Statement (statement.For line initial turns)) = initial ∷ turns ∷ []
-parts_of (row.Statement (statement.Turns direction last place of' body)) = last ∷ body ∷ []
-parts_of (row.Statement (statement.With line records body)) = records ∷ body ∷ []
-parts_of (row.Statement (statement.Read ends_line line actuals)) = actuals ∷ []
-parts_of (row.Statement (statement.Write ends_line line actuals)) = actuals ∷ []
-parts_of (row.Statement (statement.New line a of')) = a ∷ []
-parts_of (row.Statement (statement.Dispose line v of')) = v ∷ []
-parts_of (row.Statement (statement.Pack packing line unpacked index packed)) = unpacked ∷ index ∷ packed ∷ []
-parts_of (row.Expression (expression.Sign minus operand)) = operand ∷ []
-parts_of (row.Expression (expression.Not operand)) = operand ∷ []
-parts_of (row.Expression (expression.Arithmetic operator left right)) = left ∷ right ∷ []
-parts_of (row.Expression (expression.Logic operator left right)) = left ∷ right ∷ []
-parts_of (row.Expression (expression.Sets operator left right)) = left ∷ right ∷ []
-parts_of (row.Expression (expression.Compare order left right)) = left ∷ right ∷ []
-parts_of (row.Expression (expression.CompareTexts order left right)) = left ∷ right ∷ []
-parts_of (row.Expression (expression.CompareSets order left right)) = left ∷ right ∷ []
-parts_of (row.Expression (expression.ComparePointers equal left right)) = left ∷ right ∷ []
-parts_of (row.Expression (expression.In left right)) = left ∷ right ∷ []
-parts_of (row.Expression (expression.Set members)) = members ∷ []
-parts_of (row.Expression (expression.Apply routine levels actuals)) = actuals ∷ []
-parts_of (row.Expression (expression.ApplyFormal formal levels actuals)) = actuals ∷ []
-parts_of (row.Expression (expression.Function function operand least greatest)) = operand ∷ []
-parts_of (row.Access (access.Index inner index array of')) = inner ∷ index ∷ []
-parts_of (row.Access (access.Field inner field of')) = inner ∷ []
-parts_of (row.Access (access.Dereference inner of')) = inner ∷ []
-parts_of (row.Item (item.Element x next)) = x ∷ next ∷ []
-parts_of (row.Item (item.Value v of' next)) = v ∷ next ∷ []
-parts_of (row.Item (item.Place a next)) = a ∷ next ∷ []
-parts_of (row.Item (item.Routine routine levels next)) = next ∷ []
-parts_of (row.Item (item.RoutineFormal formal levels next)) = next ∷ []
-parts_of (row.Item (item.Written v of' next)) = v ∷ next ∷ []
-parts_of (row.Item (item.WrittenWide v of' width next)) = v ∷ width ∷ next ∷ []
-parts_of (row.Item (item.Member v next)) = v ∷ next ∷ []
-parts_of (row.Item (item.Members first last next)) = first ∷ last ∷ next ∷ []
-parts_of (row.Item (item.Choice value chosen next)) = chosen ∷ next ∷ []
+parts_of (Row.Statement (statement.Assign line target value of')) = target ∷ value ∷ []
+parts_of (Row.Statement (statement.Call line routine levels actuals)) = actuals ∷ []
+parts_of (Row.Statement (statement.CallFormal line formal levels actuals)) = actuals ∷ []
+parts_of (Row.Statement (statement.Labelled label s)) = s ∷ []
+parts_of (Row.Statement (statement.Compound statements)) = statements ∷ []
+parts_of (Row.Statement (statement.If line condition then')) = condition ∷ then' ∷ []
+parts_of (Row.Statement (statement.IfElse line condition then' otherwise)) = condition ∷ then' ∷ otherwise ∷ []
+parts_of (Row.Statement (statement.Case line selector choices)) = selector ∷ choices ∷ []
+parts_of (Row.Statement (statement.Repeat line statements condition)) = statements ∷ condition ∷ []
+parts_of (Row.Statement (statement.While line condition body)) = condition ∷ body ∷ []
+parts_of (Row.Statement (statement.For line initial turns)) = initial ∷ turns ∷ []
+parts_of (Row.Statement (statement.Turns direction last place of' body)) = last ∷ body ∷ []
+parts_of (Row.Statement (statement.With line records body)) = records ∷ body ∷ []
+parts_of (Row.Statement (statement.Read ends_line line actuals)) = actuals ∷ []
+parts_of (Row.Statement (statement.Write ends_line line actuals)) = actuals ∷ []
+parts_of (Row.Statement (statement.New line a of')) = a ∷ []
+parts_of (Row.Statement (statement.Dispose line v of')) = v ∷ []
+parts_of (Row.Statement (statement.Pack packing line unpacked index packed)) = unpacked ∷ index ∷ packed ∷ []
+parts_of (Row.Expression (ExpressionRow.Sign minus operand)) = operand ∷ []
+parts_of (Row.Expression (ExpressionRow.Not operand)) = operand ∷ []
+parts_of (Row.Expression (ExpressionRow.Arithmetic operator left right)) = left ∷ right ∷ []
+parts_of (Row.Expression (ExpressionRow.Logic operator left right)) = left ∷ right ∷ []
+parts_of (Row.Expression (ExpressionRow.Sets operator left right)) = left ∷ right ∷ []
+parts_of (Row.Expression (ExpressionRow.Compare order left right)) = left ∷ right ∷ []
+parts_of (Row.Expression (ExpressionRow.CompareTexts order left right)) = left ∷ right ∷ []
+parts_of (Row.Expression (ExpressionRow.CompareSets order left right)) = left ∷ right ∷ []
+parts_of (Row.Expression (ExpressionRow.ComparePointers equal left right)) = left ∷ right ∷ []
+parts_of (Row.Expression (ExpressionRow.In left right)) = left ∷ right ∷ []
+parts_of (Row.Expression (ExpressionRow.Set members)) = members ∷ []
+parts_of (Row.Expression (ExpressionRow.Apply routine levels actuals)) = actuals ∷ []
+parts_of (Row.Expression (ExpressionRow.ApplyFormal formal levels actuals)) = actuals ∷ []
+parts_of (Row.Expression (ExpressionRow.Function function operand least greatest)) = operand ∷ []
+parts_of (Row.Access (AccessRow.Index inner index array of')) = inner ∷ index ∷ []
+parts_of (Row.Access (AccessRow.Field inner field of')) = inner ∷ []
+parts_of (Row.Access (AccessRow.Dereference inner of')) = inner ∷ []
+parts_of (Row.Item (ItemRow.Element x next)) = x ∷ next ∷ []
+parts_of (Row.Item (ItemRow.Value v of' next)) = v ∷ next ∷ []
+parts_of (Row.Item (ItemRow.Place a next)) = a ∷ next ∷ []
+parts_of (Row.Item (ItemRow.Routine routine levels next)) = next ∷ []
+parts_of (Row.Item (ItemRow.RoutineFormal formal levels next)) = next ∷ []
+parts_of (Row.Item (ItemRow.Written v of' next)) = v ∷ next ∷ []
+parts_of (Row.Item (ItemRow.WrittenWide v of' width next)) = v ∷ width ∷ next ∷ []
+parts_of (Row.Item (ItemRow.Member v next)) = v ∷ next ∷ []
+parts_of (Row.Item (ItemRow.Members first last next)) = first ∷ last ∷ next ∷ []
+parts_of (Row.Item (ItemRow.Choice value chosen next)) = chosen ∷ next ∷ []
 parts_of r = []
 
 -- the part at a position of a construct
@@ -433,12 +417,12 @@ part_at p n i = slice_get (parts_of (row_at p n)) i
 
 -- What many may name: the end of lists, and the one row of all empty statements.
 abbrev pub is_common_row : Row → Bool
-is_common_row (row.Type t) = true
-is_common_row (row.Statement statement.Empty) = true
+is_common_row (Row.Type t) = true
+is_common_row (Row.Statement statement.Empty) = true
 is_common_row r = false
 
 abbrev pub is_choice_row : Row → Bool
-is_choice_row (row.Item (item.Choice value chosen next)) = true
+is_choice_row (Row.Item (ItemRow.Choice value chosen next)) = true
 is_choice_row r = false
 
 -- several constants may choose one thing
@@ -454,7 +438,7 @@ Each P (n ∷ ns) = P n × Each P ns
 -- Each record of a with statement is inside of those before it, and the body inside of all: none needs more records
 -- around it than are there. `n` is how many are looked at, with the end of the list.
 abbrev pub ScopedItem : (around : ℕ → ℕ) → (More : (records at : ℕ) → Type 0) → (records body : ℕ) → Row → Type 0
-ScopedItem around More w body (row.Item (item.Element a next)) = (around a ≤ w) × More (w + 1) next
+ScopedItem around More w body (Row.Item (ItemRow.Element a next)) = (around a ≤ w) × More (w + 1) next
 ScopedItem around More w body r = around body ≤ w
 
 abbrev pub ScopedRecords : ProgramRows → (around : ℕ → ℕ) → (n records at body : ℕ) → Type 0
@@ -465,8 +449,8 @@ ScopedRecords p around (suc n) w at body =
 -- A name alone of a field needs the with statements' records around it up to the one that it belongs to, and another
 -- construct those that its parts need.
 abbrev pub ScopedRow : ProgramRows → (around : ℕ → ℕ) → (at : ℕ) → Row → Type 0
-ScopedRow p around at (row.Access (access.Within record' field of')) = record' < around at
-ScopedRow p around at (row.Statement (statement.With line records body)) =
+ScopedRow p around at (Row.Access (AccessRow.Within record' field of')) = record' < around at
+ScopedRow p around at (Row.Statement (statement.With line records body)) =
     ScopedRecords p around (length p.rows) (around at) records body
 ScopedRow p around at r = Each (λ n. around n ≤ around at) (parts_of r)
 
@@ -474,7 +458,7 @@ ScopedRow p around at r = Each (λ n. around n ≤ around at) (parts_of r)
 
 pub record WholeTables (p : ProgramRows) : Type 0 where
   -- lists end at the number of the type integer
-  pub integer : type_at p 0 ≡ Some (kind.Ordinal (negsuc 2147483646) (pos 2147483647))
+  pub integer : type_at p 0 ≡ Some (TypeRow.Ordinal (negsuc 2147483646) (pos 2147483647))
   -- each number that a row names is that of a row of the kind that its place takes
   pub rows : (at : ℕ) → RowFits p at (row_at p at)
   pub routines : (number : ℕ) (r : Routine) → routine_at p number ≡ Some r → RoutineFits p r

@@ -1,16 +1,8 @@
 //! Laws of the definitions, each the contract of a call that does nothing.
 
-ghost use Rattle.core_program.specs.Laws.{
-  DepthIsEnough,
-  EveryCallRuns,
-  EveryProgramRuns,
-  EveryRunHasACall,
-  FirstHasNoParent,
-  LastIsACall,
-  MarksTellTheLog,
-  OthersHaveAParent,
-  SubtreeIsInterval,
-};
+ghost use Rattle.core_program.specs.Laws.{DepthIsEnough, EveryCallRuns, EveryProgramRuns, EveryRunHasACall};
+ghost use Rattle.core_program.specs.Laws.{FirstHasNoParent, LastIsACall, MarksTellTheLog, OthersHaveAParent};
+ghost use Rattle.core_program.specs.Laws.{SubtreeIsInterval};
 
 /// Every program with whole tables has a run with every input and budget.
 pub fn every_program_runs()

@@ -5,6 +5,7 @@
 //! `run_laws` do nothing: each is a law of these definitions.
 #![tactic(auto)]
 
+mod classes;
 mod components;
 mod headings;
 mod laws;

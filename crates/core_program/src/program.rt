@@ -1,12 +1,15 @@
 //! A program.
 
-ghost use Rattle.std.specs.Prelude.{◌≡◌, ◌<◌, Some, length};
-ghost use Rattle.core_program.specs.ProgramRows.{frame_of, name_of, offset_of, row_at, routine_at, size_of, text_at};
-ghost use Rattle.core_program.specs.ProgramRows.{type_at};
-ghost use Rattle.core_program.specs.WholeTables.{WholeTables};
+ghost use Rattle.std.specs.Prelude.{◌<◌, ◌≡◌, IfOk, Some, length};
+ghost use Rattle.core_program.specs.{ProgramRows.type_at, WholeTables.WholeTables};
+ghost use Rattle.core_program.specs.Headings.{lists_match, signature_at};
+ghost use Rattle.core_program.specs.ProgramRows.{frame_of, name_of, offset_of, routine_at, row_at, size_of, text_at};
 
+use crate::classes::{class_at, classes_of};
+use crate::headings::{Signature, signature_at};
 use crate::rows::{Row, TypeRow};
 use crate::tables::ProgramTables;
+use std::alloc::{AllocError, Global};
 use std::marker::Model;
 
 /// A routine. Routine 0 is the program block, the others are numbered in the order of their first headings.
@@ -34,28 +37,36 @@ pub struct Routine {
 pub struct Program {
     tables: ProgramTables,
     main: Routine,
+    // By number, the class of the list of sections there: the same for two lists exactly if they match.
+    classes: Vec<u32>,
 }
 
 impl Model for Program {
     ghost use Rattle.std.specs.Prelude.{◌≡◌, Some};
+    ghost use Rattle.core_program.specs.{Classes.AreClasses, WholeTables.WholeTables};
     ghost use Rattle.core_program.specs.ProgramRows.{ProgramRows, routine_at};
-    ghost use Rattle.core_program.specs.WholeTables.{WholeTables};
 
     ghost Value = { ProgramRows };
 
     ghost view = { λ p. p.tables };
 
-    ghost invariant = { λ p. WholeTables p.tables × (routine_at p.tables 0 ≡ Some p.main) };
+    ghost invariant = { λ p. WholeTables p.tables × (routine_at p.tables 0 ≡ Some p.main)
+        × AreClasses p.tables p.classes.items };
 }
 
 impl Program {
     /// The program of these tables, which are whole.
-    pub fn new(tables: ProgramTables) -> Self
+    pub fn new(alloc: Global, tables: ProgramTables) -> Result<Self, AllocError>
         requires whole { WholeTables tables }
-        ensures { result ≡ tables }
+        ensures { IfOk result (λ p. p ≡ tables) }
     {
         let main = tables.routine(0).unwrap();
-        Program { tables, main }
+        let classes = classes_of(alloc, &tables)?;
+        Ok(Program {
+            tables,
+            main,
+            classes,
+        })
     }
 
     /// Its tables are whole, and the program block is there. The call does nothing.
@@ -100,6 +111,20 @@ impl Program {
         ensures { result ≡ routine_at self.now number }
     {
         self.tables.routine(number)
+    }
+
+    /// The parameters and the result of a heading, by its number.
+    pub(crate) fn signature(&self, heading: u32) -> Option<Signature>
+        ensures { result ≡ signature_at self.now heading }
+    {
+        signature_at(&self.tables, heading)
+    }
+
+    /// Whether two lists of sections match.
+    pub(crate) fn lists_match(&self, left: u32, right: u32) -> bool
+        ensures { result ≡ lists_match (length self.now.rows) self.now left right }
+    {
+        class_at(&self.classes, left) == class_at(&self.classes, right)
     }
 
     /// How many routines there are.

@@ -147,7 +147,7 @@ pub enum NameRow {
 }
 
 /// How a frame holds a variable or a parameter.
-#[derive(Clone, Copy, PartialEq, Eq)]
+#[derive(Clone, Copy, PartialEq, Eq, Hash)]
 pub enum Mode {
     /// The variable of a variable part: its cells.
     Own,

@@ -1,20 +1,9 @@
 //! Laws of the definitions, each the contract of a call that does nothing.
 
-ghost use Rattle.core_program.specs.RunLaws.{
-  ActsAreCountable,
-  ActsKeepSound,
-  BodiesRepeat,
-  CallsAreCountable,
-  CallsAreCounted,
-  CallsKeepSound,
-  PartsAreCountable,
-  PartsKeepSound,
-  RecordsStand,
-  RunsAreCountable,
-  RunsBeginSound,
-  RunsKeepItems,
-  RunsKeepSound,
-};
+ghost use Rattle.core_program.specs.RunLaws.{ActsAreCountable, ActsKeepSound, BodiesRepeat, CallsAreCountable};
+ghost use Rattle.core_program.specs.RunLaws.{CallsAreCounted, CallsKeepSound, PartsAreCountable, PartsKeepSound};
+ghost use Rattle.core_program.specs.RunLaws.{RecordsStand, RunsAreCountable, RunsBeginSound, RunsKeepItems};
+ghost use Rattle.core_program.specs.RunLaws.{RunsKeepSound};
 
 /// The states of runs are sound: the first one is, and acts, parts of a program and calls keep a sound state sound. The
 /// items of the input stay the same.

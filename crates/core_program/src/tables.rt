@@ -1,9 +1,8 @@
 //! The tables of a program, which a check fills.
 
-ghost use Rattle.std.specs.Prelude.{◌≡◌, ◌++◌, ◌∷◌, [], is_some, length, map, slice_get, IfOk, OnOk};
-ghost use Rattle.core_program.specs.ProgramRows.{blank_tables, row_at, routine_at, text_at, type_at, name_of};
-ghost use Rattle.core_program.specs.ProgramRows.{frame_of};
-ghost use Rattle.core_program.specs.ProgramRows.{size_of, offset_of, with_row, with_routine};
+ghost use Rattle.std.specs.Prelude.{◌++◌, ◌∷◌, ◌≡◌, [], IfOk, OnOk, is_some, length, map, slice_get};
+ghost use Rattle.core_program.specs.ProgramRows.{blank_tables, frame_of, name_of, offset_of, routine_at, row_at};
+ghost use Rattle.core_program.specs.ProgramRows.{size_of, text_at, type_at, with_routine, with_row};
 
 use crate::program::Routine;
 use crate::rows::{NameRow, Row, TypeRow};

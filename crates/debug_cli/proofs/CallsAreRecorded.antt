@@ -1,17 +1,11 @@
 -- Each call of a run has a record.
-use Rattle.std.proofs.Common.{◌≡◌, ◌<◌, ℕ, ap, ◌∙◌, arith, length, Some}
-use Rattle.std.specs.Prelude.{slice_get}
-use Rattle.std.specs.Option.{option_map}
-use Rattle.std.proofs.lemmas.List.{length-map}
-use Rattle.std.proofs.lemmas.Option.{slice_get-map}
+use Rattle.std.proofs.Common.{◌<◌, ◌∙◌, ◌≡◌, ℕ, Some, ap, arith, length, slice_get}
+use Rattle.std.{proofs.lemmas.List.length-map, proofs.lemmas.Option.slice_get-map, specs.Option.option_map}
+use Rattle.core_program.specs.{Numbering.calls_of, ProgramRows.ProgramRows, Run.Call, Run.run}
 use Rattle.call_tree.specs.Recording.{lasts_of}
-use Rattle.core_program.specs.ProgramRows.{ProgramRows}
-use Rattle.core_program.specs.Run.{Call, run}
-use Rattle.core_program.specs.Numbering.{calls_of}
 use Rattle.program_run.specs.Table.{table_of}
 use Rattle.body_replay.specs.Replays.{records_of}
-use Rattle.debuggee.specs.Execution.{Supply, calls_with}
-use Rattle.debuggee.proofs.CallsAreNumbered.{row_at, rows_length}
+use Rattle.debuggee.{proofs.CallsAreNumbered.row_at, proofs.CallsAreNumbered.rows_length, specs.Execution.Supply, specs.Execution.calls_with}
 
 pub call_is_recorded : (p : ProgramRows) (s : Supply) (call : ℕ) → call < length (lasts_of (calls_with s p))
     → (c : Call) × (slice_get (records_of (run p s.input s.budget)) call ≡ Some c)

@@ -1,9 +1,7 @@
 -- A digest is 32 bytes.
-use Rattle.std.proofs.Common.{ℕ, ◌<◌, zero, suc, List, [], ◌∷◌, ◌++◌, arith}
-use Rattle.std.specs.Prelude.{slice_index}
+use Rattle.std.proofs.Common.{◌++◌, ◌<◌, ◌∷◌, [], ℕ, List, arith, slice_index, suc, zero}
 use Rattle.std.specs.Int.{byte_at, bytes_high_first}
-use Rattle.sha2.proofs.Facts256.{length-sha256}
-use Rattle.sha2.specs.Sha256.{digest_bytes, sha256}
+use Rattle.sha2.{proofs.Facts256.length-sha256, specs.Sha256.digest_bytes, specs.Sha256.sha256}
 use Rattle.session_file.specs.Whole.{IsDigest}
 
 byte_below : (i n : ℕ) → byte_at i n < 256

@@ -1,25 +1,15 @@
 -- Where the keeper tells its files: what the words name is one program with its input and its session, and all of it is fetched.
-use Rattle.std.proofs.Common.{◌≡◌, inl, inr, ℕ, ◌<◌, List, [], Option, Some, None, IsSome, Result, Ok, Err, length, sym, ap, subst, ◌∙◌, arith}
-use Rattle.std.specs.Prelude.{IsSomeAnd}
+use Rattle.std.proofs.Common.{◌<◌, ◌∙◌, ◌≡◌, [], ℕ, Err, IsSome, IsSomeAnd, List, None, Ok, Option, Result, Some, ap, arith, inl, inr, length, subst, sym}
 use Rattle.sha2.specs.Sha256.{sha256}
-use Rattle.edge_ports.specs.Counts.{KeeperCounts, CountsFetch}
+use Rattle.edge_ports.specs.{Counts.CountsFetch, Counts.KeeperCounts, declared.ports.FetchFault.FetchFault}
 use Rattle.edge_ports.specs.Files.{FileMap, HoldsFile, HoldsLonger, LacksFile}
-use Rattle.edge_ports.specs.declared.ports.FetchFault.{FetchFault}
-use Rattle.edge_ports.specs.declared.ports.FetchFault.TheVariants as fetch
+use Rattle.session_file.specs.{Reading.session_of, declared.session.LoadFault.LoadFault, declared.session.Session.Session}
+use Rattle.made_program.specs.{Lines.made_lines, Source.made_source}
 use Rattle.command_words.specs.Meaning.{Requested, Source}
-use Rattle.session_file.specs.declared.session.LoadFault.{LoadFault}
-use Rattle.session_file.specs.declared.session.Session.{Session}
-use Rattle.session_file.specs.Reading.{session_of}
-use Rattle.debuggee.specs.Execution.{Execution, execution_of}
-use Rattle.debuggee.specs.Program.{IsProgram}
-use Rattle.debuggee.specs.Subjects.{subject_of}
-use Rattle.debuggee.specs.Limits.{most_steps}
-use Rattle.made_program.specs.Lines.{made_lines}
-use Rattle.made_program.specs.Source.{made_source}
-use Rattle.debug_cli.specs.Laws.{OneRun}
+use Rattle.debuggee.specs.{Execution.Execution, Execution.execution_of, Limits.most_steps, Program.IsProgram, Subjects.subject_of}
+use Rattle.debug_cli.specs.{Laws.OneRun, Outside.NoFetchFailed}
 use Rattle.debug_cli.specs.Named.{Begun, Checked, FileSought, IsFetchFault, IsFetched, IsInput, IsSaved, IsSought, MadeProgram, NotFetched, SessionRefused}
 use Rattle.debug_cli.specs.Named.{SourceRefused, Supplied, made_text, session_bytes, start_in, subject_in}
-use Rattle.debug_cli.specs.Outside.{NoFetchFailed}
 
 same_some : {A : Type 0} {a b : A} → Some a ≡ Some b → a ≡ b
 same_some e = cc
@@ -143,15 +133,15 @@ module _ (r : Requested) (files : Option FileMap) (told : IsSome files) where
   pub no_fault_at : (before now : KeeperCounts) → NoFetchFailed before now → (x : NotFetched r files) → Fits x.file → CountsFetch (Err x.why) before now → ⊥
   no_fault_at before now well x f counts = by x.why x.cause counts
     where
-      failed : NoFetchFailed before now → CountsFetch (Err fetch.Failed) before now → ⊥
+      failed : NoFetchFailed before now → CountsFetch (Err FetchFault.Failed) before now → ⊥
       failed (inl stayed) counts = stayed (ap (λ (c : KeeperCounts). c.faults) counts)
       failed (inr stored) counts = stored (ap (λ (c : KeeperCounts). c.stores) counts)
 
       by : (why : FetchFault) → IsFetchFault why x.file files → CountsFetch (Err why) before now → ⊥
-      by fetch.Absent cause counts = no_lack x.file.name f.0 x.file.limit f.1 cause
-      by fetch.Failed cause counts = failed well counts
-      by (fetch.TooLong limit) cause counts = no_longer x.file.name f.0 x.file.limit f.1 cause
-      by fetch.Memory cause counts = cause
+      by FetchFault.Absent cause counts = no_lack x.file.name f.0 x.file.limit f.1 cause
+      by FetchFault.Failed cause counts = failed well counts
+      by (FetchFault.TooLong limit) cause counts = no_longer x.file.name f.0 x.file.limit f.1 cause
+      by FetchFault.Memory cause counts = cause
 
   pub no_fault : Comes → (before now : KeeperCounts) → NoFetchFailed before now → (x : NotFetched r files) → CountsFetch (Err x.why) before now → ⊥
   no_fault comes before now well x counts = no_fault_at before now well x (comes x.file x.sought) counts

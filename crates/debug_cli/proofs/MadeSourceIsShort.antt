@@ -1,6 +1,5 @@
 -- A made source is short enough to be read.
-use Rattle.std.proofs.Common.{ℕ, ◌≤◌, ◌++◌, length, length-append, codes, arith}
-use Rattle.std.specs.Prelude.{decimal}
+use Rattle.std.proofs.Common.{◌++◌, ◌≤◌, ℕ, arith, codes, decimal, length, length-append}
 use Rattle.std.proofs.lemmas.Fmt.{length-decimal-le}
 use Rattle.pas_lexer.specs.Limits.{source_bytes}
 use Rattle.made_program.specs.Source.{made_source}

@@ -1,13 +1,10 @@
 -- A code tells its status.
-use Rattle.std.proofs.Common.{◌≡◌, ◌⊎◌, inl, inr, ℕ, Bool, true, nat_eq, ◌==◌, if◌then◌else◌, refl, sym, ap, subst, ◌∙◌}
+use Rattle.std.proofs.Common.{if◌then◌else◌, ◌==◌, ◌∙◌, ◌≡◌, ◌⊎◌, ℕ, Bool, ap, inl, inr, nat_eq, refl, subst, sym, true}
 use Rattle.edge_ports.specs.Counts.{Counted}
-use Rattle.debug_cli.specs.declared.status.Status.{Status}
-use Rattle.debug_cli.specs.declared.status.Status.TheVariants.{Done, Words, Source, File, Console, Screen, Memory, Session, Spent}
-use Rattle.ask_session.specs.declared.dialog.Ending.{Ending}
-use Rattle.ask_session.specs.declared.dialog.Ending.TheVariants as ending
-use Rattle.ask_session.specs.Console.{NotRisen}
+use Rattle.ask_session.specs.{Console.NotRisen, declared.dialog.Ending.Ending}
 use Rattle.ask_session.specs.Heard as session
-use Rattle.debug_cli.specs.Status.{code_of, is_console, is_screen, session_status}
+use Rattle.debug_cli.specs.{Status.code_of, Status.is_console, Status.is_screen, Status.session_status, declared.status.Status.Status}
+use Rattle.debug_cli.specs.declared.status.Status.TheVariants.{Console, Done, File, Memory, Screen, Session, Source, Spent, Words}
 
 abbrev status_with : ℕ → Status
 status_with n =
@@ -81,17 +78,17 @@ screen_counted s n before now e k = subst (λ (b : Bool). Counted b before now) 
 
 -- the status of a session that ended so tells what failed
 pub console_by_end : (e : Ending) → session.is_console e ≡ is_console (session_status e)
-console_by_end ending.Done = refl
-console_by_end ending.Console = refl
-console_by_end ending.Screen = refl
-console_by_end ending.Spent = refl
-console_by_end ending.Refused = refl
-console_by_end ending.Memory = refl
+console_by_end Ending.Done = refl
+console_by_end Ending.Console = refl
+console_by_end Ending.Screen = refl
+console_by_end Ending.Spent = refl
+console_by_end Ending.Refused = refl
+console_by_end Ending.Memory = refl
 
 pub screen_by_end : (e : Ending) → session.is_screen e ≡ is_screen (session_status e)
-screen_by_end ending.Done = refl
-screen_by_end ending.Console = refl
-screen_by_end ending.Screen = refl
-screen_by_end ending.Spent = refl
-screen_by_end ending.Refused = refl
-screen_by_end ending.Memory = refl
+screen_by_end Ending.Done = refl
+screen_by_end Ending.Console = refl
+screen_by_end Ending.Screen = refl
+screen_by_end Ending.Spent = refl
+screen_by_end Ending.Refused = refl
+screen_by_end Ending.Memory = refl

@@ -1,27 +1,15 @@
 -- Where the keeper tells its files, and the source is no program or the session is refused: which status comes.
-use Rattle.std.proofs.Common.{◌≡◌, ◌⊎◌, inl, inr, List, ℕ, Option, Some, None, IsSome, Err, refl, sym, ap, subst, ◌∙◌}
-use Rattle.edge_ports.specs.Counts.{CountsFetch, KeeperCounts}
-use Rattle.edge_ports.specs.Files.{FileMap}
-use Rattle.edge_ports.specs.declared.ports.FetchFault.{FetchFault}
-use Rattle.edge_ports.specs.declared.ports.FetchFault.TheVariants as fetch
-use Rattle.command_words.specs.Meaning.{Meant, Requested, Source, Made}
-use Rattle.dialog_replies.specs.declared.misfits.Misfit.{Misfit}
-use Rattle.dialog_replies.specs.Fit.{misfit}
+use Rattle.std.proofs.Common.{◌∙◌, ◌≡◌, ◌⊎◌, ℕ, Err, IsSome, List, None, Option, Some, ap, inl, inr, refl, subst, sym}
+use Rattle.edge_ports.specs.{Counts.CountsFetch, Counts.KeeperCounts, Files.FileMap, declared.ports.FetchFault.FetchFault}
+use Rattle.dialog_replies.specs.{Fit.misfit, declared.misfits.Misfit.Misfit}
+use Rattle.ask_session.specs.{Heard.RefusedBy, Outside.Outside, declared.dialog.Ending.Ending}
+use Rattle.command_words.specs.Meaning.{Made, Meant, Requested, Source}
 use Rattle.debuggee.specs.Program.{IsProgram, NoProgram}
-use Rattle.ask_session.specs.declared.dialog.Ending.{Ending}
-use Rattle.ask_session.specs.declared.dialog.Ending.TheVariants as ending
-use Rattle.ask_session.specs.Outside.{Outside}
-use Rattle.ask_session.specs.Heard.{RefusedBy}
-use Rattle.debug_cli.specs.declared.status.Status.{Status}
-use Rattle.debug_cli.specs.declared.status.Status.TheVariants as status
-use Rattle.debug_cli.specs.Goes.{Goes, HasGone, Owes, Talks}
-use Rattle.debug_cli.specs.Laws.{OneRun}
-use Rattle.debug_cli.specs.Named.{Begun, Checked, FileSought, IsFetchFault, IsSource, IsSought, MadeProgram, NotFetched, start_in, subject_in}
-use Rattle.debug_cli.specs.Outside.{NoFetchFailed, NoneRisen}
-use Rattle.debug_cli.specs.Status.{code_of}
-use Rattle.debug_cli.specs.Setting.{MeansNoProgram, MeansNoSession}
 use Rattle.debug_cli.proofs.FilesAreTold.{Comes, Fits, begun_comes, no_fault, no_fault_at, no_other_session, no_refusal, refused_comes, same_file, same_start}
 use Rattle.debug_cli.proofs.FilesAreTold.{same_subject}
+use Rattle.debug_cli.specs.{Goes.Goes, Goes.HasGone, Goes.Owes, Goes.Talks, Laws.OneRun, Outside.NoFetchFailed, Outside.NoneRisen, Setting.MeansNoProgram}
+use Rattle.debug_cli.specs.{Setting.MeansNoSession, Status.code_of, declared.status.Status.Status}
+use Rattle.debug_cli.specs.Named.{Begun, Checked, FileSought, IsFetchFault, IsSought, IsSource, MadeProgram, NotFetched, start_in, subject_in}
 
 module _ (before after : Outside) (told : IsSome before.files) (well : NoFetchFailed before.counts after.counts) where
   -- ---- the source is no program
@@ -41,38 +29,38 @@ module _ (before after : Outside) (told : IsSome before.files) (well : NoFetchFa
     sought_not x counts (inr (inl is)) = no_checked is.0
     sought_not x counts (inr (inr is)) = no_checked is.0.source
 
-    source_refused : (s : Status) → Goes (Some (Source r)) before after s → (s ≡ status.Screen → ⊥) → (s ≡ status.Source) ⊎ (s ≡ status.Memory)
-    source_refused status.Done (inl x) screen = absurd x.owed
-    source_refused status.Done (inr t) screen = absurd (no_talk ending.Done t)
-    source_refused status.Words x screen = absurd x.owed
-    source_refused status.Source x screen = inl refl
-    source_refused status.File x screen = absurd (sought_not x.owed.0 x.owed.2 x.owed.0.sought)
-    source_refused status.Console t screen = absurd (no_talk ending.Console t)
-    source_refused status.Screen h screen = absurd (screen refl)
-    source_refused status.Memory h screen = inr refl
-    source_refused status.Session (inl x) screen = absurd (no_checked x.owed.0.run.source)
-    source_refused status.Session (inr t) screen = absurd (no_talk ending.Refused t)
-    source_refused status.Spent t screen = absurd (no_talk ending.Spent t)
+    source_refused : (s : Status) → Goes (Some (Source r)) before after s → (s ≡ Status.Screen → ⊥) → (s ≡ Status.Source) ⊎ (s ≡ Status.Memory)
+    source_refused Status.Done (inl x) screen = absurd x.owed
+    source_refused Status.Done (inr t) screen = absurd (no_talk Ending.Done t)
+    source_refused Status.Words x screen = absurd x.owed
+    source_refused Status.Source x screen = inl refl
+    source_refused Status.File x screen = absurd (sought_not x.owed.0 x.owed.2 x.owed.0.sought)
+    source_refused Status.Console t screen = absurd (no_talk Ending.Console t)
+    source_refused Status.Screen h screen = absurd (screen refl)
+    source_refused Status.Memory h screen = inr refl
+    source_refused Status.Session (inl x) screen = absurd (no_checked x.owed.0.run.source)
+    source_refused Status.Session (inr t) screen = absurd (no_talk Ending.Refused t)
+    source_refused Status.Spent t screen = absurd (no_talk Ending.Spent t)
 
   module _ (number : ℕ) (bytes : List ℕ) (source : IsSource (Made number) before.files bytes) (none : NoProgram bytes) where
     no_made : MadeProgram number → ⊥
     no_made x = none x.tokens x.rows (subst (λ (b : List ℕ). IsProgram b x.tokens x.rows) (sym source) x.program)
 
-    made_refused : (s : Status) → Goes (Some (Made number)) before after s → (s ≡ status.Screen → ⊥) → (s ≡ status.Source) ⊎ (s ≡ status.Memory)
-    made_refused status.Done (inl x) screen = absurd (no_made x.owed.0)
-    made_refused status.Done (inr t) screen = absurd t
-    made_refused status.Words x screen = absurd x.owed
-    made_refused status.Source x screen = inl refl
-    made_refused status.File x screen = absurd x.owed
-    made_refused status.Console t screen = absurd t
-    made_refused status.Screen h screen = absurd (screen refl)
-    made_refused status.Memory h screen = inr refl
-    made_refused status.Session (inl x) screen = absurd x.owed
-    made_refused status.Session (inr t) screen = absurd t
-    made_refused status.Spent t screen = absurd t
+    made_refused : (s : Status) → Goes (Some (Made number)) before after s → (s ≡ Status.Screen → ⊥) → (s ≡ Status.Source) ⊎ (s ≡ Status.Memory)
+    made_refused Status.Done (inl x) screen = absurd (no_made x.owed.0)
+    made_refused Status.Done (inr t) screen = absurd t
+    made_refused Status.Words x screen = absurd x.owed
+    made_refused Status.Source x screen = inl refl
+    made_refused Status.File x screen = absurd x.owed
+    made_refused Status.Console t screen = absurd t
+    made_refused Status.Screen h screen = absurd (screen refl)
+    made_refused Status.Memory h screen = inr refl
+    made_refused Status.Session (inl x) screen = absurd x.owed
+    made_refused Status.Session (inr t) screen = absurd t
+    made_refused Status.Spent t screen = absurd t
 
-  program_by : (m : Option Meant) → MeansNoProgram m before.files → (s : Status) → Goes m before after s → (s ≡ status.Screen → ⊥)
-      → (s ≡ status.Source) ⊎ (s ≡ status.Memory)
+  program_by : (m : Option Meant) → MeansNoProgram m before.files → (s : Status) → Goes m before after s → (s ≡ Status.Screen → ⊥)
+      → (s ≡ Status.Source) ⊎ (s ≡ Status.Memory)
   program_by None means s h screen = absurd means
   program_by (Some (Source r)) (bytes, source, none) s h screen = source_refused r bytes source none s h screen
   program_by (Some (Made number)) (bytes, source, none) s h screen = made_refused number bytes source none s h screen
@@ -80,21 +68,21 @@ module _ (before after : Outside) (told : IsSome before.files) (well : NoFetchFa
   -- ---- the session is refused
 
   module _ (r : Requested) (checked : Checked r before.files) (comes : Comes r before.files told)
-      (quiet : (e : Ending) → (e ≡ ending.Done) ⊎ (e ≡ ending.Console) ⊎ (e ≡ ending.Spent) → Talks (Some (Source r)) before after e → ⊥) where
-    refused_so : (s : Status) → Goes (Some (Source r)) before after s → (s ≡ status.Screen → ⊥) → (s ≡ status.Session) ⊎ (s ≡ status.Memory)
-    refused_so status.Done (inl x) screen = absurd x.owed
-    refused_so status.Done (inr t) screen = absurd (quiet ending.Done (inl refl) t)
-    refused_so status.Words x screen = absurd x.owed
-    refused_so status.Source x screen = absurd (no_refusal r before.files told checked x.owed.0)
-    refused_so status.File x screen = absurd (no_fault r before.files told comes before.counts after.counts well x.owed.0 x.owed.2)
-    refused_so status.Console t screen = absurd (quiet ending.Console (inr (inl refl)) t)
-    refused_so status.Screen h screen = absurd (screen refl)
-    refused_so status.Memory h screen = inr refl
-    refused_so status.Session h screen = inl refl
-    refused_so status.Spent t screen = absurd (quiet ending.Spent (inr (inr refl)) t)
+      (quiet : (e : Ending) → (e ≡ Ending.Done) ⊎ (e ≡ Ending.Console) ⊎ (e ≡ Ending.Spent) → Talks (Some (Source r)) before after e → ⊥) where
+    refused_so : (s : Status) → Goes (Some (Source r)) before after s → (s ≡ Status.Screen → ⊥) → (s ≡ Status.Session) ⊎ (s ≡ Status.Memory)
+    refused_so Status.Done (inl x) screen = absurd x.owed
+    refused_so Status.Done (inr t) screen = absurd (quiet Ending.Done (inl refl) t)
+    refused_so Status.Words x screen = absurd x.owed
+    refused_so Status.Source x screen = absurd (no_refusal r before.files told checked x.owed.0)
+    refused_so Status.File x screen = absurd (no_fault r before.files told comes before.counts after.counts well x.owed.0 x.owed.2)
+    refused_so Status.Console t screen = absurd (quiet Ending.Console (inr (inl refl)) t)
+    refused_so Status.Screen h screen = absurd (screen refl)
+    refused_so Status.Memory h screen = inr refl
+    refused_so Status.Session h screen = inl refl
+    refused_so Status.Spent t screen = absurd (quiet Ending.Spent (inr (inr refl)) t)
 
   unfit_talks : OneRun → (r : Requested) (b : Begun r before.files) → IsSome (misfit (subject_in b) (start_in b)) → (e : Ending)
-      → (e ≡ ending.Done) ⊎ (e ≡ ending.Console) ⊎ (e ≡ ending.Spent) → Talks (Some (Source r)) before after e → ⊥
+      → (e ≡ Ending.Done) ⊎ (e ≡ Ending.Console) ⊎ (e ≡ Ending.Spent) → Talks (Some (Source r)) before after e → ⊥
   unfit_talks one r b unfit e which (a, w, whole) = by which w.refused
     where
       same : misfit (subject_in a) (start_in a) ≡ misfit (subject_in b) (start_in b)
@@ -103,13 +91,13 @@ module _ (before after : Outside) (told : IsSome before.files) (well : NoFetchFa
       not_none : misfit (subject_in a) (start_in a) ≡ None → ⊥
       not_none e = let some : IsSome {T = Misfit} None = subst IsSome (sym same ∙ e) unfit in let x : ⊥ = cc in x
 
-      by : (e ≡ ending.Done) ⊎ (e ≡ ending.Console) ⊎ (e ≡ ending.Spent) → RefusedBy e (misfit (subject_in a) (start_in a)) → ⊥
+      by : (e ≡ Ending.Done) ⊎ (e ≡ Ending.Console) ⊎ (e ≡ Ending.Spent) → RefusedBy e (misfit (subject_in a) (start_in a)) → ⊥
       by (inl is) refused = not_none (subst (λ (e : Ending). RefusedBy e (misfit (subject_in a) (start_in a))) is refused)
       by (inr (inl is)) refused = not_none (subst (λ (e : Ending). RefusedBy e (misfit (subject_in a) (start_in a))) is refused)
       by (inr (inr is)) refused = not_none (subst (λ (e : Ending). RefusedBy e (misfit (subject_in a) (start_in a))) is refused)
 
-  session_by : OneRun → (m : Option Meant) → MeansNoSession m before.files → (s : Status) → Goes m before after s → (s ≡ status.Screen → ⊥)
-      → (s ≡ status.Session) ⊎ (s ≡ status.Memory)
+  session_by : OneRun → (m : Option Meant) → MeansNoSession m before.files → (s : Status) → Goes m before after s → (s ≡ Status.Screen → ⊥)
+      → (s ≡ Status.Session) ⊎ (s ≡ Status.Memory)
   session_by one None means s h screen = absurd means
   session_by one (Some (Made number)) means s h screen = absurd means
   session_by one (Some (Source r)) (inl x) s h screen =
@@ -123,62 +111,62 @@ abbrev Expected : Status → Type 0
 Expected s = (code_of s ≡ 0) ⊎ (code_of s ≡ 3) ⊎ (code_of s ≡ 7) ⊎ (code_of s ≡ 8) ⊎ (code_of s ≡ 9)
 
 module _ (before after : Outside) where
-  not_fetched : NoneRisen before.counts after.counts → (why : FetchFault) → CountsFetch (Err why) before.counts after.counts → (why ≡ fetch.Memory → ⊥) → ⊥
-  not_fetched none fetch.Absent counts other = none.misses (ap (λ (c : KeeperCounts). c.misses) counts)
-  not_fetched none fetch.Failed counts other = none.faults (ap (λ (c : KeeperCounts). c.faults) counts)
-  not_fetched none (fetch.TooLong limit) counts other = none.overs (ap (λ (c : KeeperCounts). c.overs) counts)
-  not_fetched none fetch.Memory counts other = other refl
+  not_fetched : NoneRisen before.counts after.counts → (why : FetchFault) → CountsFetch (Err why) before.counts after.counts → (why ≡ FetchFault.Memory → ⊥) → ⊥
+  not_fetched none FetchFault.Absent counts other = none.misses (ap (λ (c : KeeperCounts). c.misses) counts)
+  not_fetched none FetchFault.Failed counts other = none.faults (ap (λ (c : KeeperCounts). c.faults) counts)
+  not_fetched none (FetchFault.TooLong limit) counts other = none.overs (ap (λ (c : KeeperCounts). c.overs) counts)
+  not_fetched none FetchFault.Memory counts other = other refl
 
-  no_memory : (why : FetchFault) (file : FileSought) (files : Option FileMap) → IsFetchFault why file files → why ≡ fetch.Memory → ⊥
+  no_memory : (why : FetchFault) (file : FileSought) (files : Option FileMap) → IsFetchFault why file files → why ≡ FetchFault.Memory → ⊥
   no_memory why file files cause is = subst (λ (w : FetchFault). IsFetchFault w file files) is cause
 
-  file_not : (m : Option Meant) → NoneRisen before.counts after.counts → (text : List ℕ) → Owes m before after status.File text → ⊥
+  file_not : (m : Option Meant) → NoneRisen before.counts after.counts → (text : List ℕ) → Owes m before after Status.File text → ⊥
   file_not None none text o = o
   file_not (Some (Made number)) none text o = o
   file_not (Some (Source r)) none text o = not_fetched none o.0.why o.2 (no_memory o.0.why o.0.file before.files o.0.cause)
 
-  words_not : (m : Option Meant) → IsSome m → (text : List ℕ) → Owes m before after status.Words text → ⊥
+  words_not : (m : Option Meant) → IsSome m → (text : List ℕ) → Owes m before after Status.Words text → ⊥
   words_not None some text o = let x : ⊥ = cc in x
   words_not (Some (Made number)) some text o = o
   words_not (Some (Source r)) some text o = o
 
   no_fault_by : (m : Option Meant) → IsSome m → NoneRisen before.counts after.counts → (s : Status) → Goes m before after s
-      → (s ≡ status.Console → ⊥) → (s ≡ status.Screen → ⊥) → Expected s
-  no_fault_by m some none status.Done h console screen = inl refl
-  no_fault_by m some none status.Words x console screen = absurd (words_not m some x.text x.owed)
-  no_fault_by m some none status.Source h console screen = inr (inl refl)
-  no_fault_by m some none status.File x console screen = absurd (file_not m none x.text x.owed)
-  no_fault_by m some none status.Console h console screen = absurd (console refl)
-  no_fault_by m some none status.Screen h console screen = absurd (screen refl)
-  no_fault_by m some none status.Memory h console screen = inr (inr (inl refl))
-  no_fault_by m some none status.Session h console screen = inr (inr (inr (inl refl)))
-  no_fault_by m some none status.Spent h console screen = inr (inr (inr (inr refl)))
+      → (s ≡ Status.Console → ⊥) → (s ≡ Status.Screen → ⊥) → Expected s
+  no_fault_by m some none Status.Done h console screen = inl refl
+  no_fault_by m some none Status.Words x console screen = absurd (words_not m some x.text x.owed)
+  no_fault_by m some none Status.Source h console screen = inr (inl refl)
+  no_fault_by m some none Status.File x console screen = absurd (file_not m none x.text x.owed)
+  no_fault_by m some none Status.Console h console screen = absurd (console refl)
+  no_fault_by m some none Status.Screen h console screen = absurd (screen refl)
+  no_fault_by m some none Status.Memory h console screen = inr (inr (inl refl))
+  no_fault_by m some none Status.Session h console screen = inr (inr (inr (inl refl)))
+  no_fault_by m some none Status.Spent h console screen = inr (inr (inr (inr refl)))
 
   no_words_by : (s : Status) → Goes None before after s → (code_of s ≡ 2) ⊎ (code_of s ≡ 6) ⊎ (code_of s ≡ 7)
-  no_words_by status.Done (inl x) = absurd x.owed
-  no_words_by status.Done (inr t) = absurd t
-  no_words_by status.Words x = inl refl
-  no_words_by status.Source x = absurd x.owed
-  no_words_by status.File x = absurd x.owed
-  no_words_by status.Console t = absurd t
-  no_words_by status.Screen h = inr (inl refl)
-  no_words_by status.Memory h = inr (inr refl)
-  no_words_by status.Session (inl x) = absurd x.owed
-  no_words_by status.Session (inr t) = absurd t
-  no_words_by status.Spent t = absurd t
+  no_words_by Status.Done (inl x) = absurd x.owed
+  no_words_by Status.Done (inr t) = absurd t
+  no_words_by Status.Words x = inl refl
+  no_words_by Status.Source x = absurd x.owed
+  no_words_by Status.File x = absurd x.owed
+  no_words_by Status.Console t = absurd t
+  no_words_by Status.Screen h = inr (inl refl)
+  no_words_by Status.Memory h = inr (inr refl)
+  no_words_by Status.Session (inl x) = absurd x.owed
+  no_words_by Status.Session (inr t) = absurd t
+  no_words_by Status.Spent t = absurd t
 
 -- ---- all of it, by what the command did
 
 module _ {m : Option Meant} {before after : Outside} {s : Status} (x : HasGone m before after s) where
-  pub program_refused : IsSome before.files → NoFetchFailed before.counts after.counts → MeansNoProgram m before.files → (s ≡ status.Screen → ⊥)
-      → (s ≡ status.Source) ⊎ (s ≡ status.Memory)
+  pub program_refused : IsSome before.files → NoFetchFailed before.counts after.counts → MeansNoProgram m before.files → (s ≡ Status.Screen → ⊥)
+      → (s ≡ Status.Source) ⊎ (s ≡ Status.Memory)
   program_refused told well means screen = program_by before after told well m means s x.goes screen
 
   pub session_refused : OneRun → IsSome before.files → NoFetchFailed before.counts after.counts → MeansNoSession m before.files
-      → (s ≡ status.Screen → ⊥) → (s ≡ status.Session) ⊎ (s ≡ status.Memory)
+      → (s ≡ Status.Screen → ⊥) → (s ≡ Status.Session) ⊎ (s ≡ Status.Memory)
   session_refused one told well means screen = session_by before after told well one m means s x.goes screen
 
-  pub no_fault_status : IsSome m → NoneRisen before.counts after.counts → (s ≡ status.Console → ⊥) → (s ≡ status.Screen → ⊥) → Expected s
+  pub no_fault_status : IsSome m → NoneRisen before.counts after.counts → (s ≡ Status.Console → ⊥) → (s ≡ Status.Screen → ⊥) → Expected s
   no_fault_status some none console screen = no_fault_by before after m some none s x.goes console screen
 
   pub no_words_status : m ≡ None → (code_of s ≡ 2) ⊎ (code_of s ≡ 6) ⊎ (code_of s ≡ 7)

@@ -1,22 +1,12 @@
 -- By the status that the command answers: why it came, what the screen got, and what became of the files.
-use Rattle.std.proofs.Common.{◌≡◌, inl, inr, List, ℕ, Option, Some, None, refl, sym, subst}
+use Rattle.std.proofs.Common.{◌≡◌, ℕ, List, None, Option, Some, inl, inr, refl, subst, sym}
 use Rattle.core_program.specs.WholeTables.{WholeTables}
-use Rattle.command_words.specs.Meaning.{Meant, Requested, Source, Made}
-use Rattle.ask_session.specs.declared.dialog.Ending.{Ending}
-use Rattle.ask_session.specs.declared.dialog.Ending.TheVariants as ending
-use Rattle.ask_session.specs.Outside.{Outside}
-use Rattle.ask_session.specs.Went.{Went}
-use Rattle.debug_cli.specs.declared.refusals.Refusal.{Refusal}
-use Rattle.debug_cli.specs.declared.refusals.Refusal.TheVariants as refusal
-use Rattle.debug_cli.specs.declared.status.Status.{Status}
-use Rattle.debug_cli.specs.declared.status.Status.TheVariants as status
-use Rattle.debug_cli.specs.Given.{GivesText}
-use Rattle.debug_cli.specs.Goes.{Goes, HasGone, Owes, Says}
+use Rattle.ask_session.specs.{Outside.Outside, Went.Went, declared.dialog.Ending.Ending}
+use Rattle.command_words.specs.Meaning.{Made, Meant, Requested, Source}
+use Rattle.debug_cli.specs.{Given.GivesText, Goes.Goes, Goes.HasGone, Goes.Owes, Goes.Says, Outside.LeavesAlone, Outside.outside, Status.session_status}
+use Rattle.debug_cli.specs.{Texts.usage_line, declared.refusals.Refusal.Refusal, declared.status.Status.Status}
 use Rattle.debug_cli.specs.Named.{Begun, MadeProgram, made_text, start_in, subject_in}
-use Rattle.debug_cli.specs.Outside.{LeavesAlone, outside}
 use Rattle.debug_cli.specs.Refusals.{GivesLine, IsRefusal, line_on, refusal_status}
-use Rattle.debug_cli.specs.Status.{session_status}
-use Rattle.debug_cli.specs.Texts.{usage_line}
 
 -- the keeper alone
 abbrev pub keeper_of : Outside → Outside
@@ -36,19 +26,19 @@ text_goes m before after alone result wanted text owed (inr g) whole =
 -- what is owed is told by the keeper alone
 owed_here : (why : Refusal) (m : Meant) (before after : Outside) (text : List ℕ)
     → Owes (Some m) (keeper_of before) (keeper_of after) (refusal_status why) text → Owes (Some m) before after (refusal_status why) text
-owed_here (refusal.Source why) m before after text owed = owed
-owed_here (refusal.File name why) (Source r) before after text owed = owed
-owed_here (refusal.File name why) (Made number) before after text owed = absurd owed
-owed_here (refusal.Session why) (Source r) before after text owed = owed
-owed_here (refusal.Session why) (Made number) before after text owed = absurd owed
-owed_here refusal.Memory m before after text owed = absurd owed
+owed_here (Refusal.Source why) m before after text owed = owed
+owed_here (Refusal.File name why) (Source r) before after text owed = owed
+owed_here (Refusal.File name why) (Made number) before after text owed = absurd owed
+owed_here (Refusal.Session why) (Source r) before after text owed = owed
+owed_here (Refusal.Session why) (Made number) before after text owed = absurd owed
+owed_here Refusal.Memory m before after text owed = absurd owed
 
 whole_here : (why : Refusal) (m : Meant) (before after : Outside) → Says (Some m) before after (refusal_status why)
     → Goes (Some m) before after (refusal_status why)
-whole_here (refusal.Source why) m before after s = s
-whole_here (refusal.File name why) m before after s = s
-whole_here (refusal.Session why) m before after s = inl s
-whole_here refusal.Memory m before after s = absurd s.owed
+whole_here (Refusal.Source why) m before after s = s
+whole_here (Refusal.File name why) m before after s = s
+whole_here (Refusal.Session why) m before after s = inl s
+whole_here Refusal.Memory m before after s = absurd s.owed
 
 refusal_goes : (m : Meant) (before after : Outside) → after.streams.left ≡ before.streams.left → (why : Refusal)
     → IsRefusal m (keeper_of before) (keeper_of after) why → (result : Status)
@@ -64,12 +54,12 @@ refusal_goes m before after left why is result (inr g) =
 
 pub talk_goes : (r : Requested) (before after : Outside) (b : Begun r before.files) → WholeTables b.run.source.rows → (e : Ending)
     → Went (subject_in b) (start_in b) before e after → Goes (Some (Source r)) before after (session_status e)
-talk_goes r before after b whole ending.Done w = inr (b, w, whole)
-talk_goes r before after b whole ending.Console w = (b, w, whole)
-talk_goes r before after b whole ending.Screen w = inr (b, w, whole)
-talk_goes r before after b whole ending.Spent w = (b, w, whole)
-talk_goes r before after b whole ending.Refused w = inr (b, w, whole)
-talk_goes r before after b whole ending.Memory w = inr (b, w, whole)
+talk_goes r before after b whole Ending.Done w = inr (b, w, whole)
+talk_goes r before after b whole Ending.Console w = (b, w, whole)
+talk_goes r before after b whole Ending.Screen w = inr (b, w, whole)
+talk_goes r before after b whole Ending.Spent w = (b, w, whole)
+talk_goes r before after b whole Ending.Refused w = inr (b, w, whole)
+talk_goes r before after b whole Ending.Memory w = inr (b, w, whole)
 
 -- after files were fetched all is as it was before
 same_outside : (before after : Outside) → keeper_of after ≡ keeper_of before → after.streams ≡ before.streams → after ≡ before
@@ -93,11 +83,11 @@ module _ {means : Option Meant} {before after : Outside} {s : Status} where
 
   -- the lines of a made program, and the one on words that mean nothing
   pub made_gone : {number : ℕ} → means ≡ Some (Made number) → LeavesAlone before after → after.counts ≡ before.counts → (x : MadeProgram number)
-      → GivesText s status.Done (made_text x) before.streams.given after.streams.given → HasGone means before after s
+      → GivesText s Status.Done (made_text x) before.streams.given after.streams.given → HasGone means before after s
   made_gone {number} is alone counts x gives =
-      as_meant is (text_goes (Some (Made number)) before after alone s status.Done (made_text x) (x, refl, counts) gives (λ y. inl y))
+      as_meant is (text_goes (Some (Made number)) before after alone s Status.Done (made_text x) (x, refl, counts) gives (λ y. inl y))
 
   pub words_gone : means ≡ None → LeavesAlone before after → after.counts ≡ before.counts
-      → GivesText s status.Words usage_line before.streams.given after.streams.given → HasGone means before after s
+      → GivesText s Status.Words usage_line before.streams.given after.streams.given → HasGone means before after s
   words_gone is alone counts gives =
-      as_meant is (text_goes None before after alone s status.Words usage_line (refl, counts) gives (λ y. y))
+      as_meant is (text_goes None before after alone s Status.Words usage_line (refl, counts) gives (λ y. y))

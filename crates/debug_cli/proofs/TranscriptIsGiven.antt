@@ -1,37 +1,22 @@
 -- Where the keeper tells the files that the words name, or they mean a made program: what the screen got, what became of the files, and which
 -- status comes.
-use Rattle.std.proofs.Common.{◌≡◌, ◌⊎◌, ◌≤◌, inl, inr, ℕ, Bool, List, [], Option, Some, None, length, refl, sym, ap, subst, ◌∙◌, arith}
-use Rattle.edge_ports.specs.Counts.{Counted}
-use Rattle.edge_ports.specs.Lines.{lines_of}
-use Rattle.edge_ports.specs.Told.{GaveAll, GavePrefix}
+use Rattle.std.proofs.Common.{◌∙◌, ◌≡◌, ◌≤◌, ◌⊎◌, [], ℕ, Bool, List, None, Option, Some, ap, arith, inl, inr, length, refl, subst, sym}
 use Rattle.edge_ports.proofs.PiecesAddUp.{gave_nothing, gave_prefix_before, gave_prefix_whole}
+use Rattle.edge_ports.specs.{Counts.Counted, Lines.lines_of, Told.GaveAll, Told.GavePrefix}
 use Rattle.core_program.specs.WholeTables.{WholeTables}
-use Rattle.command_words.specs.Meaning.{Meant, Requested, Source, Made}
-use Rattle.dialog_replies.specs.Subject.{Subject}
-use Rattle.dialog_replies.specs.declared.start.Start.{Start}
-use Rattle.dialog_replies.specs.Fit.{misfit}
-use Rattle.debuggee.specs.Program.{IsProgram}
-use Rattle.ask_session.specs.declared.dialog.Ending.{Ending}
-use Rattle.ask_session.specs.declared.dialog.Ending.TheVariants as ending
-use Rattle.ask_session.specs.Console.{FirstAnswered, GaveOf, NotRisen}
-use Rattle.ask_session.specs.Dialog.{transcript}
-use Rattle.ask_session.specs.Outside.{Outside}
-use Rattle.ask_session.specs.Reached.{Reached, Telling, telling}
-use Rattle.ask_session.specs.Saves.{FilesAfter, Save, counts_saved, saves_in}
-use Rattle.ask_session.specs.Went.{Went}
+use Rattle.dialog_replies.specs.{Fit.misfit, Subject.Subject, declared.start.Start.Start}
 use Rattle.ask_session.proofs.TranscriptIsGiven.{Cause, Closed, done_or_memory, spent_or_memory, told_so}
-use Rattle.debug_cli.specs.declared.status.Status.{Status}
-use Rattle.debug_cli.specs.declared.status.Status.TheVariants as status
-use Rattle.debug_cli.specs.Goes.{Goes, HasGone, Owes, Talks}
-use Rattle.debug_cli.specs.Laws.{OneRun}
-use Rattle.debug_cli.specs.Named.{Words, meaning, MadeProgram, SourceRefused, made_text, start_in, subject_in}
-use Rattle.debug_cli.specs.Outside.{LeavesAlone, NoFetchFailed}
-use Rattle.debug_cli.specs.Setting.{AllFetched, ComesTo, InFiles, IsMade, NothingFailed, Setting, Told, lines_of_console, saves_of, telling_made}
-use Rattle.debug_cli.specs.Setting.{telling_of, transcript_of}
-use Rattle.debug_cli.specs.Status.{code_of, session_status}
+use Rattle.ask_session.specs.{Console.FirstAnswered, Console.GaveOf, Console.NotRisen, Dialog.transcript, Outside.Outside, Reached.Reached, Reached.Telling}
+use Rattle.ask_session.specs.{Reached.telling, Saves.FilesAfter, Saves.Save, Saves.counts_saved, Saves.saves_in, Went.Went, declared.dialog.Ending.Ending}
+use Rattle.command_words.specs.Meaning.{Made, Meant, Requested, Source}
+use Rattle.debuggee.specs.Program.{IsProgram}
 use Rattle.debug_cli.proofs.ByStatus.{View, nothing, part, said, talked, view}
-use Rattle.debug_cli.proofs.StatusByCode.{Failed, code_is, console_by_end, no_screen, screen_by_end}
 use Rattle.debug_cli.proofs.FilesAreTold.{begun_comes, no_fault, no_other_session, no_refusal, same_made, same_rows, same_start, same_subject}
+use Rattle.debug_cli.proofs.StatusByCode.{Failed, code_is, console_by_end, no_screen, screen_by_end}
+use Rattle.debug_cli.specs.{Goes.Goes, Goes.HasGone, Goes.Owes, Goes.Talks, Laws.OneRun, Outside.LeavesAlone, Outside.NoFetchFailed, Setting.transcript_of}
+use Rattle.debug_cli.specs.{Status.code_of, Status.session_status, declared.status.Status.Status}
+use Rattle.debug_cli.specs.Named.{MadeProgram, SourceRefused, Words, made_text, meaning, start_in, subject_in}
+use Rattle.debug_cli.specs.Setting.{AllFetched, ComesTo, InFiles, IsMade, NothingFailed, Setting, Told, lines_of_console, saves_of, telling_made, telling_of}
 
 -- the screen has got this much, and the files and the counts followed
 pub record Follows (before after : Outside) (text : List Bool → List ℕ) (asked : List Save) : Type 0 where
@@ -77,9 +62,9 @@ module _ (before after : Outside) (s : Subject) (start : Start) (bytes : List �
   abbrev Part : Type 0
   Part = FollowsPart before after (telling s start) (lines_of bytes)
 
-  whole_of : Went s start before ending.Done after → Whole
+  whole_of : Went s start before Ending.Done after → Whole
   whole_of w =
-      let t = told_so s start before.streams.left after.streams.left bytes console before after ending.Done w w.is_heard in
+      let t = told_so s start before.streams.left after.streams.left bytes console before after Ending.Done w w.is_heard in
       record { saves = w.saves; each = t.0; gave = t.1; files_are = t.2; counts_are = w.counts }
 
   part_with : (saves : List Bool) → length saves ≤ length (saves_in s start (lines_of bytes))
@@ -96,12 +81,12 @@ module _ (before after : Outside) (s : Subject) (start : Start) (bytes : List �
           × GaveOf e before.streams.given after.streams.given (transcript s start w.saves bytes)
           × FilesAfter w.saves (saves_in s start (lines_of bytes)) before.files after.files
           × Reached (telling s start) (lines_of bytes) w.saves before.streams.given after.streams.given → Part
-      by ending.Done w t = part_with w.saves (omega (arith, t.0)) (gave_prefix_whole before.streams.given after.streams.given _ t.1) (t.2, t.3)
-      by ending.Refused w t = part_with w.saves t.0 (gave_prefix_whole before.streams.given after.streams.given _ t.1) (t.2, t.3)
-      by ending.Console w t = part_with w.saves t.0 t.1 (t.2, t.3)
-      by ending.Screen w t = part_with w.saves t.0 t.1 (t.2, t.3)
-      by ending.Spent w t = part_with w.saves t.0 t.1 (t.2, t.3)
-      by ending.Memory w t = part_with w.saves t.0 t.1 (t.2, t.3)
+      by Ending.Done w t = part_with w.saves (omega (arith, t.0)) (gave_prefix_whole before.streams.given after.streams.given _ t.1) (t.2, t.3)
+      by Ending.Refused w t = part_with w.saves t.0 (gave_prefix_whole before.streams.given after.streams.given _ t.1) (t.2, t.3)
+      by Ending.Console w t = part_with w.saves t.0 t.1 (t.2, t.3)
+      by Ending.Screen w t = part_with w.saves t.0 t.1 (t.2, t.3)
+      by Ending.Spent w t = part_with w.saves t.0 t.1 (t.2, t.3)
+      by Ending.Memory w t = part_with w.saves t.0 t.1 (t.2, t.3)
 
 -- ---- files that are told
 
@@ -120,26 +105,26 @@ module _ (one : OneRun) (r : Requested) (before after : Outside) (told : Told r 
       subst (λ (start : Start). Went about start before e after) (same_start r before.files told.files_told one b told.begun)
       (subst (λ (s : Subject). Went s (start_in b) before e after) (same_subject r before.files told.files_told one b told.begun) w)
 
-  tables_told : Here status.Done → WholeTables told.begun.run.source.rows
+  tables_told : Here Status.Done → WholeTables told.begun.run.source.rows
   tables_told (inl x) = absurd x.owed
   tables_told (inr (b, w, whole)) = subst WholeTables (same_rows r before.files told.files_told one b told.begun) whole
 
-  whole_told : Here status.Done → Whole before after about begins told.console told.console_told
+  whole_told : Here Status.Done → Whole before after about begins told.console told.console_told
   whole_told (inl x) = absurd x.owed
-  whole_told (inr t) = whole_of before after about begins told.console told.console_told (talk ending.Done t)
+  whole_told (inr t) = whole_of before after about begins told.console told.console_told (talk Ending.Done t)
 
   module _ (well : NoFetchFailed before.counts after.counts) where
     none_owed : (wanted : Status) (text : List ℕ) → Owes (Some (Source r)) before after wanted text → ⊥
-    none_owed status.Done text o = o
-    none_owed status.Words text o = o
-    none_owed status.Source text o = no_refusal r before.files told.files_told told.begun.run.source o.0
-    none_owed status.File text o =
+    none_owed Status.Done text o = o
+    none_owed Status.Words text o = o
+    none_owed Status.Source text o = no_refusal r before.files told.files_told told.begun.run.source o.0
+    none_owed Status.File text o =
         no_fault r before.files told.files_told (begun_comes r before.files told.files_told told.begun) before.counts after.counts well o.0 o.2
-    none_owed status.Console text o = o
-    none_owed status.Screen text o = o
-    none_owed status.Memory text o = o
-    none_owed status.Session text o = no_other_session r before.files told.files_told told.begun o.0
-    none_owed status.Spent text o = o
+    none_owed Status.Console text o = o
+    none_owed Status.Screen text o = o
+    none_owed Status.Memory text o = o
+    none_owed Status.Session text o = no_other_session r before.files told.files_told told.begun o.0
+    none_owed Status.Spent text o = o
 
     part_told : {s : Status} → View (Some (Source r)) before after s → Part before after about begins told.console told.console_told
     part_told (said s x) = absurd (none_owed s x.text x.owed)
@@ -151,12 +136,12 @@ module _ (one : OneRun) (r : Requested) (before after : Outside) (told : Told r 
     module _ (fits : misfit about begins ≡ None) {console console' screen screen' : ℕ} (calm : NotRisen console console')
         (still : NotRisen screen screen') (wanted : Ending)
         (ends : (e : Ending) → Cause about begins before.streams.left after.streams.left told.console told.console_told e
-        → Closed e console console' screen screen' → (e ≡ wanted) ⊎ (e ≡ ending.Memory))
+        → Closed e console console' screen screen' → (e ≡ wanted) ⊎ (e ≡ Ending.Memory))
       where
         ended_told : {s : Status} → Failed s console console' screen screen' → View (Some (Source r)) before after s
-            → (s ≡ session_status wanted) ⊎ (s ≡ status.Memory)
+            → (s ≡ session_status wanted) ⊎ (s ≡ Status.Memory)
         ended_told f (said s x) = absurd (none_owed s x.text x.owed)
-        ended_told f (part x) = absurd (no_screen status.Screen screen screen' f.screen_counted still refl)
+        ended_told f (part x) = absurd (no_screen Status.Screen screen screen' f.screen_counted still refl)
         ended_told f (nothing x) = inr refl
         ended_told f (talked e t) = by (ends e (cause (talk e t)) closed)
           where
@@ -172,7 +157,7 @@ module _ (one : OneRun) (r : Requested) (before after : Outside) (told : Told r 
               screen_stayed = still;
             }
 
-            by : (e ≡ wanted) ⊎ (e ≡ ending.Memory) → (session_status e ≡ session_status wanted) ⊎ (session_status e ≡ status.Memory)
+            by : (e ≡ wanted) ⊎ (e ≡ Ending.Memory) → (session_status e ≡ session_status wanted) ⊎ (session_status e ≡ Status.Memory)
             by (inl is) = inl (ap session_status is)
             by (inr is) = inr (ap session_status is)
 
@@ -188,7 +173,7 @@ module _ (one : OneRun) (number : ℕ) (before after : Outside) (x : MadeProgram
   abbrev PartMade : Type 0
   PartMade = FollowsPart before after (telling_made x) []
 
-  whole_made : AsMade status.Done → Follows before after (λ saves. made_text x) []
+  whole_made : AsMade Status.Done → Follows before after (λ saves. made_text x) []
   whole_made (inl y) = record {
     saves = [];
     each = refl;
@@ -209,16 +194,16 @@ module _ (one : OneRun) (number : ℕ) (before after : Outside) (x : MadeProgram
   }
 
   owed_made : (wanted : Status) (text : List ℕ) → Owes (Some (Made number)) before after wanted text
-      → (wanted ≡ status.Done) × (text ≡ made_text x)
-  owed_made status.Done text o = (refl, o.1 ∙ same_made one number o.0 x)
-  owed_made status.Words text o = absurd o
-  owed_made status.Source text o = absurd (no_made_refusal o.0)
-  owed_made status.File text o = absurd o
-  owed_made status.Console text o = absurd o
-  owed_made status.Screen text o = absurd o
-  owed_made status.Memory text o = absurd o
-  owed_made status.Session text o = absurd o
-  owed_made status.Spent text o = absurd o
+      → (wanted ≡ Status.Done) × (text ≡ made_text x)
+  owed_made Status.Done text o = (refl, o.1 ∙ same_made one number o.0 x)
+  owed_made Status.Words text o = absurd o
+  owed_made Status.Source text o = absurd (no_made_refusal o.0)
+  owed_made Status.File text o = absurd o
+  owed_made Status.Console text o = absurd o
+  owed_made Status.Screen text o = absurd o
+  owed_made Status.Memory text o = absurd o
+  owed_made Status.Session text o = absurd o
+  owed_made Status.Spent text o = absurd o
 
   part_made : {s : Status} → View (Some (Made number)) before after s → PartMade
   part_made (said s y) = some_made y.alone
@@ -229,7 +214,7 @@ module _ (one : OneRun) (number : ℕ) (before after : Outside) (x : MadeProgram
   part_made (nothing y) = nothing_follows before after (telling_made x) [] refl y.given y.alone
   part_made (talked e t) = absurd t
 
-  made_comes : {s : Status} → View (Some (Made number)) before after s → (s ≡ status.Screen → ⊥) → (s ≡ status.Done) ⊎ (s ≡ status.Memory)
+  made_comes : {s : Status} → View (Some (Made number)) before after s → (s ≡ Status.Screen → ⊥) → (s ≡ Status.Done) ⊎ (s ≡ Status.Memory)
   made_comes (said s y) screen = inl (owed_made s y.text y.owed).0
   made_comes (part y) screen = absurd (screen refl)
   made_comes (nothing y) screen = inr refl
@@ -241,9 +226,9 @@ module _ (one : OneRun) (words : Words) {before after : Outside} {s : Status} (x
   at : {m : Option Meant} → meaning words ≡ m → View m before after s
   at {m} is = view m before after s (subst (λ (m : Option Meant). Goes m before after s) is x.goes)
 
-  goes_done : {m : Option Meant} → meaning words ≡ m → code_of s ≡ 0 → Goes m before after status.Done
+  goes_done : {m : Option Meant} → meaning words ≡ m → code_of s ≡ 0 → Goes m before after Status.Done
   goes_done {m} is done =
-      subst (Goes m before after) (code_is s status.Done done) (subst (λ (m : Option Meant). Goes m before after s) is x.goes)
+      subst (Goes m before after) (code_is s Status.Done done) (subst (λ (m : Option Meant). Goes m before after s) is x.goes)
 
   -- the program of the source has whole tables
   pub tables_are_whole : (r : Requested) → meaning words ≡ Some (Source r) → (told : Told r before.files before.streams.left) → code_of s ≡ 0
@@ -273,29 +258,29 @@ module _ (one : OneRun) (words : Words) {before after : Outside} {s : Status} (x
   pub wanted_or_memory : {console console' screen screen' : ℕ} → Failed s console console' screen screen'
       → (set : Setting words before.files before.streams.left) (wanted : Status) → ComesTo set wanted
       → NothingFailed set (record { keeper = before.counts; console = console; screen = screen })
-      (record { keeper = after.counts; console = console'; screen = screen' }) → (s ≡ wanted) ⊎ (s ≡ status.Memory)
-  wanted_or_memory f (InFiles r means told) status.Done (fits, ends) (well, calm, still) =
-      ended_told one r before after told well fits calm still ending.Done
+      (record { keeper = after.counts; console = console'; screen = screen' }) → (s ≡ wanted) ⊎ (s ≡ Status.Memory)
+  wanted_or_memory f (InFiles r means told) Status.Done (fits, ends) (well, calm, still) =
+      ended_told one r before after told well fits calm still Ending.Done
       (λ e w c. done_or_memory (subject_in told.begun) (start_in told.begun) before.streams.left after.streams.left told.console told.console_told
       e w c ends) f (at means)
-  wanted_or_memory f (InFiles r means told) status.Spent (fits, on) (well, calm, still) =
-      ended_told one r before after told well fits calm still ending.Spent
+  wanted_or_memory f (InFiles r means told) Status.Spent (fits, on) (well, calm, still) =
+      ended_told one r before after told well fits calm still Ending.Spent
       (λ e w c. spent_or_memory (subject_in told.begun) (start_in told.begun) before.streams.left after.streams.left told.console told.console_told
       e w c on) f (at means)
-  wanted_or_memory f (InFiles r means told) status.Words c n = absurd c
-  wanted_or_memory f (InFiles r means told) status.Source c n = absurd c
-  wanted_or_memory f (InFiles r means told) status.File c n = absurd c
-  wanted_or_memory f (InFiles r means told) status.Console c n = absurd c
-  wanted_or_memory f (InFiles r means told) status.Screen c n = absurd c
-  wanted_or_memory f (InFiles r means told) status.Memory c n = absurd c
-  wanted_or_memory f (InFiles r means told) status.Session c n = absurd c
-  wanted_or_memory {console} {console'} {screen} {screen'} f (IsMade number means y) status.Done c still =
+  wanted_or_memory f (InFiles r means told) Status.Words c n = absurd c
+  wanted_or_memory f (InFiles r means told) Status.Source c n = absurd c
+  wanted_or_memory f (InFiles r means told) Status.File c n = absurd c
+  wanted_or_memory f (InFiles r means told) Status.Console c n = absurd c
+  wanted_or_memory f (InFiles r means told) Status.Screen c n = absurd c
+  wanted_or_memory f (InFiles r means told) Status.Memory c n = absurd c
+  wanted_or_memory f (InFiles r means told) Status.Session c n = absurd c
+  wanted_or_memory {console} {console'} {screen} {screen'} f (IsMade number means y) Status.Done c still =
       made_comes one number before after y (at means) (no_screen s screen screen' f.screen_counted still)
-  wanted_or_memory f (IsMade number means y) status.Spent c n = absurd c
-  wanted_or_memory f (IsMade number means y) status.Words c n = absurd c
-  wanted_or_memory f (IsMade number means y) status.Source c n = absurd c
-  wanted_or_memory f (IsMade number means y) status.File c n = absurd c
-  wanted_or_memory f (IsMade number means y) status.Console c n = absurd c
-  wanted_or_memory f (IsMade number means y) status.Screen c n = absurd c
-  wanted_or_memory f (IsMade number means y) status.Memory c n = absurd c
-  wanted_or_memory f (IsMade number means y) status.Session c n = absurd c
+  wanted_or_memory f (IsMade number means y) Status.Spent c n = absurd c
+  wanted_or_memory f (IsMade number means y) Status.Words c n = absurd c
+  wanted_or_memory f (IsMade number means y) Status.Source c n = absurd c
+  wanted_or_memory f (IsMade number means y) Status.File c n = absurd c
+  wanted_or_memory f (IsMade number means y) Status.Console c n = absurd c
+  wanted_or_memory f (IsMade number means y) Status.Screen c n = absurd c
+  wanted_or_memory f (IsMade number means y) Status.Memory c n = absurd c
+  wanted_or_memory f (IsMade number means y) Status.Session c n = absurd c

@@ -1,15 +1,13 @@
 -- What was fetched and read at several moments, where nothing changed outside between them.
-use Rattle.std.proofs.Common.{◌≡◌, ◌≤◌, ℕ, List, IfSome, length, sym, subst, ◌∙◌}
+use Rattle.std.proofs.Common.{◌∙◌, ◌≡◌, ◌≤◌, ℕ, IfSome, List, length, subst, sym}
 use Rattle.pas_lexer.specs.Limits.{source_bytes}
-use Rattle.command_words.specs.Meaning.{Requested}
 use Rattle.session_file.specs.Whole.{IsWhole}
-use Rattle.debuggee.specs.Limits.{input_bytes}
-use Rattle.debuggee.specs.Program.{IsProgram}
-use Rattle.debuggee.specs.declared.source.SourceProgram.{SourceProgram}
 use Rattle.ask_session.specs.Outside.{Outside}
-use Rattle.debug_cli.specs.declared.files.Supplied as code
+use Rattle.command_words.specs.Meaning.{Requested}
+use Rattle.debuggee.specs.{Limits.input_bytes, Program.IsProgram, declared.source.SourceProgram.SourceProgram}
 use Rattle.debug_cli.specs.Named.{Checked, IsFetched, IsInput, IsSaved, Supplied}
 use Rattle.debug_cli.specs.Refusals.{IsSupplied}
+use Rattle.debug_cli.specs.declared.files.Supplied as code
 
 -- the bytes that were read are those that were fetched
 pub is_checked : (r : Requested) {first second : Outside} → second ≡ first → (bytes read : List ℕ) (p : SourceProgram)

@@ -1,32 +1,25 @@
 -- What the command does, by the status that it ends with.
-use Rattle.std.specs.Prelude.{◌≡◌, ◌⊎◌, ℕ, List, Option, Some, None, Err}
-use Rattle.edge_ports.specs.Counts.{CountsFetch}
-use Rattle.edge_ports.specs.Told.{GaveAll, GavePrefix}
+use Rattle.std.specs.Prelude.{◌≡◌, ◌⊎◌, ℕ, Err, List, None, Option, Some}
+use Rattle.edge_ports.specs.{Counts.CountsFetch, Told.GaveAll, Told.GavePrefix}
 use Rattle.core_program.specs.WholeTables.{WholeTables}
-use Rattle.command_words.specs.Meaning.{Meant, Source, Made}
-use Rattle.ask_session.specs.declared.dialog.Ending.{Ending}
-use Rattle.ask_session.specs.declared.dialog.Ending.TheVariants as ending
-use Rattle.ask_session.specs.Outside.{Outside}
-use Rattle.ask_session.specs.Went.{Went}
-use Rattle.debug_cli.specs.declared.status.Status.{Status}
-use Rattle.debug_cli.specs.declared.status.Status.TheVariants as status
-use Rattle.debug_cli.specs.Named.{Begun, MadeProgram, NotFetched, SessionRefused, SourceRefused}
-use Rattle.debug_cli.specs.Named.{made_text, start_in, subject_in}
-use Rattle.debug_cli.specs.Outside.{CountsOneFault, LeavesAlone}
-use Rattle.debug_cli.specs.Texts.{file_line, refused_line, session_line, usage_line}
+use Rattle.ask_session.specs.{Outside.Outside, Went.Went, declared.dialog.Ending.Ending}
+use Rattle.command_words.specs.Meaning.{Made, Meant, Source}
+use Rattle.debug_cli.specs.{Named.subject_in, Outside.CountsOneFault, Outside.LeavesAlone, Texts.file_line}
+use Rattle.debug_cli.specs.{Texts.refused_line, Texts.session_line, Texts.usage_line, declared.status.Status.Status}
+use Rattle.debug_cli.specs.Named.{Begun, MadeProgram, NotFetched, SessionRefused, SourceRefused, made_text, start_in}
 
 -- What is said where no session is held, by what the words mean and by the status, and what the keeper's counts are
 -- then: words, sources, files and sessions are refused by one line; of a made program its lines are given.
 abbrev pub Owes : Option Meant → (before after : Outside) → Status → (text : List ℕ) → Type 0
-Owes None before after status.Words text = (text ≡ usage_line) × (after.counts ≡ before.counts)
-Owes (Some m) before after status.Source text =
+Owes None before after Status.Words text = (text ≡ usage_line) × (after.counts ≡ before.counts)
+Owes (Some m) before after Status.Source text =
     (x : SourceRefused m before.files) × (text ≡ refused_line x.why x.line x.byte) × (after.counts ≡ before.counts)
-Owes (Some (Source r)) before after status.File text =
+Owes (Some (Source r)) before after Status.File text =
     (x : NotFetched r before.files) × (text ≡ file_line x.why x.file.name)
     × CountsFetch (Err x.why) before.counts after.counts
-Owes (Some (Source r)) before after status.Session text =
+Owes (Some (Source r)) before after Status.Session text =
     (x : SessionRefused r before.files) × (text ≡ session_line x.why) × (after.counts ≡ before.counts)
-Owes (Some (Made number)) before after status.Done text =
+Owes (Some (Made number)) before after Status.Done text =
     (x : MadeProgram number) × (text ≡ made_text x) × (after.counts ≡ before.counts)
 Owes m before after s text = ⊥
 
@@ -59,15 +52,15 @@ Talks m before after e = ⊥
 
 -- by the status: why it comes, what the screen gets, and what becomes of the files and of the keeper's counts
 abbrev pub Goes : Option Meant → (before after : Outside) → Status → Type 0
-Goes m before after status.Done = Says m before after status.Done ⊎ Talks m before after ending.Done
-Goes m before after status.Words = Says m before after status.Words
-Goes m before after status.Source = Says m before after status.Source
-Goes m before after status.File = Says m before after status.File
-Goes m before after status.Console = Talks m before after ending.Console
-Goes m before after status.Screen = SaysPart m before after ⊎ Talks m before after ending.Screen
-Goes m before after status.Memory = SaysNothing before after ⊎ Talks m before after ending.Memory
-Goes m before after status.Session = Says m before after status.Session ⊎ Talks m before after ending.Refused
-Goes m before after status.Spent = Talks m before after ending.Spent
+Goes m before after Status.Done = Says m before after Status.Done ⊎ Talks m before after Ending.Done
+Goes m before after Status.Words = Says m before after Status.Words
+Goes m before after Status.Source = Says m before after Status.Source
+Goes m before after Status.File = Says m before after Status.File
+Goes m before after Status.Console = Talks m before after Ending.Console
+Goes m before after Status.Screen = SaysPart m before after ⊎ Talks m before after Ending.Screen
+Goes m before after Status.Memory = SaysNothing before after ⊎ Talks m before after Ending.Memory
+Goes m before after Status.Session = Says m before after Status.Session ⊎ Talks m before after Ending.Refused
+Goes m before after Status.Spent = Talks m before after Ending.Spent
 
 -- the same, as a record
 pub record HasGone (m : Option Meant) (before after : Outside) (s : Status) : Type 0 where

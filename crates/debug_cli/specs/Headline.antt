@@ -2,27 +2,17 @@
 -- source, its input, the budget and the entries that stand.
 use Rattle.std.specs.Prelude.{◌≡◌, ℕ, Bool, List, Option, Some}
 use Rattle.std.specs.List.{slice_get}
-use Rattle.edge_ports.specs.Files.{FileMap}
-use Rattle.edge_ports.specs.Told.{GaveAll}
+use Rattle.edge_ports.specs.{Files.FileMap, Told.GaveAll}
 use Rattle.pas_lexer.specs.Lexed.{Lexed}
-use Rattle.core_program.specs.ProgramRows.{ProgramRows}
-use Rattle.core_program.specs.WholeTables.{WholeTables}
-use Rattle.core_program.specs.Run.{Call, run}
-use Rattle.core_program.specs.Replay.{Replayed}
-use Rattle.command_words.specs.Meaning.{Requested}
-use Rattle.answer_book.specs.declared.entries.Entry.{Entry}
-use Rattle.answer_book.specs.Entries.{standing_answers}
-use Rattle.optimal_query.specs.declared.state.SearchState.TheVariants.{Found}
-use Rattle.optimal_query.specs.Laws.{IsAtFault}
+use Rattle.core_program.specs.{ProgramRows.ProgramRows, Replay.Replayed, Run.Call, Run.run, WholeTables.WholeTables}
+use Rattle.body_replay.specs.{Laws.GivesItsExit, Replays.records_of, Replays.work_of}
+use Rattle.answer_book.specs.{Entries.standing_answers, declared.entries.Entry.Entry}
+use Rattle.optimal_query.specs.{Laws.IsAtFault, declared.state.SearchState.TheVariants.Found}
 use Rattle.dialog_replies.specs.Subject.{state_after}
-use Rattle.ask_session.specs.Dialog.{transcript}
-use Rattle.ask_session.specs.Laws.{AsksTheBest, NarrowsTheFault}
-use Rattle.body_replay.specs.Replays.{records_of, work_of}
-use Rattle.body_replay.specs.Laws.{GivesItsExit}
-use Rattle.debuggee.specs.Execution.{Execution, Supply, execution_of}
-use Rattle.debuggee.specs.Subjects.{subject_of}
-use Rattle.debug_cli.specs.Named.{Begun, start_in, subject_in}
-use Rattle.debug_cli.specs.Setting.{Told}
+use Rattle.ask_session.specs.{Dialog.transcript, Laws.AsksTheBest, Laws.NarrowsTheFault}
+use Rattle.command_words.specs.Meaning.{Requested}
+use Rattle.debuggee.specs.{Execution.Execution, Execution.Supply, Execution.execution_of, Subjects.subject_of}
+use Rattle.debug_cli.specs.{Named.Begun, Named.start_in, Named.subject_in, Setting.Told}
 
 -- the run that a session is about: that of the program of the source, with its input and the budget that the words give
 abbrev pub execution_in : {r : Requested} {files : Option FileMap} → Begun r files → Execution

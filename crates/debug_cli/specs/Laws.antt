@@ -2,10 +2,8 @@
 use Rattle.std.specs.Prelude.{◌≡◌, ℕ, List}
 use Rattle.pas_lexer.specs.Lexed.{Lexed}
 use Rattle.core_program.specs.ProgramRows.{ProgramRows}
-use Rattle.debuggee.specs.Program.{IsProgram}
-use Rattle.debuggee.specs.Execution.{Supply, execution_of}
-use Rattle.debuggee.specs.Subjects.{subject_of}
 use Rattle.dialog_replies.specs.Subject.{Subject}
+use Rattle.debuggee.specs.{Execution.Supply, Execution.execution_of, Program.IsProgram, Subjects.subject_of}
 
 -- a source is one program at most, and has one run with each input and budget
 abbrev pub OneRun : Type 0

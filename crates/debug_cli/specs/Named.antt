@@ -1,28 +1,19 @@
 -- What the words of the command name: files, as they were fetched, and what they are; or a made program.
-use Rattle.std.specs.Prelude.{◌≡◌, ◌⊎◌, ◌≤◌, ℕ, List, [], Option, Some, None, Ok, Err, length, map}
-use Rattle.std.specs.String.{string_bytes}
-use Rattle.std.specs.declared.alloc.Global.{Global}
-use Rattle.std.specs.declared.string.String.{String}
+use Rattle.std.specs.Prelude.{◌≡◌, ◌≤◌, ◌⊎◌, [], ℕ, Err, List, None, Ok, Option, Some, length, map}
+use Rattle.std.specs.{String.string_bytes, declared.alloc.Global.Global, declared.string.String.String}
 use Rattle.sha2.specs.Sha256.{sha256}
-use Rattle.edge_ports.specs.Files.{FileMap, HoldsFile, LacksFile, HoldsLonger}
+use Rattle.edge_ports.specs.Files.{FileMap, HoldsFile, HoldsLonger, LacksFile}
 use Rattle.edge_ports.specs.declared.ports.FetchFault.{FetchFault}
-use Rattle.edge_ports.specs.declared.ports.FetchFault.TheVariants as fetch
-use Rattle.pas_lexer.specs.Lexed.{Lexed}
-use Rattle.pas_lexer.specs.Limits.{source_bytes}
+use Rattle.pas_lexer.specs.{Lexed.Lexed, Limits.source_bytes}
 use Rattle.core_program.specs.ProgramRows.{ProgramRows}
-use Rattle.command_words.specs.Meaning.{Meant, Requested, Source, Made, meant}
-use Rattle.dialog_replies.specs.Subject.{Subject}
-use Rattle.session_file.specs.declared.session.LoadFault.{LoadFault}
-use Rattle.session_file.specs.declared.session.Session.{Session}
 use Rattle.session_file.specs.Reading.{session_of}
-use Rattle.dialog_replies.specs.declared.start.Start.{Start}
-use Rattle.debuggee.specs.declared.refusal.SourceRefusal.{SourceRefusal}
+use Rattle.session_file.specs.declared.session.{LoadFault.LoadFault, Session.Session}
+use Rattle.dialog_replies.specs.{Subject.Subject, declared.start.Start.Start}
+use Rattle.made_program.specs.{Lines.made_lines, Source.made_source}
+use Rattle.command_words.specs.Meaning.{Made, Meant, Requested, Source, meant}
+use Rattle.debuggee.specs.{Execution.execution_of, Limits.input_bytes, Limits.most_steps, Subjects.subject_of}
 use Rattle.debuggee.specs.Program.{IsProgram, NoProgram, Refuses}
-use Rattle.debuggee.specs.Execution.{execution_of}
-use Rattle.debuggee.specs.Limits.{input_bytes, most_steps}
-use Rattle.debuggee.specs.Subjects.{subject_of}
-use Rattle.made_program.specs.Lines.{made_lines}
-use Rattle.made_program.specs.Source.{made_source}
+use Rattle.debuggee.specs.declared.refusal.SourceRefusal.{SourceRefusal}
 
 -- the words of the command, the program's name first
 abbrev pub Words : Type 0
@@ -144,10 +135,10 @@ IsSought r files file =
 
 -- why a file was not fetched: what is known of it, where files are told
 abbrev pub IsFetchFault : FetchFault → FileSought → Option FileMap → Type 0
-IsFetchFault fetch.Absent file files = LacksFile files file.name
-IsFetchFault fetch.Failed file files = Unit {0}
-IsFetchFault (fetch.TooLong limit) file files = HoldsLonger files file.name file.limit
-IsFetchFault fetch.Memory file files = ⊥
+IsFetchFault FetchFault.Absent file files = LacksFile files file.name
+IsFetchFault FetchFault.Failed file files = Unit {0}
+IsFetchFault (FetchFault.TooLong limit) file files = HoldsLonger files file.name file.limit
+IsFetchFault FetchFault.Memory file files = ⊥
 
 -- a file that was not fetched
 pub record NotFetched (r : Requested) (files : Option FileMap) : Type 0 where

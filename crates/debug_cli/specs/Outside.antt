@@ -1,10 +1,8 @@
 -- What became of what is outside of the command.
-use Rattle.std.specs.Prelude.{◌≡◌, ◌⊎◌, ◌≢◌, ℕ, List, Option, Err}
-use Rattle.edge_ports.specs.Counts.{KeeperCounts, CountsFetch}
-use Rattle.edge_ports.specs.Files.{FileMap}
-use Rattle.edge_ports.specs.declared.ports.FetchFault.{FetchFault}
-use Rattle.ask_session.specs.Console.{NotRisen}
-use Rattle.ask_session.specs.Outside.{Outside}
+use Rattle.std.specs.Prelude.{◌≡◌, ◌≢◌, ◌⊎◌, ℕ, Err, List, Option}
+use Rattle.edge_ports.specs.{Files.FileMap, declared.ports.FetchFault.FetchFault}
+use Rattle.edge_ports.specs.Counts.{CountsFetch, KeeperCounts}
+use Rattle.ask_session.specs.{Console.NotRisen, Outside.Outside}
 
 -- what is outside: the keeper's files and its counts, what the console has left, and what the screen was given
 abbrev pub outside : Option FileMap → KeeperCounts → (left given : Option (List ℕ)) → Outside

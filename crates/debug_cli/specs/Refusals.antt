@@ -1,55 +1,43 @@
 -- Why what the words name is refused, and what is said of it.
-use Rattle.std.specs.Prelude.{◌≡◌, ◌⊎◌, ◌≤◌, ℕ, List, Option, Some, None, Result, Ok, Err, IfSome, length}
-use Rattle.edge_ports.specs.Files.{FileMap}
-use Rattle.edge_ports.specs.declared.ports.FetchFault.{FetchFault}
-use Rattle.edge_ports.specs.declared.ports.FetchFault.TheVariants as fetch
+use Rattle.std.specs.Prelude.{◌≡◌, ◌≤◌, ◌⊎◌, ℕ, Err, IfSome, List, None, Ok, Option, Result, Some, length}
+use Rattle.edge_ports.specs.{Files.FileMap, declared.ports.FetchFault.FetchFault}
 use Rattle.pas_lexer.specs.Limits.{source_bytes}
-use Rattle.command_words.specs.Meaning.{Meant, Requested}
-use Rattle.session_file.specs.Whole.{IsWhole}
-use Rattle.session_file.specs.declared.session.LoadFault.{LoadFault}
-use Rattle.session_file.specs.declared.session.LoadFault.TheVariants as load
-use Rattle.debuggee.specs.Limits.{input_bytes}
-use Rattle.debuggee.specs.Program.{IsProgram}
-use Rattle.debuggee.specs.declared.source.SourceFault.{SourceFault}
-use Rattle.debuggee.specs.declared.source.SourceFault.TheVariants as source
+use Rattle.session_file.specs.{Whole.IsWhole, declared.session.LoadFault.LoadFault}
 use Rattle.ask_session.specs.Outside.{Outside}
-use Rattle.debug_cli.specs.declared.files.Supplied.{Supplied}
-use Rattle.debug_cli.specs.declared.refusals.Refusal.{Refusal}
-use Rattle.debug_cli.specs.declared.refusals.Refusal.TheVariants as refusal
-use Rattle.debug_cli.specs.declared.status.Status.{Status}
-use Rattle.debug_cli.specs.declared.status.Status.TheVariants as status
-use Rattle.debug_cli.specs.Given.{GivesNothing, GivesText}
-use Rattle.debug_cli.specs.Goes.{Owes}
+use Rattle.command_words.specs.Meaning.{Meant, Requested}
+use Rattle.debuggee.specs.{Limits.input_bytes, Program.IsProgram, declared.source.SourceFault.SourceFault}
+use Rattle.debug_cli.specs.{Given.GivesNothing, Given.GivesText, Goes.Owes, Outside.CountsOneFault}
 use Rattle.debug_cli.specs.Named.{IsFetched, IsInput, IsSaved}
-use Rattle.debug_cli.specs.Outside.{CountsOneFault}
 use Rattle.debug_cli.specs.Texts.{file_line, refused_line, session_line}
+use Rattle.debug_cli.specs.declared.{files.Supplied.Supplied, refusals.Refusal.Refusal, status.Status.Status}
+use Rattle.debug_cli.specs.declared.status.Status.TheVariants as status
 
 -- the status that comes with a refusal
 abbrev pub refusal_status : Refusal → Status
-refusal_status (refusal.Source why) = status.Source
-refusal_status (refusal.File name why) = status.File
-refusal_status (refusal.Session why) = status.Session
-refusal_status refusal.Memory = status.Memory
+refusal_status (Refusal.Source why) = status.Source
+refusal_status (Refusal.File name why) = status.File
+refusal_status (Refusal.Session why) = status.Session
+refusal_status Refusal.Memory = status.Memory
 
 -- ---- the line on it; where memory ran out there is none
 
 abbrev pub source_told : SourceFault → Option (List ℕ)
-source_told (source.Refused why line byte) = Some (refused_line why line byte)
-source_told source.Memory = None
+source_told (SourceFault.Refused why line byte) = Some (refused_line why line byte)
+source_told SourceFault.Memory = None
 
 abbrev pub file_told : FetchFault → (name : List ℕ) → Option (List ℕ)
-file_told fetch.Memory name = None
+file_told FetchFault.Memory name = None
 file_told why name = Some (file_line why name)
 
 abbrev pub session_told : LoadFault → Option (List ℕ)
-session_told load.Memory = None
+session_told LoadFault.Memory = None
 session_told why = Some (session_line why)
 
 abbrev pub line_on : Refusal → Option (List ℕ)
-line_on (refusal.Source why) = source_told why
-line_on (refusal.File name why) = file_told why name.now
-line_on (refusal.Session why) = session_told why
-line_on refusal.Memory = None
+line_on (Refusal.Source why) = source_told why
+line_on (Refusal.File name why) = file_told why name.now
+line_on (Refusal.Session why) = session_told why
+line_on Refusal.Memory = None
 
 -- it is given, where there is one, and the command ends with this status; or memory runs out before
 abbrev pub GivesLine : Option (List ℕ) → (wanted result : Status) → (given given' : Option (List ℕ)) → Type 0

@@ -1,21 +1,14 @@
 -- What may be known before the command begins: the files that its words name, the program, and the console's bytes; and
 -- what follows.
-use Rattle.std.specs.Prelude.{◌≡◌, ◌⊎◌, ℕ, Bool, List, [], Option, Some, None, IsSome}
-use Rattle.edge_ports.specs.Counts.{KeeperCounts}
-use Rattle.edge_ports.specs.Files.{FileMap}
-use Rattle.edge_ports.specs.Lines.{lines_of}
-use Rattle.command_words.specs.Meaning.{Meant, Requested, Source, Made}
-use Rattle.ask_session.specs.Console.{EndsInTime, GoesOn, NotRisen}
-use Rattle.ask_session.specs.Dialog.{transcript}
-use Rattle.ask_session.specs.Reached.{Telling, telling}
-use Rattle.ask_session.specs.Saves.{Save, saves_in}
+use Rattle.std.specs.Prelude.{◌≡◌, ◌⊎◌, [], ℕ, Bool, IsSome, List, None, Option, Some}
+use Rattle.edge_ports.specs.{Counts.KeeperCounts, Files.FileMap, Lines.lines_of}
 use Rattle.dialog_replies.specs.Fit.{misfit}
+use Rattle.ask_session.specs.{Dialog.transcript, Reached.Telling, Reached.telling, Saves.Save, Saves.saves_in}
+use Rattle.ask_session.specs.Console.{EndsInTime, GoesOn, NotRisen}
+use Rattle.command_words.specs.Meaning.{Made, Meant, Requested, Source}
 use Rattle.debuggee.specs.Program.{NoProgram}
-use Rattle.debug_cli.specs.declared.status.Status.{Status}
-use Rattle.debug_cli.specs.declared.status.Status.TheVariants as status
-use Rattle.debug_cli.specs.Named.{Words, meaning, Begun, IsSource, MadeProgram, SessionRefused}
-use Rattle.debug_cli.specs.Named.{made_text, start_in, subject_in}
-use Rattle.debug_cli.specs.Outside.{Faults, NoFetchFailed}
+use Rattle.debug_cli.specs.{Named.subject_in, Outside.Faults, Outside.NoFetchFailed, declared.status.Status.Status}
+use Rattle.debug_cli.specs.Named.{Begun, IsSource, MadeProgram, SessionRefused, Words, made_text, meaning, start_in}
 
 -- a session can be held: the keeper tells its files, and they are what the request names; and the console tells its
 -- bytes
@@ -58,11 +51,11 @@ module _ {words : Words} {files : Option FileMap} {left : Option (List ℕ)} whe
 
   -- The status that is to come: of a session that fits the run, by whether the console ends in time.
   abbrev pub ComesTo : Setting words files left → Status → Type 0
-  ComesTo (InFiles r means told) status.Done =
+  ComesTo (InFiles r means told) Status.Done =
       (misfit (subject_in told.begun) (start_in told.begun) ≡ None) × EndsInTime told.console
-  ComesTo (InFiles r means told) status.Spent =
+  ComesTo (InFiles r means told) Status.Spent =
       (misfit (subject_in told.begun) (start_in told.begun) ≡ None) × GoesOn told.console
-  ComesTo (IsMade number means x) status.Done = Unit {0}
+  ComesTo (IsMade number means x) Status.Done = Unit {0}
   ComesTo s wanted = ⊥
 
   -- no fetch failed; of a made program there is none

@@ -1,10 +1,8 @@
 -- The exit status.
-use Rattle.std.specs.Prelude.{ℕ, Bool, true, false}
+use Rattle.std.specs.Prelude.{ℕ, Bool, false, true}
 use Rattle.ask_session.specs.declared.dialog.Ending.{Ending}
-use Rattle.ask_session.specs.declared.dialog.Ending.TheVariants as ending
-use Rattle.debug_cli.specs.declared.status.Status.{Status}
-use Rattle.debug_cli.specs.declared.status.Status.TheVariants.{Done, Words, Source, File}
-use Rattle.debug_cli.specs.declared.status.Status.TheVariants.{Console, Screen, Memory, Session, Spent}
+use Rattle.debug_cli.specs.declared.status.Status.{Status, TheVariants.Spent, TheVariants.Words}
+use Rattle.debug_cli.specs.declared.status.Status.TheVariants.{Console, Done, File, Memory, Screen, Session, Source}
 
 abbrev pub code_of : Status → ℕ
 code_of Done = 0
@@ -29,9 +27,9 @@ is_console _ = false
 
 -- the status of a session that ended so
 abbrev pub session_status : Ending → Status
-session_status ending.Done = Done
-session_status ending.Console = Console
-session_status ending.Screen = Screen
-session_status ending.Spent = Spent
-session_status ending.Refused = Session
-session_status ending.Memory = Memory
+session_status Ending.Done = Done
+session_status Ending.Console = Console
+session_status Ending.Screen = Screen
+session_status Ending.Spent = Spent
+session_status Ending.Refused = Session
+session_status Ending.Memory = Memory

@@ -1,23 +1,17 @@
 //! The command: from its words to its exit status.
-ghost use Rattle.std.specs.Prelude.{◌≡◌, ◌⊎◌, ◌≤◌, ◌==◌, Bool, List, Some, None, IsTrue, IsSome, length};
-ghost use Rattle.edge_ports.specs.Counts.{Counted};
-ghost use Rattle.edge_ports.specs.Told.{GaveAll, GavePrefix};
+ghost use Rattle.std.specs.Prelude.{◌==◌, ◌≡◌, ◌≤◌, ◌⊎◌, Bool, IsSome, IsTrue, List, None, Some, length};
+ghost use Rattle.edge_ports.specs.{Counts.Counted, Told.GaveAll, Told.GavePrefix};
+ghost use Rattle.body_replay.specs.Laws.{BodiesGiveTheirExits};
+ghost use Rattle.ask_session.specs.{Console.NotRisen, LineActs.EntriesFollowLines, Reached.Reached};
+ghost use Rattle.ask_session.specs.Laws.{AsksTheBest, FindsTheFault, NamesTheAccused, NarrowsTheFault};
+ghost use Rattle.ask_session.specs.Saves.{FilesAfter, counts_saved};
 ghost use Rattle.command_words.specs.Meaning.{Requested};
 ghost use Rattle.command_words.specs.Meaning as meant;
-ghost use Rattle.body_replay.specs.Laws.{BodiesGiveTheirExits};
-ghost use Rattle.ask_session.specs.Console.{NotRisen};
-ghost use Rattle.ask_session.specs.Laws.{AsksTheBest, FindsTheFault, NamesTheAccused, NarrowsTheFault};
-ghost use Rattle.ask_session.specs.LineActs.{EntriesFollowLines};
-ghost use Rattle.ask_session.specs.Reached.{Reached};
-ghost use Rattle.ask_session.specs.Saves.{FilesAfter, counts_saved};
-ghost use Rattle.debug_cli.specs.Headline.{Headline};
-ghost use Rattle.debug_cli.specs.declared.status.Status.{Status};
-ghost use Rattle.debug_cli.specs.Goes.{Goes, HasGone};
-ghost use Rattle.debug_cli.specs.Laws.{InEachRun, OneRun};
-ghost use Rattle.debug_cli.specs.Named.{meaning};
+ghost use Rattle.debug_cli.specs.{Goes.Goes, Goes.HasGone, Headline.Headline, Laws.InEachRun, Laws.OneRun};
+ghost use Rattle.debug_cli.specs.{Named.meaning, Setting.transcript_of, declared.status.Status.Status};
 ghost use Rattle.debug_cli.specs.Outside.{NoFetchFailed, NoneRisen, outside};
-ghost use Rattle.debug_cli.specs.Setting.{AllFetched, ComesTo, NothingFailed, Setting, Told, saves_of, transcript_of};
-ghost use Rattle.debug_cli.specs.Setting.{MeansNoProgram, MeansNoSession, NamesNoFile, lines_of_console, telling_of};
+ghost use Rattle.debug_cli.specs.Setting.{AllFetched, ComesTo, MeansNoProgram, MeansNoSession, NamesNoFile};
+ghost use Rattle.debug_cli.specs.Setting.{NothingFailed, Setting, Told, lines_of_console, saves_of, telling_of};
 ghost use Rattle.debug_cli.specs.Status.{code_of, is_console, is_screen};
 
 use crate::files::{ask_about, supply};

@@ -1,17 +1,14 @@
 //! What a request names: fetched, read, and then asked about.
-ghost use Rattle.std.specs.Prelude.{◌≡◌, ◌≤◌, None, Some, IfOk, IfSome, IsTrue, length};
+ghost use Rattle.std.specs.Prelude.{◌≡◌, ◌≤◌, IfOk, IfSome, IsTrue, None, Some, length};
 ghost use Rattle.sha2.specs.Sha256.{sha256};
 ghost use Rattle.edge_ports.specs.Counts.{Counted};
-ghost use Rattle.command_words.specs.Meaning.{IsBudget, Requested, Source};
-ghost use Rattle.command_words.specs.Reading.{requested_by};
 ghost use Rattle.session_file.specs.Whole.{IsDigest, IsWhole};
+ghost use Rattle.command_words.specs.{Meaning.IsBudget, Meaning.Requested, Meaning.Source, Reading.requested_by};
 ghost use Rattle.debuggee.specs.Limits.{input_bytes};
-ghost use Rattle.debug_cli.specs.Goes.{HasGone};
-ghost use Rattle.debug_cli.specs.Named as named;
+ghost use Rattle.debug_cli.specs.{Goes.HasGone, Outside.outside, Status.is_console, Status.is_screen};
 ghost use Rattle.debug_cli.specs.Named.{Checked, IsFetched, IsInput, IsSaved, IsSought};
-ghost use Rattle.debug_cli.specs.Outside.{outside};
+ghost use Rattle.debug_cli.specs.Named as named;
 ghost use Rattle.debug_cli.specs.Refusals.{IsSupplied, UnlessRefused};
-ghost use Rattle.debug_cli.specs.Status.{is_console, is_screen};
 
 use crate::refusals::Refusal;
 use crate::status::{Status, status_of};

@@ -2,8 +2,7 @@
 ghost use Rattle.body_replay.specs.Laws.{BodiesGiveTheirExits};
 ghost use Rattle.ask_session.specs.Laws.{AsksTheBest, FindsTheFault, NamesTheAccused, NarrowsTheFault};
 ghost use Rattle.ask_session.specs.LineActs.{EntriesFollowLines};
-ghost use Rattle.debug_cli.specs.Headline.{VerdictsAreFound};
-ghost use Rattle.debug_cli.specs.Laws.{InEachRun, OneRun};
+ghost use Rattle.debug_cli.specs.{Headline.VerdictsAreFound, Laws.InEachRun, Laws.OneRun};
 
 use ask_session::{entries_follow_lines, reports_are_sound};
 use body_replay::bodies_give_their_exits;

@@ -1,9 +1,8 @@
 //! Made programs: run and asked about with no one asked.
 ghost use Rattle.std.specs.Prelude.{◌≡◌, IfErr, IfOk};
-ghost use Rattle.command_words.specs.Meaning.{IsMadeNumber, Made};
 ghost use Rattle.ask_session.specs.Outside.{Outside};
-ghost use Rattle.debug_cli.specs.Named.{MadeProgram, made_text};
-ghost use Rattle.debug_cli.specs.Refusals.{IsRefusal};
+ghost use Rattle.command_words.specs.Meaning.{IsMadeNumber, Made};
+ghost use Rattle.debug_cli.specs.{Named.MadeProgram, Named.made_text, Refusals.IsRefusal};
 
 use crate::refusals::Refusal;
 use command_words::MOST_STEPS;

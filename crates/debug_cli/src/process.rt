@@ -1,8 +1,6 @@
 //! The command as a process: its status is the code that the process ends with.
-ghost use Rattle.std.specs.Prelude.{◌≡◌, IfOk, IsErr};
-ghost use Rattle.std.specs.Process.{exit_status};
-ghost use Rattle.debug_cli.specs.Exits.{EndsAs, EndsAsCommand};
-ghost use Rattle.debug_cli.specs.Named.{meaning};
+ghost use Rattle.std.specs.{Prelude.◌≡◌, Prelude.IfOk, Prelude.IsErr, Process.exit_status};
+ghost use Rattle.debug_cli.specs.{Exits.EndsAs, Exits.EndsAsCommand, Named.meaning};
 
 use crate::ask::ask_pascal;
 use edge_ports::{Keeper, Sink, Source};

@@ -1,5 +1,5 @@
 //! What is refused, and what is said of it.
-ghost use Rattle.std.specs.Prelude.{◌≡◌, false, IsTrue};
+ghost use Rattle.std.specs.Prelude.{◌≡◌, IsTrue, false};
 ghost use Rattle.edge_ports.specs.Counts.{Counted};
 ghost use Rattle.debug_cli.specs.Refusals.{GivesLine, line_on, refusal_status};
 ghost use Rattle.debug_cli.specs.Status.{is_console, is_screen};

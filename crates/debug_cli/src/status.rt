@@ -1,8 +1,7 @@
 //! How the command ends.
-ghost use Rattle.std.specs.Prelude.{◌≡◌, false, IsTrue};
+ghost use Rattle.std.specs.Prelude.{◌≡◌, IsTrue, false};
 ghost use Rattle.edge_ports.specs.Counts.{Counted};
-ghost use Rattle.debug_cli.specs.Given.{GivesText};
-ghost use Rattle.debug_cli.specs.Status.{code_of, is_screen, session_status};
+ghost use Rattle.debug_cli.specs.{Given.GivesText, Status.code_of, Status.is_screen, Status.session_status};
 
 use ask_session::Ending;
 use edge_ports::{Sink, write_all};

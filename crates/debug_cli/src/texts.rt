@@ -1,5 +1,5 @@
 //! The texts on what is refused.
-ghost use Rattle.std.specs.Prelude.{◌≡◌, ◌++◌, IfOk, OnOk, Some, codes, decimal};
+ghost use Rattle.std.specs.Prelude.{◌++◌, ◌≡◌, IfOk, OnOk, Some, codes, decimal};
 ghost use Rattle.debug_cli.specs.Refusals.{file_told, line_on, session_told};
 ghost use Rattle.debug_cli.specs.Texts.{field_key, refusal_name, refusal_text, refused_line};
 

@@ -1,24 +1,15 @@
 -- The columns of a numbered list of calls: where the subtree of each call is the interval from it to its
 -- last call, their parents and their last calls are those of numbered calls.
-use Rattle.std.proofs.Common.{◌≡◌, ◌↔◌, ℕ, zero, suc, ◌+◌, ◌<◌, ◌≤◌, Bool, true, false, cond, List, [], ◌∷◌, Option, None, Some, IsSome, length}
-use Rattle.std.proofs.Common.{map}
-use Rattle.std.proofs.Common.{refl, sym, ap, ◌∙◌, arith}
-use Rattle.std.specs.Prelude.{slice_get, slice_index}
-use Rattle.std.proofs.Math.Dec.{leb}
-use Rattle.std.specs.Option.{option_map}
-use Rattle.std.proofs.lemmas.Bool.{leb-true, leb-false}
-use Rattle.std.proofs.lemmas.List.{length-map, get_or_past}
-use Rattle.std.proofs.lemmas.Option.{slice_get_within, get_or_from_slice_get, slice_get-map}
-use Rattle.call_tree.specs.Numbering.{IsParent, IsNumbered}
-use Rattle.call_tree.specs.Recording.{Recording, lasts_of, parents_of, routines_of}
+use Rattle.std.proofs.Common.{◌+◌, ◌<◌, ◌↔◌, ◌∙◌, ◌∷◌, ◌≡◌, ◌≤◌, [], ℕ, Bool, IsSome, List, None, Option, Some, ap, arith, cond, false, length, map, refl}
+use Rattle.std.proofs.Common.{slice_get, slice_index, suc, sym, true, zero}
+use Rattle.std.{proofs.lemmas.Option.get_or_from_slice_get, proofs.lemmas.Option.slice_get-map, proofs.lemmas.Option.slice_get_within, specs.Option.option_map}
+use Rattle.std.proofs.{Math.Dec.leb, lemmas.Bool.leb-false, lemmas.Bool.leb-true, lemmas.List.get_or_past, lemmas.List.length-map}
+use Rattle.core_program.specs.{ProgramRows.ProgramRows, Run.Call, Run.Marked, Run.Outcome, Run.run, WholeTables.WholeTables}
+use Rattle.core_program.specs.Laws.{EveryProgramRuns, EveryRunHasACall, LastIsACall, SubtreeIsInterval}
+use Rattle.core_program.specs.Numbering.{Child, InSubtree, Root, belows, calls_of, each_from, greatest, is_below, last_below, parent_of}
+use Rattle.call_tree.specs.{Numbering.IsNumbered, Numbering.IsParent, Recording.Recording, Recording.lasts_of, Recording.parents_of, Recording.routines_of}
 use Rattle.call_tree.specs.declared.records.Call as table
-use Rattle.core_program.specs.ProgramRows.{ProgramRows}
-use Rattle.core_program.specs.WholeTables.{WholeTables}
-use Rattle.core_program.specs.Run.{Call, Marked, Outcome, run}
-use Rattle.core_program.specs.Numbering.{greatest, belows, calls_of, last_below, parent_of, is_below, each_from, InSubtree, Root, Child}
-use Rattle.core_program.specs.Laws.{SubtreeIsInterval, LastIsACall, EveryProgramRuns, EveryRunHasACall}
-use Rattle.program_run.specs.History.{recording_of}
-use Rattle.program_run.specs.Table.{table_of, table_row}
+use Rattle.program_run.specs.{History.recording_of, Table.table_of, Table.table_row}
 use Rattle.debuggee.specs.Execution.{Supply, calls_with}
 
 -- the subtree of each call is the interval from it to its last call, which is a call

@@ -1,3 +1,11 @@
 pub mod SourceIsRun
 pub mod CallsAreNumbered
 pub mod TracesAreOfBodies
+pub mod FramesFollow
+pub mod PlacesHaveNames
+pub mod AddressesHaveRoots
+pub mod ResultsAreOfFunctions
+pub mod HeapCellsHaveBlocks
+pub mod CardsLeaveOut
+pub mod TracesHaveLines
+pub mod FramesInTurn

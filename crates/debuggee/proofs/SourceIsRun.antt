@@ -1,28 +1,16 @@
 -- From the pieces of a source to its tokens, its program and its run.
-use Rattle.std.proofs.Common.{◌≡◌, ℕ, List, [], Err, sym, subst, ◌∙◌, inl, inr, arith}
-use Rattle.std.specs.Prelude.{Contains}
-use Rattle.pas_lexer.specs.declared.kinds.Token.{Token}
-use Rattle.pas_lexer.specs.declared.kinds.LexFault.{LexFault}
-use Rattle.pas_lexer.specs.declared.kinds.LexFault.TheVariants as lexis
-use Rattle.pas_lexer.specs.Lexed.{Lexed}
-use Rattle.pas_lexer.specs.Division.{IsLexed}
-use Rattle.pas_tree.specs.declared.blocks.Tree.{Tree}
-use Rattle.pas_tree.specs.Blocks.{tree_node}
+use Rattle.std.proofs.Common.{◌∙◌, ◌≡◌, [], ℕ, Contains, Err, List, arith, inl, inr, subst, sym}
+use Rattle.pas_lexer.specs.{Division.IsLexed, Lexed.Lexed, declared.kinds.LexFault.LexFault, declared.kinds.Token.Token}
+use Rattle.pas_tree.specs.{Blocks.tree_node, declared.blocks.Tree.Tree}
 use Rattle.pas_parser.specs.Formed.{IsText}
 use Rattle.core_program.specs.ProgramRows.{ProgramRows}
 use Rattle.check_steps.specs.declared.breaks.Break.{Break}
-use Rattle.code_checker.specs.CheckedPrograms.{broken}
-use Rattle.code_checker.specs.Declarations.{IsTextOf}
-use Rattle.code_checker.specs.declared.programs.ProgramFault.{ProgramFault}
-use Rattle.code_checker.specs.declared.programs.ProgramFault.TheVariants as refused
-use Rattle.code_checker.specs.Programs.{IsChecked}
+use Rattle.code_checker.specs.{CheckedPrograms.broken, Declarations.IsTextOf, Programs.IsChecked, declared.programs.ProgramFault.ProgramFault}
 use Rattle.code_checker.specs.Programs as check
 use Rattle.same_programs.specs.Laws.{OneTextOneProgram}
-use Rattle.debuggee.specs.declared.source.SourceFault.{SourceFault}
-use Rattle.debuggee.specs.declared.source.SourceFault.TheVariants.{Refused, Memory}
 use Rattle.debuggee.specs.Execution.{Supply, execution_of}
-use Rattle.debuggee.specs.Program.{IsProgram, Keeps, IsRefused, IsMisfit, IsUnlexed}
-use Rattle.debuggee.specs.Program.{IsUnread, IsRead, fault_of_check, TokensAre}
+use Rattle.debuggee.specs.Program.{IsMisfit, IsProgram, IsRead, IsRefused, IsUnlexed, IsUnread, Keeps, TokensAre, fault_of_check}
+use Rattle.debuggee.specs.declared.source.SourceFault.{SourceFault, TheVariants.Memory, TheVariants.Refused}
 
 -- ---- no tokens
 
@@ -36,14 +24,14 @@ no_tokens_refused source (Refused why line byte) h = (λ t p is. h.0 t.tokens is
 no_tokens_refused source Memory h = tt
 
 -- a fault of the lexer that has no tokens beside it
-pub misfit_unlexed : (source : List ℕ) (fault : LexFault) (r : SourceFault) → ((tokens : List Token) → IsLexed source tokens → fault ≡ lexis.Memory)
-    → (fault ≡ lexis.Memory → r ≡ Memory) → IsMisfit source r → IsUnlexed source r
+pub misfit_unlexed : (source : List ℕ) (fault : LexFault) (r : SourceFault) → ((tokens : List Token) → IsLexed source tokens → fault ≡ LexFault.Memory)
+    → (fault ≡ LexFault.Memory → r ≡ Memory) → IsMisfit source r → IsUnlexed source r
 misfit_unlexed source fault (Refused why line byte) only memory m =
     ((λ tokens l. let e : Refused why line byte ≡ Memory = memory (only tokens l) in let x : ⊥ = cc in x), m)
 misfit_unlexed source fault Memory only memory m = tt
 
-pub misfit_only : (source : List ℕ) (fault : LexFault) (r : SourceFault) → ((tokens : List Token) → IsLexed source tokens → fault ≡ lexis.Memory)
-    → (fault ≡ lexis.Memory → r ≡ Memory) → (tokens : List Token) → IsLexed source tokens → TokensAre tokens (Err r)
+pub misfit_only : (source : List ℕ) (fault : LexFault) (r : SourceFault) → ((tokens : List Token) → IsLexed source tokens → fault ≡ LexFault.Memory)
+    → (fault ≡ LexFault.Memory → r ≡ Memory) → (tokens : List Token) → IsLexed source tokens → TokensAre tokens (Err r)
 misfit_only source fault (Refused why line byte) only memory tokens l =
     let e : Refused why line byte ≡ Memory = memory (only tokens l) in absurd (let x : ⊥ = cc in x)
 misfit_only source fault Memory only memory tokens l = tt
@@ -68,11 +56,11 @@ has_text t p c = (tree_node c.0, c.1.formed, c.1.spelled)
 
 -- what the check says of tokens, told as a fault of their source
 pub told_unchecked : OneTextOneProgram → (t : Lexed) (f : ProgramFault) → check.IsUnchecked t f → IsUnread t (fault_of_check f)
-told_unchecked law t (refused.NotProgram line byte) h = ((λ p c. h.1.0 (has_text t p c)), inl (h.0, h.2, h.1.1))
-told_unchecked law t (refused.TooDeep line byte) h = ((λ p c. h.1.0 (has_text t p c)), inl (h.0, h.2, h.1.1))
-told_unchecked law t (refused.Rule rule line byte) h = ((λ p c. broken_not law t h.0 h.1 h.2.1.0 h.2.1.1.0 p c), inr h)
-told_unchecked law t (refused.TooBig line byte) h = ((λ p c. broken_not law t h.0 h.1 h.2.1.0 h.2.1.1.0 p c), inr h)
-told_unchecked law t refused.Memory h = tt
+told_unchecked law t (ProgramFault.NotProgram line byte) h = ((λ p c. h.1.0 (has_text t p c)), inl (h.0, h.2, h.1.1))
+told_unchecked law t (ProgramFault.TooDeep line byte) h = ((λ p c. h.1.0 (has_text t p c)), inl (h.0, h.2, h.1.1))
+told_unchecked law t (ProgramFault.Rule rule line byte) h = ((λ p c. broken_not law t h.0 h.1 h.2.1.0 h.2.1.1.0 p c), inr h)
+told_unchecked law t (ProgramFault.TooBig line byte) h = ((λ p c. broken_not law t h.0 h.1 h.2.1.0 h.2.1.1.0 p c), inr h)
+told_unchecked law t ProgramFault.Memory h = tt
 
 -- the one list of tokens of a source
 pub record IsDivided (source : List ℕ) (tokens : Lexed) : Type 0 where

@@ -1,20 +1,14 @@
 -- The trace of a call is that of its own work.
-use Rattle.std.proofs.Common.{◌≡◌, ℕ, List, Some, None, refl, sym, ap, ◌∙◌}
+use Rattle.std.proofs.Common.{◌∙◌, ◌≡◌, ℕ, List, None, Some, ap, refl, sym}
 use Rattle.std.specs.Option.{option_map}
 use Rattle.cell_value.specs.declared.ways_out.WayOut.{WayOut}
-use Rattle.call_tree.specs.declared.events.Event.{Event}
-use Rattle.core_program.specs.ProgramRows.{ProgramRows}
-use Rattle.core_program.specs.Replay.{Replayed}
-use Rattle.core_program.specs.Run.{run, way_out}
 use Rattle.core_program.proofs.OutcomesCompose.{none_some, some_same}
-use Rattle.program_run.specs.History.{IsOfRun}
-use Rattle.program_run.specs.declared.history.History.{History}
-use Rattle.question_text.specs.Cards.{Recorded}
-use Rattle.question_text.specs.Traces.{trace_text}
+use Rattle.core_program.specs.{ProgramRows.ProgramRows, Replay.Replayed, Run.run, Run.way_out}
+use Rattle.call_tree.specs.declared.events.Event.{Event}
+use Rattle.program_run.specs.{History.IsOfRun, declared.history.History.History}
 use Rattle.body_replay.specs.Replays.{events_in, work_of}
-use Rattle.debuggee.specs.Execution.{Execution}
-use Rattle.debuggee.specs.Subjects.{trace, trace_of_work}
-use Rattle.debuggee.specs.Told.{history_of}
+use Rattle.question_text.specs.{Cards.Recorded, Traces.trace_text}
+use Rattle.debuggee.specs.{Execution.Execution, Subjects.trace, Subjects.trace_of_work, Told.history_of}
 
 -- a history that is that of a run
 pub is_of_run : {p : ProgramRows} {input : List ℕ} {h : History} → h ≡ history_of p input h.budget → IsOfRun p input h.budget h

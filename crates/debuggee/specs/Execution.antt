@@ -1,9 +1,8 @@
 -- A run, as the texts and the search see it.
 use Rattle.std.specs.Prelude.{ℕ, List, length}
-use Rattle.call_tree.specs.declared.records.Call.{Call}
 use Rattle.pas_lexer.specs.Lexed.{Lexed}
-use Rattle.core_program.specs.ProgramRows.{ProgramRows}
-use Rattle.core_program.specs.Run.{input_items, run}
+use Rattle.core_program.specs.{ProgramRows.ProgramRows, Run.input_items, Run.run}
+use Rattle.call_tree.specs.declared.records.Call.{Call}
 use Rattle.program_run.specs.History.{log_of, recording_of}
 use Rattle.question_text.specs.Cards.{Recorded}
 use Rattle.debuggee.specs.declared.runs.Debuggee.{Debuggee}

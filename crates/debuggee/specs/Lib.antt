@@ -3,3 +3,4 @@ pub mod Told
 pub mod Execution
 pub mod Subjects
 pub mod Program
+pub mod LeftOut

@@ -1,24 +1,16 @@
 -- What a source is: a program; or why and where it is refused.
-use Rattle.std.specs.Prelude.{◌≡◌, ◌⊎◌, ℕ, List, Result, Ok, Err}
-use Rattle.pas_lexer.specs.declared.kinds.Token.{Token}
-use Rattle.pas_lexer.specs.Lexed.{Lexed}
-use Rattle.pas_lexer.specs.declared.kinds.LexFault.TheVariants as lexis
-use Rattle.pas_lexer.specs.Division.{IsLexed, IsFault, line_at}
-use Rattle.pas_phrases.specs.declared.fault.ParseFault.TheVariants as parser
-use Rattle.pas_parser.specs.Exact.{IsExact}
+use Rattle.std.specs.Prelude.{◌≡◌, ◌⊎◌, ℕ, Err, List, Ok, Result}
+use Rattle.pas_lexer.specs.{Division.IsFault, Division.IsLexed, Division.line_at, Lexed.Lexed}
+use Rattle.pas_lexer.specs.declared.kinds.{LexFault.LexFault, Token.Token}
 use Rattle.pas_tree.specs.declared.blocks.Tree.{Tree}
+use Rattle.pas_phrases.specs.declared.fault.ParseFault.{ParseFault}
+use Rattle.pas_parser.specs.Exact.{IsExact}
 use Rattle.core_program.specs.ProgramRows.{ProgramRows}
-use Rattle.check_steps.specs.declared.breaks.CheckFault.TheVariants as fault
+use Rattle.check_steps.specs.declared.breaks.CheckFault.{CheckFault}
+use Rattle.code_checker.specs.{Declarations.IsTextOf, Places.TokenBegins, Programs.IsBrokenAt, Programs.IsChecked}
 use Rattle.code_checker.specs.declared.programs.ProgramFault.{ProgramFault}
-use Rattle.code_checker.specs.declared.programs.ProgramFault.TheVariants as refused
-use Rattle.code_checker.specs.Declarations.{IsTextOf}
-use Rattle.code_checker.specs.Places.{TokenBegins}
-use Rattle.code_checker.specs.Programs.{IsBrokenAt, IsChecked}
-use Rattle.debuggee.specs.declared.refusal.SourceRefusal.{SourceRefusal}
-use Rattle.debuggee.specs.declared.refusal.SourceRefusal.TheVariants as refusal
-use Rattle.debuggee.specs.declared.source.SourceFault.{SourceFault}
-use Rattle.debuggee.specs.declared.source.SourceFault.TheVariants.{Refused, Memory}
-use Rattle.debuggee.specs.declared.source.SourceProgram.{SourceProgram}
+use Rattle.debuggee.specs.declared.{refusal.SourceRefusal.SourceRefusal, source.SourceProgram.SourceProgram}
+use Rattle.debuggee.specs.declared.source.SourceFault.{SourceFault, TheVariants.Memory, TheVariants.Refused}
 
 -- The source has these tokens, which are the text of this program; it breaks no rule, and nothing in it is too big.
 pub record IsProgram (source : List ℕ) (t : Lexed) (p : ProgramRows) : Type 0 where
@@ -40,13 +32,13 @@ NoProgram source = (t : Lexed) (p : ProgramRows) → IsProgram source t p → �
 
 -- its first piece that does not fit, which begins at this byte, fails for this reason
 abbrev pub PieceFailsFor : List ℕ → SourceRefusal → (byte : ℕ) → Type 0
-PieceFailsFor source refusal.BadByte byte = IsFault source (lexis.BadByte byte)
-PieceFailsFor source refusal.OpenComment byte = IsFault source (lexis.OpenComment byte)
-PieceFailsFor source refusal.OpenString byte = IsFault source (lexis.OpenString byte)
-PieceFailsFor source refusal.EmptyString byte = IsFault source (lexis.EmptyString byte)
-PieceFailsFor source refusal.RealWord byte = IsFault source (lexis.RealWord byte)
-PieceFailsFor source refusal.TooLarge byte = IsFault source (lexis.TooLarge byte)
-PieceFailsFor source refusal.Joined byte = IsFault source (lexis.Joined byte)
+PieceFailsFor source SourceRefusal.BadByte byte = IsFault source (LexFault.BadByte byte)
+PieceFailsFor source SourceRefusal.OpenComment byte = IsFault source (LexFault.OpenComment byte)
+PieceFailsFor source SourceRefusal.OpenString byte = IsFault source (LexFault.OpenString byte)
+PieceFailsFor source SourceRefusal.EmptyString byte = IsFault source (LexFault.EmptyString byte)
+PieceFailsFor source SourceRefusal.RealWord byte = IsFault source (LexFault.RealWord byte)
+PieceFailsFor source SourceRefusal.TooLarge byte = IsFault source (LexFault.TooLarge byte)
+PieceFailsFor source SourceRefusal.Joined byte = IsFault source (LexFault.Joined byte)
 PieceFailsFor source _ byte = ⊥
 
 -- a piece does not fit
@@ -56,8 +48,8 @@ RefusesPiece source why line byte = PieceFailsFor source why byte × (line ≡ l
 -- Tokens are refused at this one: it is the first that is too deep, or else the first with which no tree of the grammar
 -- goes on.
 abbrev pub RefusesAt : Lexed → SourceRefusal → (number : ℕ) → Type 0
-RefusesAt t refusal.NotProgram number = IsExact t.tokens (Err (parser.NotProgram number))
-RefusesAt t refusal.TooDeep number = IsExact t.tokens (Err (parser.TooDeep number))
+RefusesAt t SourceRefusal.NotProgram number = IsExact t.tokens (Err (ParseFault.NotProgram number))
+RefusesAt t SourceRefusal.TooDeep number = IsExact t.tokens (Err (ParseFault.TooDeep number))
 RefusesAt t _ number = ⊥
 
 -- they are refused at a token that stands there
@@ -67,9 +59,9 @@ RefusesToken t why line byte = (number : ℕ) × TokenBegins t number line byte 
 -- They are the text of a tree in which this is the first broken rule, or the first that is too big where no rule is
 -- broken; and what is broken stands at this byte, on this line.
 abbrev pub RefusesTree : Lexed → SourceRefusal → (line byte : ℕ) → Type 0
-RefusesTree t (refusal.Rule rule) line byte =
-    (x : Tree) × IsTextOf t x × IsBrokenAt t x (fault.Rule rule) line byte
-RefusesTree t refusal.TooBig line byte = (x : Tree) × IsTextOf t x × IsBrokenAt t x fault.TooBig line byte
+RefusesTree t (SourceRefusal.Rule rule) line byte =
+    (x : Tree) × IsTextOf t x × IsBrokenAt t x (CheckFault.Rule rule) line byte
+RefusesTree t SourceRefusal.TooBig line byte = (x : Tree) × IsTextOf t x × IsBrokenAt t x CheckFault.TooBig line byte
 RefusesTree t _ line byte = ⊥
 
 -- A source is refused at the first piece that does not fit; or, where all pieces fit, at a token: for the grammar,
@@ -100,11 +92,11 @@ IsUnlexed source Memory = Unit {0}
 
 -- how the fault of a check is told
 abbrev pub fault_of_check : ProgramFault → SourceFault
-fault_of_check (refused.NotProgram line byte) = Refused refusal.NotProgram line byte
-fault_of_check (refused.TooDeep line byte) = Refused refusal.TooDeep line byte
-fault_of_check (refused.Rule rule line byte) = Refused (refusal.Rule rule) line byte
-fault_of_check (refused.TooBig line byte) = Refused refusal.TooBig line byte
-fault_of_check refused.Memory = Memory
+fault_of_check (ProgramFault.NotProgram line byte) = Refused SourceRefusal.NotProgram line byte
+fault_of_check (ProgramFault.TooDeep line byte) = Refused SourceRefusal.TooDeep line byte
+fault_of_check (ProgramFault.Rule rule line byte) = Refused (SourceRefusal.Rule rule) line byte
+fault_of_check (ProgramFault.TooBig line byte) = Refused SourceRefusal.TooBig line byte
+fault_of_check ProgramFault.Memory = Memory
 
 -- the answer is these tokens, or that memory ran out
 abbrev pub TokensAre : List Token → Result Lexed SourceFault → Type 0

@@ -1,15 +1,10 @@
 -- What a dialog on a run is about.
-use Rattle.std.specs.Prelude.{ℕ, List, [], Some, None, length, map}
+use Rattle.std.specs.Prelude.{[], ℕ, List, None, Some, length, map}
+use Rattle.core_program.specs.{ProgramRows.name_of, Replay.Replayed, Run.run, Run.way_out}
 use Rattle.call_tree.specs.Recording.{lasts_of, parents_of, routines_of}
-use Rattle.core_program.specs.ProgramRows.{name_of}
-use Rattle.core_program.specs.Replay.{Replayed}
-use Rattle.core_program.specs.Run.{run, way_out}
-use Rattle.question_text.specs.Cards.{Recorded, card}
+use Rattle.body_replay.specs.{Agreement.carries, Replays.kept_event, Replays.work_of}
+use Rattle.question_text.specs.{Cards.Recorded, Cards.card, Traces.trace_text, Trees.tree_text}
 use Rattle.question_text.specs.States.{has_cell, state_text}
-use Rattle.question_text.specs.Traces.{trace_text}
-use Rattle.question_text.specs.Trees.{tree_text}
-use Rattle.body_replay.specs.Agreement.{carries}
-use Rattle.body_replay.specs.Replays.{kept_event, work_of}
 use Rattle.dialog_replies.specs.Subject.{Subject}
 use Rattle.debuggee.specs.Execution.{Execution}
 

@@ -2,10 +2,13 @@
 //! refused; and from a program and its input to the calls of its run.
 #![tactic(auto)]
 
+mod filled;
+mod laws;
 mod refusal;
 mod runs;
 mod source;
 
+pub use laws::only_links_are_left_out;
 pub use refusal::SourceRefusal;
 pub use runs::Debuggee;
 pub use source::{INPUT_BYTES, SourceFault, SourceProgram, read_source, run_program};

@@ -1,11 +1,10 @@
 //! A source that was run, and what a dialog needs of it.
-ghost use Rattle.std.specs.Prelude.{◌≡◌, ◌<◌, ◌≤◌, length};
-ghost use Rattle.std.specs.Coded.{Coded-set};
-ghost use Rattle.cell_names.specs.Finding.{finding_of, finding_in};
+ghost use Rattle.std.proofs.Props.{props};
+ghost use Rattle.std.specs.{Prelude.◌<◌, Prelude.◌≡◌, Prelude.◌≤◌, Prelude.length, Coded.Coded-set};
+ghost use Rattle.cell_names.specs.Finding.{finding_in, finding_of};
 ghost use Rattle.question_text.specs.Cards.{recorded_in};
 ghost use Rattle.debuggee.specs.Limits.{input_bytes, most_steps};
 ghost use Rattle.debuggee.specs.Told.{AreTold, counts_once, history_of};
-ghost use Rattle.std.proofs.Props.{props};
 
 use body_replay::{carries, replay};
 use call_tree::{Calls, Mark};
@@ -65,8 +64,7 @@ impl<'a> Debuggee<'a> {
 }
 
 impl<'a> Debugged for Debuggee<'a> {
-    ghost use Rattle.debuggee.specs.Execution.{execution};
-    ghost use Rattle.debuggee.specs.Subjects.{subject_of};
+    ghost use Rattle.debuggee.specs.{Execution.execution, Subjects.subject_of};
 
     ghost subject = { λ debuggee. subject_of (execution debuggee) };
 

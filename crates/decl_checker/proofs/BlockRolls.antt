@@ -1,16 +1,11 @@
 -- The equations of blocks by the fields of their trees.
-use Rattle.std.proofs.Common.{◌≡◌, ℕ, List, refl, sym, ap, ◌∙◌}
-use Rattle.pas_tree.specs.declared.blocks.Block.{Block, out-Block, is-Block', Row_of-Routine, end_of-Routine, more_of-Routine}
-use Rattle.pas_tree.specs.declared.blocks.Block.{items-the_row-Routine, items_hidden-the_row-Routine-0}
-use Rattle.pas_tree.specs.declared.blocks.RoutineBody.TheBlock.{hidden-the_row-Routine-0}
-use Rattle.pas_tree.specs.declared.blocks.Routine.{Routine}
+use Rattle.std.proofs.Common.{◌∙◌, ◌≡◌, ℕ, List, ap, refl, sym}
+use Rattle.pas_tree.specs.declared.blocks.{Block.more_of-Routine, Block.out-Block, Routine.Routine, RoutineBody.TheBlock.hidden-the_row-Routine-0}
+use Rattle.pas_tree.specs.declared.blocks.Block.{Block, Row_of-Routine, end_of-Routine, is-Block', items-the_row-Routine, items_hidden-the_row-Routine-0}
 use Rattle.pas_tree.specs.declared.statements.Compound.{out-Compound}
-use Rattle.check_steps.specs.declared.work.Work.{Work}
-use Rattle.check_steps.specs.Steps.{Step, ◌>>=◌, each, run_step}
 use Rattle.check_steps.proofs.Runs.{bind-assoc, run_then}
-use Rattle.decl_checker.specs.Statements.{compound_uses}
-use Rattle.decl_checker.specs.declared.routines.Entered.{Entered}
-use Rattle.decl_checker.specs.Blocks.{parts, put_body}
+use Rattle.check_steps.specs.{Steps.◌>>=◌, Steps.Step, Steps.each, Steps.run_step, declared.work.Work.Work}
+use Rattle.decl_checker.specs.{Blocks.parts, Blocks.put_body, Statements.compound_uses, declared.routines.Entered.Entered}
 use Rattle.decl_checker.specs.Routines.{block, body_in, enter_heading, routine, routines_in}
 
 routines_each : (frame : ℕ) (rs : List Routine) (n : _) (r : Row_of-Routine n) (u : Unit {0})

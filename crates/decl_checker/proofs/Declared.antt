@@ -1,15 +1,10 @@
 -- What the check of a program leaves.
-use Rattle.std.proofs.Common.{◌≡◌, ℕ, List, None, Result, Ok, Err, IfOk, IfErr, sym, ap, ◌∙◌}
+use Rattle.std.proofs.Common.{◌∙◌, ◌≡◌, ℕ, Err, IfErr, IfOk, List, None, Ok, Result, ap, sym}
 use Rattle.pas_lexer.specs.Lexed.{Lexed}
 use Rattle.pas_tree.specs.declared.blocks.Tree.{Tree}
-use Rattle.check_steps.specs.declared.breaks.Break.{Break}
-use Rattle.check_steps.specs.declared.breaks.CheckFault.{CheckFault}
-use Rattle.check_steps.specs.declared.work.Work.{Work}
-use Rattle.check_steps.specs.Known.{Known}
-use Rattle.check_steps.specs.Steps.{run_step}
-use Rattle.check_steps.specs.Words.{known_at_start}
-use Rattle.decl_checker.specs.Answers.{HasFirst, EarlyFaultIs, IsWithoutEarly}
-use Rattle.decl_checker.specs.Programs.{broken_early, program_step, tables_of}
+use Rattle.check_steps.specs.{Known.Known, Steps.run_step, Words.known_at_start}
+use Rattle.check_steps.specs.declared.{breaks.Break.Break, breaks.CheckFault.CheckFault, work.Work.Work}
+use Rattle.decl_checker.specs.{Answers.EarlyFaultIs, Answers.HasFirst, Answers.IsWithoutEarly, Programs.broken_early, Programs.program_step, Programs.tables_of}
 
 -- the first of the rules that the tree breaks, and the tables that it leaves
 pub record Leaves (l : Lexed) (t : Tree) (v : Work) : Type 0 where

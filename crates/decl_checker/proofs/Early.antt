@@ -1,15 +1,11 @@
 -- The first of the early rules is the first of all, if that is early.
-use Rattle.std.proofs.Common.{◌≡◌, ℕ, zero, suc, true, false, List, [], ◌∷◌, nat_eq, Option, Some, None, refl, sym, subst, ap, ◌∙◌}
-use Rattle.std.proofs.Common.{Bool, if◌then◌else◌, arith}
-use Rattle.std.specs.Prelude.{Contains, All}
-use Rattle.std.proofs.lemmas.List.Elements.{All-filter}
-use Rattle.check_steps.specs.declared.breaks.Broken.{Broken}
-use Rattle.check_steps.specs.declared.breaks.Broken.TheVariants.{Early, Late, TooBig}
-use Rattle.check_steps.specs.declared.breaks.Break.{Break}
-use Rattle.check_steps.specs.declared.breaks.CheckFault.{CheckFault}
-use Rattle.check_steps.specs.Breaks.{IsFirst, fault_at, fault_of, group, is_before, is_early}
+use Rattle.std.proofs.Common.{if◌then◌else◌, ◌∙◌, ◌∷◌, ◌≡◌, [], ℕ, All, Bool, Contains, List, None, Option, Some, ap, arith, false, nat_eq, refl, subst, suc}
+use Rattle.std.proofs.{Common.sym, Common.true, Common.zero, lemmas.List.Elements.All-filter}
 use Rattle.check_steps.proofs.First.{first_of-is, first_of-none, late_all}
-use Rattle.decl_checker.specs.Answers.{HasFirst, EarlyFaultIs, IsWithoutEarly, early_of}
+use Rattle.check_steps.specs.Breaks.{IsFirst, fault_at, fault_of, group, is_before, is_early}
+use Rattle.check_steps.specs.declared.breaks.{Break.Break, CheckFault.CheckFault}
+use Rattle.check_steps.specs.declared.breaks.Broken.{Broken, TheVariants.Early, TheVariants.Late, TheVariants.TooBig}
+use Rattle.decl_checker.specs.Answers.{EarlyFaultIs, HasFirst, IsWithoutEarly, early_of}
 
 stays : (e : Bool) (x : Break) (l : List Break) (b : Break) → Contains l b → Contains (if e then x ∷ l else l) b
 stays true x l b c = (suc c.0, omega (arith, c.1), c.2)

@@ -1,35 +1,29 @@
 -- The equations of expressions and accesses by the fields of their trees.
-use Rattle.std.proofs.Common.{◌≡◌, ℕ, Option, Some, None, refl, sym, ap, ◌∙◌}
+use Rattle.std.proofs.Common.{◌∙◌, ◌≡◌, ℕ, None, Option, Some, ap, refl, sym}
 use denote.Hole.Carrier.{roll}
+use Rattle.pas_tree.specs.declared.expressions.{Access.more_of-Selector, Index.Index, Index.is-Index', Index.out-Index, Member.Member, Member.back-Member-last}
+use Rattle.pas_tree.specs.declared.expressions.{Member.is-Member', Member.out-Member, NextFactor.NextFactor, NextMember.NextMember, NextMember.is-NextMember'}
+use Rattle.pas_tree.specs.declared.expressions.{NextMember.out-NextMember, NextTerm.NextTerm, NextTerm.is-NextTerm', NextTerm.out-NextTerm, RangeEnd.RangeEnd}
+use Rattle.pas_tree.specs.declared.expressions.{RangeEnd.is-RangeEnd', RangeEnd.out-RangeEnd, Relation.Relation, Relation.is-Relation', Relation.out-Relation}
+use Rattle.pas_tree.specs.declared.expressions.Access.{Access, Row_of-Selector, end_of-Selector, items-the_row-Selector, items_hidden-the_row-Selector-0}
+use Rattle.pas_tree.specs.declared.expressions.Arguments.{Arguments, Row_of-NextExpression, end_of-NextExpression, is-Arguments', items-the_row-NextExpression}
+use Rattle.pas_tree.specs.declared.expressions.Arguments.{items_hidden-the_row-NextExpression-1, more_of-NextExpression, out-Arguments}
+use Rattle.pas_tree.specs.declared.expressions.Expression.{Expression, back-Expression-relation, is-Expression', out-Expression}
+use Rattle.pas_tree.specs.declared.expressions.Factor.{TheBlock.hidden-the_row-NextTerm-2, TheBlock.hidden-the_row-Selector-0, TheViews.roll-Factor}
+use Rattle.pas_tree.specs.declared.expressions.Factor.TheBlock.{hidden-the_row-NextExpression-1, hidden-the_row-NextFactor-4, hidden-the_row-NextMember-3}
 use Rattle.pas_tree.specs.declared.expressions.Factor.TheVariants as made
-use Rattle.pas_tree.specs.declared.expressions.Factor.TheViews.{roll-Factor}
-use Rattle.pas_tree.specs.declared.expressions.Factor.TheBlock.{hidden-the_row-Selector-0, hidden-the_row-NextExpression-1, hidden-the_row-NextTerm-2}
-use Rattle.pas_tree.specs.declared.expressions.Factor.TheBlock.{hidden-the_row-NextMember-3, hidden-the_row-NextFactor-4}
-use Rattle.pas_tree.specs.declared.expressions.Access.{Access, Row_of-Selector, end_of-Selector, more_of-Selector, items-the_row-Selector}
-use Rattle.pas_tree.specs.declared.expressions.Access.{items_hidden-the_row-Selector-0}
-use Rattle.pas_tree.specs.declared.expressions.Index.{Index, out-Index, is-Index'}
-use Rattle.pas_tree.specs.declared.expressions.Arguments.{Arguments, out-Arguments, is-Arguments', Row_of-NextExpression, end_of-NextExpression}
-use Rattle.pas_tree.specs.declared.expressions.Arguments.{more_of-NextExpression, items-the_row-NextExpression, items_hidden-the_row-NextExpression-1}
-use Rattle.pas_tree.specs.declared.expressions.NextExpression.{NextExpression, out-NextExpression, is-NextExpression'}
-use Rattle.pas_tree.specs.declared.expressions.Expression.{Expression, out-Expression, is-Expression', back-Expression-relation}
-use Rattle.pas_tree.specs.declared.expressions.Relation.{Relation, out-Relation, is-Relation'}
-use Rattle.pas_tree.specs.declared.expressions.Simple.{Simple, out-Simple, is-Simple', Row_of-NextTerm, end_of-NextTerm, more_of-NextTerm}
-use Rattle.pas_tree.specs.declared.expressions.Simple.{items-the_row-NextTerm, items_hidden-the_row-NextTerm-2}
-use Rattle.pas_tree.specs.declared.expressions.NextTerm.{NextTerm, out-NextTerm, is-NextTerm'}
-use Rattle.pas_tree.specs.declared.expressions.Term.{Term, out-Term, is-Term', Row_of-NextFactor, end_of-NextFactor, more_of-NextFactor}
-use Rattle.pas_tree.specs.declared.expressions.Term.{items-the_row-NextFactor, items_hidden-the_row-NextFactor-4}
-use Rattle.pas_tree.specs.declared.expressions.NextFactor.{NextFactor}
-use Rattle.pas_tree.specs.declared.expressions.SomeMembers.{SomeMembers, out-SomeMembers, is-SomeMembers', Row_of-NextMember, end_of-NextMember}
-use Rattle.pas_tree.specs.declared.expressions.SomeMembers.{more_of-NextMember, items-the_row-NextMember, items_hidden-the_row-NextMember-3}
-use Rattle.pas_tree.specs.declared.expressions.NextMember.{NextMember, out-NextMember, is-NextMember'}
-use Rattle.pas_tree.specs.declared.expressions.Member.{Member, out-Member, is-Member', back-Member-last}
-use Rattle.pas_tree.specs.declared.expressions.RangeEnd.{RangeEnd, out-RangeEnd, is-RangeEnd'}
-use Rattle.check_steps.specs.Steps.{Step, give, ◌>>=◌, each}
-use Rattle.check_steps.proofs.Runs.{bind-assoc}
-use Rattle.decl_checker.specs.Accesses.{access_type, access_uses, arguments_uses, indexed_type, expression_uses, factor_uses, indices, last_uses}
-use Rattle.decl_checker.specs.Accesses.{member_uses, more_arguments, more_factors, more_indices, more_members, more_terms, named_variable}
-use Rattle.decl_checker.specs.Accesses.{next_argument, next_factor, next_index, next_member, next_term, range_end_uses, related_uses}
-use Rattle.decl_checker.specs.Accesses.{relation_uses, selected, selector, simple_uses, some_members_uses, term_uses}
+use Rattle.pas_tree.specs.declared.expressions.NextExpression.{NextExpression, is-NextExpression', out-NextExpression}
+use Rattle.pas_tree.specs.declared.expressions.Simple.{Row_of-NextTerm, Simple, end_of-NextTerm, is-Simple', items-the_row-NextTerm}
+use Rattle.pas_tree.specs.declared.expressions.Simple.{items_hidden-the_row-NextTerm-2, more_of-NextTerm, out-Simple}
+use Rattle.pas_tree.specs.declared.expressions.SomeMembers.{Row_of-NextMember, SomeMembers, end_of-NextMember, is-SomeMembers', items-the_row-NextMember}
+use Rattle.pas_tree.specs.declared.expressions.SomeMembers.{items_hidden-the_row-NextMember-3, more_of-NextMember, out-SomeMembers}
+use Rattle.pas_tree.specs.declared.expressions.Term.{Row_of-NextFactor, Term, end_of-NextFactor, is-Term', items-the_row-NextFactor}
+use Rattle.pas_tree.specs.declared.expressions.Term.{items_hidden-the_row-NextFactor-4, more_of-NextFactor, out-Term}
+use Rattle.check_steps.{proofs.Runs.bind-assoc, specs.Steps.◌>>=◌, specs.Steps.Step, specs.Steps.each, specs.Steps.give}
+use Rattle.decl_checker.specs.Accesses.{access_type, access_uses, arguments_uses, expression_uses, factor_uses, indexed_type, indices, last_uses, member_uses}
+use Rattle.decl_checker.specs.Accesses.{more_arguments, more_factors, more_indices, more_members, more_terms, named_variable, next_argument, next_factor}
+use Rattle.decl_checker.specs.Accesses.{next_index, next_member, next_term, range_end_uses, related_uses, relation_uses, selected, selector, simple_uses}
+use Rattle.decl_checker.specs.Accesses.{some_members_uses, term_uses}
 
 -- ---- terms and simple expressions
 

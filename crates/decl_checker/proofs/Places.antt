@@ -1,11 +1,8 @@
 -- The first region that begins at a token.
-use Rattle.std.proofs.Common.{◌≡◌, ℕ, zero, suc, ◌+◌, ◌<◌, ◌≤◌, Bool, true, false, cond, is_some, List, [], ◌∷◌, length, get_or, nat_eq, nat_lt, Option, Some}
-use Rattle.std.proofs.Common.{None}
-use Rattle.std.proofs.Common.{if◌then◌else◌, refl, sym, subst, ap, ◌∙◌, arith}
+use Rattle.std.proofs.Common.{if◌then◌else◌, ◌+◌, ◌<◌, ◌∙◌, ◌∷◌, ◌≡◌, ◌≤◌, [], ℕ, Bool, List, None, Option, Some, ap, arith, cond, false, get_or, is_some}
+use Rattle.std.proofs.Common.{length, nat_eq, nat_lt, refl, subst, suc, sym, true, zero}
+use Rattle.std.proofs.lemmas.{Bool.Decides.nat_tests, List.Sums.position_or_len_is, Option.unwrap_or-slice_get}
 use Rattle.std.specs.List.{position_or_len}
-use Rattle.std.proofs.lemmas.Bool.Decides.{nat_tests}
-use Rattle.std.proofs.lemmas.List.Sums.{position_or_len_is}
-use Rattle.std.proofs.lemmas.Option.{unwrap_or-slice_get}
 use borrow.Author.Count.{below_more}
 use Rattle.check_steps.specs.Regions.{RegionRows, fresh_region, region_at}
 use Rattle.decl_checker.specs.Regions.{HasRegions, after_outermost, begins_at, region_beginning}

@@ -1,24 +1,17 @@
 -- The equations of statements by the fields of their trees.
-use Rattle.std.proofs.Common.{◌≡◌, ℕ, Option, Some, None, refl, sym, ap, ◌∙◌}
+use Rattle.std.proofs.Common.{◌∙◌, ◌≡◌, ℕ, None, Option, Some, ap, refl, sym}
+use Rattle.pas_tree.specs.declared.statements.{Else.Else, If.If, If.back-If-alternative, If.is-If', If.out-If, NextAccess.NextAccess, NextActual.NextActual}
+use Rattle.pas_tree.specs.declared.statements.{NextBranch.NextBranch, NextStatement.NextStatement, Repeat.Repeat, Repeat.is-Repeat', Repeat.out-Repeat}
+use Rattle.pas_tree.specs.declared.statements.Case.{Case, Row_of-NextBranch, end_of-NextBranch, is-Case', items-the_row-NextBranch}
+use Rattle.pas_tree.specs.declared.statements.Case.{items_hidden-the_row-NextBranch-0, more_of-NextBranch, out-Case}
+use Rattle.pas_tree.specs.declared.statements.Compound.{Compound, is-Compound', out-Compound}
 use Rattle.pas_tree.specs.declared.statements.Plain.TheBlock.{hidden-the_row-NextBranch-0, hidden-the_row-NextStatement-1}
-use Rattle.pas_tree.specs.declared.statements.Compound.{Compound, out-Compound, is-Compound'}
-use Rattle.pas_tree.specs.declared.statements.Statements.{Statements, out-Statements, is-Statements', Row_of-NextStatement, end_of-NextStatement}
-use Rattle.pas_tree.specs.declared.statements.Statements.{more_of-NextStatement, items-the_row-NextStatement, items_hidden-the_row-NextStatement-1}
-use Rattle.pas_tree.specs.declared.statements.NextStatement.{NextStatement}
-use Rattle.pas_tree.specs.declared.statements.NextBranch.{NextBranch}
-use Rattle.pas_tree.specs.declared.statements.NextAccess.{NextAccess}
-use Rattle.pas_tree.specs.declared.statements.NextActual.{NextActual}
-use Rattle.pas_tree.specs.declared.statements.If.{If, out-If, is-If', back-If-alternative}
-use Rattle.pas_tree.specs.declared.statements.Else.{Else}
-use Rattle.pas_tree.specs.declared.statements.Case.{Case, out-Case, is-Case', Row_of-NextBranch, end_of-NextBranch, more_of-NextBranch}
-use Rattle.pas_tree.specs.declared.statements.Case.{items-the_row-NextBranch, items_hidden-the_row-NextBranch-0}
-use Rattle.pas_tree.specs.declared.statements.Repeat.{Repeat, out-Repeat, is-Repeat'}
-use Rattle.check_steps.specs.Steps.{Step, ◌>>=◌, each}
-use Rattle.check_steps.proofs.Runs.{bind-assoc}
+use Rattle.pas_tree.specs.declared.statements.Statements.{Row_of-NextStatement, Statements, end_of-NextStatement, is-Statements', items-the_row-NextStatement}
+use Rattle.pas_tree.specs.declared.statements.Statements.{items_hidden-the_row-NextStatement-1, more_of-NextStatement, out-Statements}
+use Rattle.check_steps.{proofs.Runs.bind-assoc, specs.Steps.◌>>=◌, specs.Steps.Step, specs.Steps.each}
 use Rattle.decl_checker.specs.Accesses.{expression_uses}
-use Rattle.decl_checker.specs.Statements.{case_uses, compound_uses, constants_uses, else_of, else_uses, if_uses, more_branches, more_statements}
-use Rattle.decl_checker.specs.Statements.{actual_uses, inside_access, inside_next, next_actual}
-use Rattle.decl_checker.specs.Statements.{next_branch, next_statement, plain_uses, repeat_uses, statements_uses}
+use Rattle.decl_checker.specs.Statements.{actual_uses, case_uses, compound_uses, constants_uses, else_of, else_uses, if_uses, inside_access, inside_next}
+use Rattle.decl_checker.specs.Statements.{more_branches, more_statements, next_actual, next_branch, next_statement, plain_uses, repeat_uses, statements_uses}
 
 statements_each : (frame n : _) (r : Row_of-NextStatement n) (u : Unit {0})
     → more_statements frame r ≡ each (next_statement frame) u (items-the_row-NextStatement n r)

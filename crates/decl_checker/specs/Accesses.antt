@@ -1,39 +1,28 @@
 -- Accesses of variables (6.5), and the names that expressions use (6.7).
-use Rattle.std.specs.Prelude.{ℕ, Option, Some, None}
-use Rattle.pas_tree.specs.declared.expressions.Factor.{Factor, Number, Text, Nil, Access', Call', Paren', Set', Not'}
+use Rattle.std.specs.Prelude.{ℕ, None, Option, Some}
+use Rattle.pas_tree.specs.declared.expressions.{Index.Index as IndexTree, Index.Index', Member.Member-last-Some'}
+use Rattle.pas_tree.specs.declared.expressions.{NextFactor.NextFactor, NextTerm.NextTerm, NextTerm.NextTerm'}
+use Rattle.pas_tree.specs.declared.expressions.{RangeEnd.RangeEnd, RangeEnd.RangeEnd', Relation.Relation}
+use Rattle.pas_tree.specs.declared.expressions.{Relation.Relation', Simple.more_of-NextTerm, Term.more_of-NextFactor}
 use Rattle.pas_tree.specs.declared.expressions.Access.{Access, Row_of-Selector, end_of-Selector, more_of-Selector}
-use Rattle.pas_tree.specs.declared.expressions.Selector.{Selector, Index, Field, Dereference}
-use Rattle.pas_tree.specs.declared.expressions.Index.{Index as IndexTree, Index'}
 use Rattle.pas_tree.specs.declared.expressions.Arguments.{Arguments, Arguments', Row_of-NextExpression}
 use Rattle.pas_tree.specs.declared.expressions.Arguments.{end_of-NextExpression, more_of-NextExpression}
+use Rattle.pas_tree.specs.declared.expressions.Expression.{Expression, Expression', Expression-relation-None'}
+use Rattle.pas_tree.specs.declared.expressions.Expression.{Expression-relation-Some', Held-Expression-relation}
+use Rattle.pas_tree.specs.declared.expressions.Factor.{Access', Call', Factor, Nil, Not', Number, Paren', Set', Text}
+use Rattle.pas_tree.specs.declared.expressions.Member.{Held-Member-last, Member, Member', Member-last-None'}
+use Rattle.pas_tree.specs.declared.expressions.Members.{Empty, Members, Some as NonEmpty}
 use Rattle.pas_tree.specs.declared.expressions.NextExpression.{NextExpression, NextExpression'}
-use Rattle.pas_tree.specs.declared.expressions.Expression.{Expression, Expression', Held-Expression-relation}
-use Rattle.pas_tree.specs.declared.expressions.Expression.{Expression-relation-None', Expression-relation-Some'}
-use Rattle.pas_tree.specs.declared.expressions.Relation.{Relation, Relation'}
-use Rattle.pas_tree.specs.declared.expressions.Simple.{Simple, Simple', Row_of-NextTerm, end_of-NextTerm}
-use Rattle.pas_tree.specs.declared.expressions.Simple.{more_of-NextTerm}
-use Rattle.pas_tree.specs.declared.expressions.NextTerm.{NextTerm, NextTerm'}
-use Rattle.pas_tree.specs.declared.expressions.Term.{Term, Term', Row_of-NextFactor, end_of-NextFactor}
-use Rattle.pas_tree.specs.declared.expressions.Term.{more_of-NextFactor}
-use Rattle.pas_tree.specs.declared.expressions.NextFactor.{NextFactor}
-use Rattle.pas_tree.specs.declared.expressions.Members.{Members, Empty, Some as NonEmpty}
-use Rattle.pas_tree.specs.declared.expressions.SomeMembers.{SomeMembers, SomeMembers', Row_of-NextMember}
-use Rattle.pas_tree.specs.declared.expressions.SomeMembers.{end_of-NextMember, more_of-NextMember}
 use Rattle.pas_tree.specs.declared.expressions.NextMember.{NextMember, NextMember'}
-use Rattle.pas_tree.specs.declared.expressions.Member.{Member, Member', Held-Member-last, Member-last-None'}
-use Rattle.pas_tree.specs.declared.expressions.Member.{Member-last-Some'}
-use Rattle.pas_tree.specs.declared.expressions.RangeEnd.{RangeEnd, RangeEnd'}
-use Rattle.core_program.specs.declared.rows.Row.{Row}
-use Rattle.core_program.specs.declared.rows.Row.TheVariants as row
-use Rattle.core_program.specs.declared.rows.TypeRow.{TypeRow}
-use Rattle.core_program.specs.declared.rows.TypeRow.TheVariants as kind
-use Rattle.core_program.specs.declared.rows.NameRow.TheVariants as named
-use Rattle.check_steps.specs.declared.regions.Definition.{Definition}
-use Rattle.check_steps.specs.declared.regions.Found.{Found}
-use Rattle.check_steps.specs.Regions.{defined_in}
-use Rattle.check_steps.specs.Known.{Known, name_at, row_at, type_at}
-use Rattle.check_steps.specs.Steps.{Step, give, ◌>>=◌, look, each}
-use Rattle.check_steps.specs.Names.{use_at}
+use Rattle.pas_tree.specs.declared.expressions.Selector.{Dereference, Field, Index, Selector}
+use Rattle.pas_tree.specs.declared.expressions.Simple.{Row_of-NextTerm, Simple, Simple', end_of-NextTerm}
+use Rattle.pas_tree.specs.declared.expressions.SomeMembers.{Row_of-NextMember, SomeMembers, SomeMembers'}
+use Rattle.pas_tree.specs.declared.expressions.SomeMembers.{end_of-NextMember, more_of-NextMember}
+use Rattle.pas_tree.specs.declared.expressions.Term.{Row_of-NextFactor, Term, Term', end_of-NextFactor}
+use Rattle.core_program.specs.declared.rows.{NameRow.NameRow, Row.Row, TypeRow.TypeRow}
+use Rattle.check_steps.specs.{Known.Known, Known.name_at, Known.row_at, Known.type_at, Names.use_at, Regions.defined_in}
+use Rattle.check_steps.specs.Steps.{◌>>=◌, Step, each, give, look}
+use Rattle.check_steps.specs.declared.regions.{Definition.Definition, Found.Found}
 
 -- ---- names
 
@@ -45,9 +34,9 @@ name_use frame token = do
 
 -- the type of a variable, a parameter or a field by its row, and else this number
 abbrev pub variable_type : Row → ℕ → ℕ
-variable_type (row.Name (named.Variable mode of' place level)) otherwise = of'
-variable_type (row.Name (named.Field of' offset holder)) otherwise = of'
-variable_type (row.Name (named.Tag of' offset holder variants)) otherwise = of'
+variable_type (Row.Name (NameRow.Variable mode of' place level)) otherwise = of'
+variable_type (Row.Name (NameRow.Field of' offset holder)) otherwise = of'
+variable_type (Row.Name (NameRow.Tag of' offset holder variants)) otherwise = of'
 variable_type r otherwise = otherwise
 
 abbrev pub type_found : Known → Option Found → ℕ → ℕ
@@ -65,11 +54,11 @@ named_variable frame name = do
 -- What is selected in a type that has no such part is unknown: the number `unknown` is given, at which no type stands.
 
 abbrev pub component_type : Option TypeRow → ℕ → ℕ
-component_type (Some (kind.Array packed index component cells)) unknown = component
+component_type (Some (TypeRow.Array packed index component cells)) unknown = component
 component_type t unknown = unknown
 
 abbrev pub domain_type : Option TypeRow → ℕ → ℕ
-domain_type (Some (kind.Pointer domain)) unknown = domain
+domain_type (Some (TypeRow.Pointer domain)) unknown = domain
 domain_type t unknown = unknown
 
 abbrev pub type_defined : Known → Option Definition → ℕ → ℕ
@@ -78,7 +67,7 @@ type_defined k (Some d) unknown = variable_type (row_at k d.token) unknown
 
 -- the type of the field that the record's own region defines
 abbrev pub field_type : Known → Option TypeRow → ℕ → ℕ → ℕ
-field_type k (Some (kind.Record packed region cells variants)) name unknown =
+field_type k (Some (TypeRow.Record packed region cells variants)) name unknown =
     type_defined k (defined_in k.regions region name) unknown
 field_type k t name unknown = unknown
 

@@ -1,10 +1,7 @@
 -- What is answered of the declarations of a program.
-use Rattle.std.specs.Prelude.{◌≡◌, List, [], Option, None, filter}
-use Rattle.check_steps.specs.declared.breaks.Broken.TheVariants.{Early}
-use Rattle.check_steps.specs.declared.breaks.Break.{Break}
-use Rattle.check_steps.specs.declared.breaks.CheckFault.{CheckFault}
-use Rattle.check_steps.specs.declared.breaks.CheckFault.TheVariants as fault
+use Rattle.std.specs.Prelude.{◌≡◌, [], List, None, Option, filter}
 use Rattle.check_steps.specs.Breaks.{IsFirst, first_broken, is_early}
+use Rattle.check_steps.specs.declared.breaks.{Break.Break, Broken.TheVariants.Early, CheckFault.CheckFault}
 
 -- the broken rules that can be told from declarations and names alone
 abbrev pub early_of : List Break → List Break
@@ -16,9 +13,9 @@ IsWithoutEarly bs = early_of bs ≡ []
 
 -- The answer is the first of them, or that memory ran out.
 abbrev pub EarlyFaultIs : List Break → CheckFault → Type 0
-EarlyFaultIs bs (fault.Rule rule token) = IsFirst (early_of bs) (record { broken = Early rule; token = token })
-EarlyFaultIs bs (fault.TooBig token) = ⊥
-EarlyFaultIs bs fault.Memory = Unit {0}
+EarlyFaultIs bs (CheckFault.Rule rule token) = IsFirst (early_of bs) (record { broken = Early rule; token = token })
+EarlyFaultIs bs (CheckFault.TooBig token) = ⊥
+EarlyFaultIs bs CheckFault.Memory = Unit {0}
 
 -- the first of these broken rules, if there are any
 pub record HasFirst (bs : List Break) (first : Option Break) : Type 0 where

@@ -1,20 +1,15 @@
 -- The parts of a block: the names that they define, and what they say of constants, types and variables (6.2.1).
-use Rattle.std.specs.Prelude.{ℕ, List, [], ◌∷◌, Option, Some, None}
-use Rattle.pas_tree.specs.declared.blocks.Block.{Block, out-Block}
-use Rattle.pas_tree.specs.declared.blocks.Routine.{Routine}
-use Rattle.pas_tree.specs.declared.blocks.ConstantPart.{ConstantPart}
-use Rattle.pas_tree.specs.declared.blocks.TypePart.{TypePart}
-use Rattle.pas_tree.specs.declared.blocks.VariablePart.{VariablePart}
-use Rattle.pas_tree.specs.declared.statements.Compound.{Compound, out-Compound}
-use Rattle.core_program.specs.declared.program.Routine.{Routine as RoutineRow}
-use Rattle.core_program.specs.ProgramRows.{routine_at}
-use Rattle.check_steps.specs.Known.{frame_at, line_at}
-use Rattle.check_steps.specs.Steps.{Step, give, ◌>>=◌, look, put_routine, each}
+use Rattle.std.specs.Prelude.{◌∷◌, [], ℕ, List, None, Option, Some}
 use Rattle.pas_tree.specs.HeadingPlaces.{heading_word}
+use Rattle.pas_tree.specs.declared.blocks.{Block.Block, Block.out-Block, ConstantPart.ConstantPart, Routine.Routine}
+use Rattle.pas_tree.specs.declared.blocks.{TypePart.TypePart, VariablePart.VariablePart}
+use Rattle.pas_tree.specs.declared.statements.Compound.{Compound, out-Compound}
+use Rattle.core_program.specs.{ProgramRows.routine_at, declared.program.Routine.Routine as RoutineRow}
+use Rattle.check_steps.specs.Known.{frame_at, line_at}
+use Rattle.check_steps.specs.Steps.{◌>>=◌, Step, each, give, look, put_routine}
 use Rattle.kind_checker.specs.Constants.{constant_part, constants_in, define_constant}
+use Rattle.denoter_checker.specs.{Parts.variables_in, RoutineParts.define_routines}
 use Rattle.denoter_checker.specs.Parts.{define_type, define_variable, type_part, types_in, variable_declaration}
-use Rattle.denoter_checker.specs.Parts.{variables_in}
-use Rattle.denoter_checker.specs.RoutineParts.{define_routines}
 use Rattle.decl_checker.specs.Labels.{define_labels}
 
 -- ---- names

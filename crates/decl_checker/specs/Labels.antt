@@ -1,13 +1,9 @@
 -- Label declarations (6.2.1).
-use Rattle.std.specs.Prelude.{ℕ, false, Option, Some, None, nat_le}
-use Rattle.pas_tree.specs.declared.blocks.LabelPart.{LabelPart}
-use Rattle.pas_tree.specs.declared.blocks.NextLabel.{NextLabel}
-use Rattle.core_program.specs.declared.rows.Row.TheVariants as row
-use Rattle.core_program.specs.declared.rows.NameRow.TheVariants as named
-use Rattle.check_steps.specs.declared.regions.Frame.{Frame}
-use Rattle.check_steps.specs.Known.{label_at}
-use Rattle.check_steps.specs.Steps.{Step, give, ◌>>=◌, look, early, put, each}
-use Rattle.check_steps.specs.Names.{declare_in}
+use Rattle.std.specs.Prelude.{ℕ, None, Option, Some, false, nat_le}
+use Rattle.pas_tree.specs.declared.blocks.{LabelPart.LabelPart, NextLabel.NextLabel}
+use Rattle.core_program.specs.declared.rows.{NameRow.NameRow, Row.Row}
+use Rattle.check_steps.specs.{Known.label_at, Names.declare_in, declared.regions.Frame.Frame}
+use Rattle.check_steps.specs.Steps.{◌>>=◌, Step, each, early, give, look, put}
 
 -- Rule 14: a declared label above 9999.
 unfoldable pub define_label : Frame → ℕ → Step (Unit {0})
@@ -15,7 +11,7 @@ define_label here token = do
   value ← look (λ k. label_at k token)
   _ ← early 14 token (nat_le value 9999)
   _ ← declare_in here.region value token
-  put token (row.Name (named.Label false value here.level 0))
+  put token (Row.Name (NameRow.Label false value here.level 0))
 
 unfoldable pub define_next_label : Frame → Unit {0} → NextLabel → Step (Unit {0})
 define_next_label here u n = define_label here n.number

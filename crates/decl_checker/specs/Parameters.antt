@@ -1,15 +1,11 @@
 -- Program parameters (6.10).
-use Rattle.std.specs.Prelude.{ℕ, List, Bool, Option, Some, None, is_some, codes, if◌then◌else◌}
+use Rattle.std.specs.Prelude.{if◌then◌else◌, ℕ, Bool, List, None, Option, Some, codes, is_some}
 use Rattle.pas_tree.specs.declared.blocks.Parameters.{Parameters}
-use Rattle.core_program.specs.declared.rows.Row.TheVariants as row
-use Rattle.core_program.specs.declared.rows.NameRow.TheVariants as named
-use Rattle.core_program.specs.declared.rows.TextFile.{TextFile}
-use Rattle.core_program.specs.declared.rows.TextFile.TheVariants.{Input, Output}
-use Rattle.check_steps.specs.declared.regions.Def.TheVariants as def
+use Rattle.core_program.specs.declared.rows.{NameRow.NameRow, Row.Row}
+use Rattle.core_program.specs.declared.rows.TextFile.{TextFile, TheVariants.Input, TheVariants.Output}
+use Rattle.check_steps.specs.{Names.define_in, Words.number_of_name, declared.regions.Def.Def}
 use Rattle.check_steps.specs.Known.{Known, name_at}
-use Rattle.check_steps.specs.Steps.{Step, give, ◌>>=◌, look, early, put}
-use Rattle.check_steps.specs.Names.{define_in}
-use Rattle.check_steps.specs.Words.{number_of_name}
+use Rattle.check_steps.specs.Steps.{◌>>=◌, Step, early, give, look, put}
 use Rattle.kind_checker.specs.Names.{each_name}
 use Rattle.denoter_checker.specs.RoutineParts.{is_this_number}
 
@@ -25,8 +21,8 @@ text_file_named k token = if spells k token (codes "input") then Some Input
 abbrev pub define_file : ℕ → ℕ → Option TextFile → Step (Unit {0})
 define_file region token None = give tt
 define_file region token (Some file) = do
-  _ ← define_in region (record { def = def.TextFile token; token = token; end = token })
-  put token (row.Name (named.TextFile file))
+  _ ← define_in region (record { def = Def.TextFile token; token = token; end = token })
+  put token (Row.Name (NameRow.TextFile file))
 
 -- Rule 34: a program parameter other than input and output. These two are defined in the region of the program block.
 unfoldable pub program_parameter : ℕ → Unit {0} → ℕ → Step (Unit {0})

@@ -1,16 +1,12 @@
 -- Programs (6.10).
-use Rattle.std.specs.Prelude.{ℕ, Some, None, List}
+use Rattle.std.specs.Prelude.{ℕ, List, None, Some}
 use Rattle.pas_lexer.specs.Lexed.{Lexed}
 use Rattle.pas_tree.specs.declared.blocks.Tree.{Tree}
 use Rattle.core_program.specs.declared.program.Routine.{Routine}
+use Rattle.check_steps.specs.{Known.Known, Known.frame_at, Required.open_outermost, Words.known_at_start}
+use Rattle.check_steps.specs.Steps.{◌>>=◌, Step, add_routine, give, look, open_region}
 use Rattle.check_steps.specs.declared.breaks.Break.{Break}
-use Rattle.check_steps.specs.Known.{Known, frame_at}
-use Rattle.check_steps.specs.Required.{open_outermost}
-use Rattle.check_steps.specs.Steps.{Step, give, ◌>>=◌, look, add_routine, open_region}
-use Rattle.check_steps.specs.Words.{known_at_start}
-use Rattle.decl_checker.specs.Blocks.{define_block}
-use Rattle.decl_checker.specs.Parameters.{program_parameters}
-use Rattle.decl_checker.specs.Routines.{block}
+use Rattle.decl_checker.specs.{Blocks.define_block, Parameters.program_parameters, Routines.block}
 
 -- the program as routine 0, before its block is known
 abbrev pub main_row : ℕ → Routine

@@ -1,5 +1,5 @@
 -- Regions by the tokens at which they begin.
-use Rattle.std.specs.Prelude.{◌≡◌, ℕ, suc, Bool, List, Option, Some, None, nat_eq, drop, position}
+use Rattle.std.specs.Prelude.{◌≡◌, ℕ, Bool, List, None, Option, Some, drop, nat_eq, position, suc}
 use Rattle.check_steps.specs.Regions.{RegionRows}
 
 abbrev pub begins_at : ℕ → RegionRows → Bool

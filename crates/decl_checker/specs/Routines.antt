@@ -1,29 +1,19 @@
 -- Blocks and their procedures and functions (6.2.1, 6.6).
-use Rattle.std.specs.Prelude.{ℕ, ◌+◌, Bool, false, List, Option, Some, None, nat_lt, if◌then◌else◌}
-use Rattle.pas_tree.specs.declared.blocks.Block.{Block, Block' as BlockTree', Row_of-Routine}
-use Rattle.pas_tree.specs.declared.blocks.Block.{end_of-Routine, more_of-Routine, items-the_row-Routine}
-use Rattle.pas_tree.specs.declared.blocks.Routine.{Routine}
-use Rattle.pas_tree.specs.declared.blocks.RoutineBody.{RoutineBody, Directive, Block'}
-use Rattle.pas_tree.specs.declared.headings.Heading.{Heading}
-use Rattle.pas_tree.specs.declared.statements.Compound.{out-Compound}
-use Rattle.core_program.specs.declared.program.Routine.{Routine as RoutineRow}
-use Rattle.core_program.specs.declared.rows.Row.{Row}
-use Rattle.core_program.specs.declared.rows.Row.TheVariants as row
-use Rattle.core_program.specs.declared.rows.NameRow.TheVariants as named
-use Rattle.core_program.specs.declared.rows.PartRow.TheVariants as part
-use Rattle.core_program.specs.ProgramRows.{frame_of}
-use Rattle.check_steps.specs.Known.{Known, frame_at, row_at}
-use Rattle.check_steps.specs.Regions.{region_at}
-use Rattle.check_steps.specs.Steps.{Step, give, ◌>>=◌, look, put, add_routine, open_region}
+use Rattle.std.specs.Prelude.{if◌then◌else◌, ◌+◌, ℕ, Bool, List, None, Option, Some, false, nat_lt}
 use Rattle.pas_tree.specs.HeadingPlaces.{heading_name, heading_word}
+use Rattle.pas_tree.specs.declared.{headings.Heading.Heading, statements.Compound.out-Compound}
+use Rattle.pas_tree.specs.declared.blocks.{Block.items-the_row-Routine, Block.more_of-Routine, Routine.Routine}
+use Rattle.pas_tree.specs.declared.blocks.Block.{Block, Block' as BlockTree', Row_of-Routine, end_of-Routine}
+use Rattle.pas_tree.specs.declared.blocks.RoutineBody.{Block', Directive, RoutineBody}
+use Rattle.core_program.specs.{ProgramRows.frame_of, declared.program.Routine.Routine as RoutineRow}
+use Rattle.core_program.specs.declared.rows.{NameRow.NameRow, PartRow.PartRow, Row.Row}
+use Rattle.check_steps.specs.{Known.Known, Known.frame_at, Known.row_at, Regions.region_at}
+use Rattle.check_steps.specs.Steps.{◌>>=◌, Step, add_routine, give, look, open_region, put}
 use Rattle.kind_checker.specs.Sizes.{frame_capped}
-use Rattle.denoter_checker.specs.Formals.{define_formals_at, is_function}
-use Rattle.denoter_checker.specs.Headings.{signature}
+use Rattle.denoter_checker.specs.{Formals.define_formals_at, Formals.is_function, Headings.signature}
 use Rattle.denoter_checker.specs.RoutineParts.{completion_of, routine_name}
-use Rattle.decl_checker.specs.Statements.{compound_uses}
-use Rattle.decl_checker.specs.declared.routines.Entered.{Entered}
-use Rattle.decl_checker.specs.Blocks.{define_block, parts, put_body}
-use Rattle.decl_checker.specs.Scopes.{routine_region, routine_in}
+use Rattle.decl_checker.specs.{Blocks.define_block, Blocks.parts, Blocks.put_body, Scopes.routine_in}
+use Rattle.decl_checker.specs.{Scopes.routine_region, Statements.compound_uses, declared.routines.Entered.Entered}
 
 -- ---- regions of routines
 
@@ -80,7 +70,7 @@ unfoldable pub add_heading : ℕ → Heading → ℕ → Step ℕ
 add_heading frame h end = do
   here ← look (λ k. frame_at k frame)
   number ← add_routine (heading_row h here.level end)
-  _ ← put (heading_name h) (row.Name (named.Routine false number here.region))
+  _ ← put (heading_name h) (Row.Name (NameRow.Routine false number here.region))
   give number
 
 -- a routine's first heading, seen from the frame around, among the routines of its part
@@ -97,7 +87,7 @@ first_heading frame rs r = do
 
 -- the name in the first heading of the routine that a heading completes
 abbrev pub first_name : Row → Option ℕ
-first_name (row.Part (part.Completing first)) = Some first
+first_name (Row.Part (PartRow.Completing first)) = Some first
 first_name r = None
 
 -- the frame of a routine's region, by its name in its first heading

@@ -1,29 +1,23 @@
 -- Definitions as callers name them: a region by its number, a name by its spelling.
-use Rattle.std.specs.Prelude.{ℕ, List, Option, Some, None}
-use Rattle.core_program.specs.declared.rows.Row.{Row}
-use Rattle.core_program.specs.declared.rows.Row.TheVariants as row
-use Rattle.core_program.specs.declared.rows.NameRow.TheVariants as named
-use Rattle.check_steps.specs.declared.regions.Def.{Def}
-use Rattle.check_steps.specs.declared.regions.Def.TheVariants as def
-use Rattle.check_steps.specs.declared.regions.Definition.{Definition}
-use Rattle.check_steps.specs.declared.regions.Found.{Found}
-use Rattle.check_steps.specs.Known.{Known, find, row_at}
+use Rattle.std.specs.Prelude.{ℕ, List, None, Option, Some}
+use Rattle.core_program.specs.declared.rows.{NameRow.NameRow, Row.Row}
+use Rattle.check_steps.specs.{Known.Known, Known.find, Known.row_at, Words.number_of_name}
 use Rattle.check_steps.specs.Regions.{defined_in, region_at}
-use Rattle.check_steps.specs.Words.{number_of_name}
+use Rattle.check_steps.specs.declared.regions.{Def.Def, Definition.Definition, Found.Found}
 
 -- the number of a routine, by the row at its name
 abbrev pub routine_in : Row → ℕ → ℕ
-routine_in (row.Name (named.Routine assigned number region)) otherwise = number
+routine_in (Row.Name (NameRow.Routine assigned number region)) otherwise = number
 routine_in r otherwise = otherwise
 
 -- the region of a routine, by the row at its name
 abbrev pub routine_region : Row → ℕ
-routine_region (row.Name (named.Routine assigned number region)) = region
+routine_region (Row.Name (NameRow.Routine assigned number region)) = region
 routine_region r = 0
 
 -- what callers see of a definition: of a routine its number
 abbrev pub seen : Known → Def → Def
-seen k (def.Routine token) = def.Routine (routine_in (row_at k token) token)
+seen k (Def.Routine token) = Def.Routine (routine_in (row_at k token) token)
 seen k d = d
 
 abbrev pub seen_of : Known → Option Definition → Option Def

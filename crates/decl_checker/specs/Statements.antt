@@ -1,31 +1,22 @@
 -- The names that statements use (6.8).
-use Rattle.std.specs.Prelude.{ℕ, ◌+◌, Option, Some, None, nat_lt, if◌then◌else◌}
+use Rattle.std.specs.Prelude.{if◌then◌else◌, ◌+◌, ℕ, None, Option, Some, nat_lt}
 use Rattle.std.specs.Global.{Box}
-use Rattle.pas_tree.specs.declared.constants.Constants.{Constants}
-use Rattle.pas_tree.specs.declared.constants.NextConstant.{NextConstant}
-use Rattle.pas_tree.specs.declared.expressions.Access.{Access}
-use Rattle.pas_tree.specs.declared.statements.Plain.{Plain, Empty, Assignment as Assignment', Call, Goto, Compound'}
-use Rattle.pas_tree.specs.declared.statements.Plain.{If', Case', Repeat', While', For', With'}
-use Rattle.pas_tree.specs.declared.statements.Compound.{Compound, Compound' as CompoundTree'}
-use Rattle.pas_tree.specs.declared.statements.Statements.{Statements, Statements', Row_of-NextStatement}
-use Rattle.pas_tree.specs.declared.statements.Statements.{end_of-NextStatement, more_of-NextStatement}
-use Rattle.pas_tree.specs.declared.statements.NextStatement.{NextStatement}
-use Rattle.pas_tree.specs.declared.statements.Assignment.{Assignment}
-use Rattle.pas_tree.specs.declared.statements.Actuals.{Actuals}
-use Rattle.pas_tree.specs.declared.statements.NextActual.{NextActual}
-use Rattle.pas_tree.specs.declared.statements.Actual.{Actual}
-use Rattle.pas_tree.specs.declared.statements.Width.{Width}
-use Rattle.pas_tree.specs.declared.statements.If.{If, If' as IfTree', Held-If-alternative, None', Some'}
-use Rattle.pas_tree.specs.declared.statements.Else.{Else}
+use Rattle.pas_tree.specs.declared.{expressions.Access.Access, statements.NextStatement.NextStatement}
+use Rattle.pas_tree.specs.declared.constants.{Constants.Constants, NextConstant.NextConstant}
+use Rattle.pas_tree.specs.declared.statements.{Actual.Actual, Actuals.Actuals, Assignment.Assignment}
+use Rattle.pas_tree.specs.declared.statements.{Case.more_of-NextBranch, Else.Else, NextAccess.NextAccess}
+use Rattle.pas_tree.specs.declared.statements.{NextActual.NextActual, NextBranch.NextBranch, Width.Width}
 use Rattle.pas_tree.specs.declared.statements.Case.{Case, Case' as CaseTree', Row_of-NextBranch, end_of-NextBranch}
-use Rattle.pas_tree.specs.declared.statements.Case.{more_of-NextBranch}
-use Rattle.pas_tree.specs.declared.statements.NextBranch.{NextBranch}
+use Rattle.pas_tree.specs.declared.statements.Compound.{Compound, Compound' as CompoundTree'}
+use Rattle.pas_tree.specs.declared.statements.If.{Held-If-alternative, If, If' as IfTree', None', Some'}
+use Rattle.pas_tree.specs.declared.statements.Plain.{Assignment as Assignment', Call, Case', Compound', Empty, For'}
+use Rattle.pas_tree.specs.declared.statements.Plain.{Goto, If', Plain, Repeat', While', With'}
 use Rattle.pas_tree.specs.declared.statements.Repeat.{Repeat, Repeat' as RepeatTree'}
-use Rattle.pas_tree.specs.declared.statements.NextAccess.{NextAccess}
+use Rattle.pas_tree.specs.declared.statements.Statements.{Row_of-NextStatement, Statements, Statements'}
+use Rattle.pas_tree.specs.declared.statements.Statements.{end_of-NextStatement, more_of-NextStatement}
 use Rattle.core_program.specs.declared.rows.TypeRow.{TypeRow}
-use Rattle.core_program.specs.declared.rows.TypeRow.TheVariants as kind
 use Rattle.check_steps.specs.Known.{frame_at, type_at}
-use Rattle.check_steps.specs.Steps.{Step, give, ◌>>=◌, look, each, open_frame}
+use Rattle.check_steps.specs.Steps.{◌>>=◌, Step, each, give, look, open_frame}
 use Rattle.kind_checker.specs.Constants.{constant}
 use Rattle.decl_checker.specs.Accesses.{access_type, access_uses, expression_uses, name_use}
 
@@ -73,7 +64,7 @@ constants_uses frame c = do
 
 -- the region of a record's fields
 abbrev pub fields_in : Option TypeRow → Option ℕ
-fields_in (Some (kind.Record packed region cells variants)) = Some region
+fields_in (Some (TypeRow.Record packed region cells variants)) = Some region
 fields_in t = None
 
 -- one with statement more

@@ -2,7 +2,7 @@
 
 ghost use Rattle.std.specs.Prelude.{◌≡◌};
 ghost use Rattle.check_steps.specs.Steps.{Does};
-ghost use Rattle.decl_checker.specs.Accesses.{indexed_type, component_type, domain, domain_type, field, field_type};
+ghost use Rattle.decl_checker.specs.Accesses.{component_type, domain, domain_type, field, field_type, indexed_type};
 ghost use Rattle.decl_checker.specs.Accesses.{name_use, named_variable, type_defined, type_found, variable_type};
 
 use check_steps::{Definition, Found, Tables, Work};

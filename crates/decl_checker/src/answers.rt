@@ -1,8 +1,7 @@
 //! What is answered of a program whose declarations were checked.
 
-ghost use Rattle.std.specs.Prelude.{◌≡◌, None, List, IfOk, IfErr};
-ghost use Rattle.check_steps.specs.declared.breaks.Break.{Break};
-ghost use Rattle.check_steps.specs.Breaks.{first_broken, is_early};
+ghost use Rattle.std.specs.Prelude.{◌≡◌, IfErr, IfOk, List, None};
+ghost use Rattle.check_steps.specs.{Breaks.first_broken, Breaks.is_early, declared.breaks.Break.Break};
 ghost use Rattle.decl_checker.specs.Answers.{EarlyFaultIs, HasFirst, IsWithoutEarly};
 
 use crate::scopes::Scopes;

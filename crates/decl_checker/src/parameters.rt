@@ -3,8 +3,8 @@
 ghost use Rattle.std.specs.Prelude.{◌≡◌, IfOk};
 ghost use Rattle.check_steps.specs.Steps.{Does, each};
 ghost use Rattle.kind_checker.specs.Names.{each_name, on_name};
-ghost use Rattle.decl_checker.specs.Parameters.{define_file, text_file_named, program_parameter, program_parameters};
-ghost use Rattle.decl_checker.specs.Parameters.{spells};
+ghost use Rattle.decl_checker.specs.Parameters.{define_file, program_parameter, program_parameters, spells};
+ghost use Rattle.decl_checker.specs.Parameters.{text_file_named};
 
 use check_steps::{Def, Definition, Tables, Work};
 use core_program::rows::{NameRow, Row, TextFile};

@@ -1,10 +1,9 @@
 //! Programs (6.10), and what is answered of their declarations.
 
-ghost use Rattle.std.specs.Prelude.{◌≡◌, IfOk, IfErr};
+ghost use Rattle.std.specs.Prelude.{◌≡◌, IfErr, IfOk};
 ghost use Rattle.check_steps.specs.Steps.{Does};
-ghost use Rattle.decl_checker.specs.Answers.{EarlyFaultIs, IsWithoutEarly};
+ghost use Rattle.decl_checker.specs.{Answers.EarlyFaultIs, Answers.IsWithoutEarly, Programs.tables_of};
 ghost use Rattle.decl_checker.specs.Programs.{broken_early, define_program, main_row, open_program, program_step};
-ghost use Rattle.decl_checker.specs.Programs.{tables_of};
 
 use crate::answers::answer;
 use crate::blocks::define_block;

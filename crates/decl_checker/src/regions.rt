@@ -1,6 +1,6 @@
 //! Regions by the tokens at which they begin.
 
-ghost use Rattle.std.specs.Prelude.{◌≡◌, nat_eq, IfOk};
+ghost use Rattle.std.specs.Prelude.{◌≡◌, IfOk, nat_eq};
 ghost use Rattle.indexmap.specs.IndexMap.{get};
 ghost use Rattle.decl_checker.specs.Regions.{HasRegions};
 

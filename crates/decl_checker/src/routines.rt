@@ -4,9 +4,8 @@ ghost use Rattle.std.specs.Prelude.{◌≡◌, IfOk, option_copied};
 ghost use Rattle.check_steps.specs.Steps.{Does, each};
 ghost use Rattle.decl_checker.specs.Routines.{add_heading, block, body_in, define_body, define_completion};
 ghost use Rattle.decl_checker.specs.Routines.{define_inside, enter_heading, first_heading, first_name, heading_row};
-ghost use Rattle.decl_checker.specs.Routines.{one_deeper};
-ghost use Rattle.decl_checker.specs.Routines.{open_routine, own_frame, place_after_result, result_place, resumed};
-ghost use Rattle.decl_checker.specs.Routines.{routine};
+ghost use Rattle.decl_checker.specs.Routines.{one_deeper, open_routine, own_frame, place_after_result, result_place};
+ghost use Rattle.decl_checker.specs.Routines.{resumed, routine};
 
 use crate::blocks::{check_parts, define_block, put_body};
 use crate::scopes::{routine_in, routine_region};

@@ -1,9 +1,9 @@
 //! The declarations of a program, as callers see them.
 
-ghost use Rattle.std.specs.Prelude.{◌≡◌, length, IfOk};
+ghost use Rattle.std.specs.Prelude.{◌≡◌, IfOk, length};
 ghost use Rattle.core_program.specs.ProgramRows.{frame_of, name_of, offset_of, size_of};
 ghost use Rattle.decl_checker.specs.Regions.{region_beginning};
-ghost use Rattle.decl_checker.specs.Scopes.{held_around, held_in, routine_region, routine_in, seen, seen_of};
+ghost use Rattle.decl_checker.specs.Scopes.{held_around, held_in, routine_in, routine_region, seen, seen_of};
 
 use crate::regions::starts;
 use check_steps::{Def, Definition, Tables};

@@ -4,9 +4,8 @@ ghost use Rattle.std.specs.Prelude.{◌≡◌, IfOk};
 ghost use Rattle.check_steps.specs.Steps.{Does, each};
 ghost use Rattle.decl_checker.specs.Statements.{actual_uses, actuals_uses, assignment_uses, case_uses, compound_uses};
 ghost use Rattle.decl_checker.specs.Statements.{constants_uses, fields_in, if_uses, inside_access, inside_next};
-ghost use Rattle.decl_checker.specs.Statements.{next_actual, next_constant};
-ghost use Rattle.decl_checker.specs.Statements.{one_more_with, open_fields, plain_uses, repeat_uses};
-ghost use Rattle.decl_checker.specs.Statements.{some_actuals_uses, statements_uses, width_uses};
+ghost use Rattle.decl_checker.specs.Statements.{next_actual, next_constant, one_more_with, open_fields, plain_uses};
+ghost use Rattle.decl_checker.specs.Statements.{repeat_uses, some_actuals_uses, statements_uses, width_uses};
 
 use crate::accesses::use_name;
 use crate::expressions::{check_access, use_access, use_expression};

@@ -1,23 +1,21 @@
 -- The equations of the define walk by the fields of its trees.
-use Rattle.std.proofs.Common.{◌≡◌, ℕ, Option, Some, None, refl, ap, ◌∙◌}
+use Rattle.std.proofs.Common.{◌∙◌, ◌≡◌, ℕ, None, Option, Some, ap, refl}
 use denote.Hole.Carrier.{roll}
-use Rattle.pas_tree.specs.declared.denoters.Denoter.TheBlock.{hidden-the_row-NextDenoter-0, hidden-the_row-NextSection-1, hidden-the_row-NextArm-2}
-use Rattle.pas_tree.specs.declared.denoters.ArrayDenoter.{ArrayDenoter, out-ArrayDenoter, is-ArrayDenoter', Row_of-NextDenoter, end_of-NextDenoter}
-use Rattle.pas_tree.specs.declared.denoters.ArrayDenoter.{more_of-NextDenoter, items-the_row-NextDenoter, items_hidden-the_row-NextDenoter-0}
+use Rattle.pas_tree.specs.declared.denoters.{Fields.roll-Fields, Fixed.items_hidden-the_row-NextSection-1, Fixed.more_of-NextSection, Fixed.out-Fixed}
+use Rattle.pas_tree.specs.declared.denoters.ArrayDenoter.{ArrayDenoter, Row_of-NextDenoter, end_of-NextDenoter, is-ArrayDenoter', items-the_row-NextDenoter}
+use Rattle.pas_tree.specs.declared.denoters.ArrayDenoter.{items_hidden-the_row-NextDenoter-0, more_of-NextDenoter, out-ArrayDenoter}
+use Rattle.pas_tree.specs.declared.denoters.Denoter.TheBlock.{hidden-the_row-NextArm-2, hidden-the_row-NextDenoter-0, hidden-the_row-NextSection-1}
 use Rattle.pas_tree.specs.declared.denoters.Fields.TheVariants as made
-use Rattle.pas_tree.specs.declared.denoters.Fields.{roll-Fields}
-use Rattle.pas_tree.specs.declared.denoters.Fixed.{Fixed, out-Fixed, is-Fixed', Row_of-NextSection, end_of-NextSection, more_of-NextSection}
-use Rattle.pas_tree.specs.declared.denoters.Fixed.{items-the_row-NextSection, items_hidden-the_row-NextSection-1}
-use Rattle.pas_tree.specs.declared.denoters.NextVariants.{NextVariants, out-NextVariants, is-NextVariants'}
-use Rattle.pas_tree.specs.declared.denoters.Variants.{Variants, out-Variants, is-Variants', Row_of-NextArm, end_of-NextArm, more_of-NextArm}
-use Rattle.pas_tree.specs.declared.denoters.Variants.{items-the_row-NextArm, items_hidden-the_row-NextArm-2}
-use Rattle.check_steps.specs.Steps.{Step, ◌>>=◌, each}
-use Rattle.kind_checker.specs.declared.names.NameKind.TheVariants as kind
+use Rattle.pas_tree.specs.declared.denoters.Fixed.{Fixed, Row_of-NextSection, end_of-NextSection, is-Fixed', items-the_row-NextSection}
+use Rattle.pas_tree.specs.declared.denoters.NextVariants.{NextVariants, is-NextVariants', out-NextVariants}
+use Rattle.pas_tree.specs.declared.denoters.Variants.{Row_of-NextArm, Variants, end_of-NextArm, is-Variants', items-the_row-NextArm}
+use Rattle.pas_tree.specs.declared.denoters.Variants.{items_hidden-the_row-NextArm-2, more_of-NextArm, out-Variants}
+use Rattle.check_steps.specs.Steps.{◌>>=◌, Step, each}
 use Rattle.kind_checker.specs.Names.{define_name, each_name}
-use Rattle.denoter_checker.specs.declared.defines.Wanted.{Wanted}
-use Rattle.denoter_checker.specs.Defines.{by, define_array, define_arms, define_denoter, define_fixed, define_fixed_part, define_in_fields}
-use Rattle.denoter_checker.specs.Defines.{define_next_arm, define_next_section, define_next_variants, define_other, define_others}
-use Rattle.denoter_checker.specs.Defines.{define_section, define_sections, define_tag, define_variants}
+use Rattle.kind_checker.specs.declared.names.NameKind.TheVariants as kind
+use Rattle.denoter_checker.specs.{Defines.define_variants, declared.defines.Wanted.Wanted}
+use Rattle.denoter_checker.specs.Defines.{by, define_arms, define_array, define_denoter, define_fixed, define_fixed_part, define_in_fields, define_next_arm}
+use Rattle.denoter_checker.specs.Defines.{define_next_section, define_next_variants, define_other, define_others, define_section, define_sections, define_tag}
 
 others_each : (region : ℕ) (n : _) (r : Row_of-NextDenoter n) (u : Unit {0})
     → define_others region r ≡ each (define_other region) u (items-the_row-NextDenoter n r)

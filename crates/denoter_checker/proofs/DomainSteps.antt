@@ -1,8 +1,6 @@
 -- One token further in the pass over domains.
-use Rattle.std.proofs.Common.{◌≡◌, ℕ, suc, ◌+◌, ◌-◌, ◌<◌, ◌≤◌, sym, ap, ◌∙◌, arith}
-use Rattle.check_steps.specs.declared.work.Work.{Work}
-use Rattle.check_steps.specs.Steps.{run_step}
-use Rattle.check_steps.proofs.Runs.{run_after, run-give}
+use Rattle.std.proofs.Common.{◌+◌, ◌-◌, ◌<◌, ◌∙◌, ◌≡◌, ◌≤◌, ℕ, ap, arith, suc, sym}
+use Rattle.check_steps.{proofs.Runs.run-give, proofs.Runs.run_after, specs.Steps.run_step, specs.declared.work.Work.Work}
 use Rattle.denoter_checker.specs.Parts.{settle_domain, settle_from}
 
 pub settle_next : (after token : ℕ) (w v : Work) → token < after → run_step (settle_domain token) w ≡ (tt, v)

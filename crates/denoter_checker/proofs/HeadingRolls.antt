@@ -1,15 +1,13 @@
 -- The equations of headings by the fields of their trees.
-use Rattle.std.proofs.Common.{◌≡◌, ℕ, Option, Some, None, refl, ap, ◌∙◌}
-use Rattle.pas_tree.specs.declared.headings.Heading.{Procedure, Function}
-use Rattle.pas_tree.specs.declared.headings.Formal.TheBlock.{hidden-the_row-NextFormal-0}
-use Rattle.pas_tree.specs.declared.headings.ProcedureHeading.{ProcedureHeading, out-ProcedureHeading, is-ProcedureHeading'}
-use Rattle.pas_tree.specs.declared.headings.FunctionHeading.{FunctionHeading, out-FunctionHeading, is-FunctionHeading', back-FunctionHeading-formals}
-use Rattle.pas_tree.specs.declared.headings.Formals.{Formals, out-Formals, is-Formals', Row_of-NextFormal, end_of-NextFormal, more_of-NextFormal}
-use Rattle.pas_tree.specs.declared.headings.Formals.{items-the_row-NextFormal, items_hidden-the_row-NextFormal-0}
-use Rattle.check_steps.specs.Steps.{Step, ◌>>=◌, each}
-use Rattle.denoter_checker.specs.Formals.{held_formals, formals_of, result_of}
-use Rattle.denoter_checker.specs.Headings.{formal_place, function_row, function_signature, more_places, next_formal_place, places, places_held}
-use Rattle.denoter_checker.specs.Headings.{places_of, procedure_row, procedure_signature}
+use Rattle.std.proofs.Common.{◌∙◌, ◌≡◌, ℕ, None, Option, Some, ap, refl}
+use Rattle.pas_tree.specs.declared.headings.{Formal.TheBlock.hidden-the_row-NextFormal-0, Heading.Function, Heading.Procedure}
+use Rattle.pas_tree.specs.declared.headings.Formals.{Formals, Row_of-NextFormal, end_of-NextFormal, is-Formals', items-the_row-NextFormal}
+use Rattle.pas_tree.specs.declared.headings.Formals.{items_hidden-the_row-NextFormal-0, more_of-NextFormal, out-Formals}
+use Rattle.pas_tree.specs.declared.headings.FunctionHeading.{FunctionHeading, back-FunctionHeading-formals, is-FunctionHeading', out-FunctionHeading}
+use Rattle.pas_tree.specs.declared.headings.ProcedureHeading.{ProcedureHeading, is-ProcedureHeading', out-ProcedureHeading}
+use Rattle.check_steps.specs.Steps.{◌>>=◌, Step, each}
+use Rattle.denoter_checker.specs.{Formals.formals_of, Formals.held_formals, Formals.result_of, Headings.procedure_row, Headings.procedure_signature}
+use Rattle.denoter_checker.specs.Headings.{formal_place, function_row, function_signature, more_places, next_formal_place, places, places_held, places_of}
 
 -- ---- formals that are there or not
 

@@ -1,33 +1,24 @@
 -- The equations of type denoters by the fields of their trees.
-use Rattle.std.proofs.Common.{◌≡◌, ℕ, Bool, Option, Some, None, is_none, ◌+◌, refl, sym, ap, ◌∙◌}
+use Rattle.std.proofs.Common.{◌+◌, ◌∙◌, ◌≡◌, ℕ, Bool, None, Option, Some, ap, is_none, refl, sym}
 use denote.Hole.Carrier.{roll}
-use Rattle.pas_tree.specs.declared.denoters.Denoter.TheBlock.{hidden-the_row-NextDenoter-0, hidden-the_row-NextSection-1, hidden-the_row-NextArm-2}
-use Rattle.pas_tree.specs.declared.denoters.ArrayDenoter.{ArrayDenoter, out-ArrayDenoter, is-ArrayDenoter', Row_of-NextDenoter, end_of-NextDenoter}
-use Rattle.pas_tree.specs.declared.denoters.ArrayDenoter.{more_of-NextDenoter, items-the_row-NextDenoter, items_hidden-the_row-NextDenoter-0}
-use Rattle.pas_tree.specs.declared.denoters.Fields.{Some'}
-use Rattle.pas_tree.specs.declared.denoters.Fields.TheVariants as made
-use Rattle.pas_tree.specs.declared.denoters.Fields.{roll-Fields}
-use Rattle.pas_tree.specs.declared.denoters.Fixed.{Fixed, out-Fixed, is-Fixed', Row_of-NextSection, end_of-NextSection, more_of-NextSection}
-use Rattle.pas_tree.specs.declared.denoters.Fixed.{items-the_row-NextSection, items_hidden-the_row-NextSection-1}
-use Rattle.pas_tree.specs.declared.denoters.NextVariants.{NextVariants, out-NextVariants, is-NextVariants'}
-use Rattle.pas_tree.specs.declared.denoters.Variants.{Variants, out-Variants, is-Variants', Row_of-NextArm, end_of-NextArm, more_of-NextArm}
-use Rattle.pas_tree.specs.declared.denoters.Variants.{items-the_row-NextArm, items_hidden-the_row-NextArm-2}
-use Rattle.check_steps.specs.Steps.{Step, ◌>>=◌, each, each_back}
-use Rattle.check_steps.proofs.Runs.{bind-assoc}
 use Rattle.pas_tree.specs.DenoterPlaces.{first_of_denoter}
-use Rattle.kind_checker.specs.declared.types.Scope.{Scope}
-use Rattle.kind_checker.specs.Names.{each_name}
-use Rattle.kind_checker.specs.Sizes.{capped}
-use Rattle.kind_checker.specs.Types.{ordinal}
-use Rattle.denoter_checker.specs.declared.variants.Choosing.{Choosing}
-use Rattle.denoter_checker.specs.declared.variants.Listed.{Listed}
-use Rattle.denoter_checker.specs.declared.variants.PartPlace.{PartPlace}
+use Rattle.pas_tree.specs.declared.denoters.{Fields.Some', Fields.roll-Fields, Fixed.items_hidden-the_row-NextSection-1, Fixed.more_of-NextSection}
+use Rattle.pas_tree.specs.declared.denoters.{Fixed.out-Fixed, NextVariants.NextVariants, NextVariants.is-NextVariants', NextVariants.out-NextVariants}
+use Rattle.pas_tree.specs.declared.denoters.ArrayDenoter.{ArrayDenoter, Row_of-NextDenoter, end_of-NextDenoter, is-ArrayDenoter', items-the_row-NextDenoter}
+use Rattle.pas_tree.specs.declared.denoters.ArrayDenoter.{items_hidden-the_row-NextDenoter-0, more_of-NextDenoter, out-ArrayDenoter}
+use Rattle.pas_tree.specs.declared.denoters.Denoter.TheBlock.{hidden-the_row-NextArm-2, hidden-the_row-NextDenoter-0, hidden-the_row-NextSection-1}
+use Rattle.pas_tree.specs.declared.denoters.Fields.TheVariants as made
+use Rattle.pas_tree.specs.declared.denoters.Fixed.{Fixed, Row_of-NextSection, end_of-NextSection, is-Fixed', items-the_row-NextSection}
+use Rattle.pas_tree.specs.declared.denoters.Variants.{Row_of-NextArm, Variants, end_of-NextArm, is-Variants', items-the_row-NextArm}
+use Rattle.pas_tree.specs.declared.denoters.Variants.{items_hidden-the_row-NextArm-2, more_of-NextArm, out-Variants}
+use Rattle.check_steps.{proofs.Runs.bind-assoc, specs.Steps.◌>>=◌, specs.Steps.Step, specs.Steps.each, specs.Steps.each_back}
+use Rattle.kind_checker.specs.{Names.each_name, Sizes.capped, Types.ordinal, declared.types.Scope.Scope}
 use Rattle.denoter_checker.specs.Arrays.{array, joined, next_joined, put_index}
+use Rattle.denoter_checker.specs.Denoters.{arms, array_denoter, case_word, choosing_in, choosing_of, denoter, field_place, fields_at, fixed_at, fixed_part}
+use Rattle.denoter_checker.specs.Denoters.{held_word, joins, more_choices, next_arm, next_index, next_section, next_variants, other_indexes, part_at, section}
+use Rattle.denoter_checker.specs.Denoters.{sections, variants_at, variants_word}
 use Rattle.denoter_checker.specs.Variants.{arm_choices, choosing_at, next_arm_choices, nothing_listed, tag_part, variant_part}
-use Rattle.denoter_checker.specs.Denoters.{array_denoter, arms, choosing_in, choosing_of, held_word, denoter, field_place, fields_at, fixed_at, fixed_part}
-use Rattle.denoter_checker.specs.Denoters.{joins}
-use Rattle.denoter_checker.specs.Denoters.{more_choices, next_arm, next_index, next_section, next_variants, other_indexes, part_at}
-use Rattle.denoter_checker.specs.Denoters.{section, sections, variants_at, variants_word, case_word}
+use Rattle.denoter_checker.specs.declared.variants.{Choosing.Choosing, Listed.Listed, PartPlace.PartPlace}
 
 -- ---- arrays
 

@@ -1,41 +1,28 @@
 -- Type denoters (6.4): an equation for each construct.
-use Rattle.std.specs.Prelude.{ℕ, ◌+◌, Bool, Option, Some, None, is_none, is_some, List}
-use Rattle.pas_tree.specs.declared.constants.Constants.{Constants}
-use Rattle.pas_tree.specs.declared.denoters.Denoter.{Denoter, Name, Enumeration, Subrange, Pointer, Structure'}
-use Rattle.pas_tree.specs.declared.denoters.Structure.{Structure, Array, Record', Set'}
+use Rattle.std.specs.Prelude.{◌+◌, ℕ, Bool, List, None, Option, Some, is_none, is_some}
+use Rattle.pas_tree.specs.{DenoterPlaces.first_of_denoter, declared.constants.Constants.Constants}
+use Rattle.pas_tree.specs.declared.denoters.{Fields.Variants' as FieldsVariants', NextArm.NextArm}
+use Rattle.pas_tree.specs.declared.denoters.{NextDenoter.NextDenoter, NextSection.NextSection, Section.Section, Tag.Tag}
 use Rattle.pas_tree.specs.declared.denoters.ArrayDenoter.{ArrayDenoter, ArrayDenoter', Row_of-NextDenoter}
 use Rattle.pas_tree.specs.declared.denoters.ArrayDenoter.{end_of-NextDenoter, more_of-NextDenoter}
-use Rattle.pas_tree.specs.declared.denoters.NextDenoter.{NextDenoter}
-use Rattle.pas_tree.specs.declared.denoters.Fields.{Fields, Empty, Fixed', Variants' as FieldsVariants'}
-use Rattle.pas_tree.specs.declared.denoters.Fields.{Held-Fields-Fixed-1, None', Some'}
+use Rattle.pas_tree.specs.declared.denoters.Denoter.{Denoter, Enumeration, Name, Pointer, Structure', Subrange}
+use Rattle.pas_tree.specs.declared.denoters.Fields.{Empty, Fields, Fixed', Held-Fields-Fixed-1, None', Some'}
 use Rattle.pas_tree.specs.declared.denoters.Fixed.{Fixed as FixedTree, Fixed' as FixedTree', Row_of-NextSection}
 use Rattle.pas_tree.specs.declared.denoters.Fixed.{end_of-NextSection, more_of-NextSection}
-use Rattle.pas_tree.specs.declared.denoters.Section.{Section}
-use Rattle.pas_tree.specs.declared.denoters.NextSection.{NextSection}
 use Rattle.pas_tree.specs.declared.denoters.NextVariants.{NextVariants, NextVariants'}
-use Rattle.pas_tree.specs.declared.denoters.Variants.{Variants as VariantsTree, Variants', Row_of-NextArm}
+use Rattle.pas_tree.specs.declared.denoters.Structure.{Array, Record', Set', Structure}
+use Rattle.pas_tree.specs.declared.denoters.Variants.{Row_of-NextArm, Variants as VariantsTree, Variants'}
 use Rattle.pas_tree.specs.declared.denoters.Variants.{end_of-NextArm, more_of-NextArm}
-use Rattle.pas_tree.specs.declared.denoters.NextArm.{NextArm}
-use Rattle.pas_tree.specs.declared.denoters.Tag.{Tag}
-use Rattle.core_program.specs.declared.rows.Row.TheVariants as row
-use Rattle.core_program.specs.declared.rows.TypeRow.TheVariants as kind
-use Rattle.core_program.specs.declared.rows.NameRow.TheVariants as named
 use Rattle.core_program.specs.ProgramRows.{size_of}
+use Rattle.core_program.specs.declared.rows.{NameRow.NameRow, Row.Row, TypeRow.TypeRow}
 use Rattle.check_steps.specs.Known.{frame_at}
-use Rattle.check_steps.specs.Steps.{Step, give, ◌>>=◌, look, put, each, open_region}
-use Rattle.pas_tree.specs.DenoterPlaces.{first_of_denoter}
-use Rattle.kind_checker.specs.declared.types.Scope.{Scope}
-use Rattle.kind_checker.specs.Names.{each_name}
-use Rattle.kind_checker.specs.Constants.{constant}
-use Rattle.kind_checker.specs.Sizes.{capped}
+use Rattle.check_steps.specs.Steps.{◌>>=◌, Step, each, give, look, open_region, put}
+use Rattle.kind_checker.specs.{Constants.constant, Names.each_name, Sizes.capped, declared.types.Scope.Scope}
 use Rattle.kind_checker.specs.Types.{enumeration, named_type, ordinal, pointer_type, set_type, subrange}
-use Rattle.denoter_checker.specs.declared.variants.PartPlace.{PartPlace}
+use Rattle.denoter_checker.specs.{Defines.define_record, Variants.variant_part}
 use Rattle.denoter_checker.specs.Arrays.{array, joined, put_index}
-use Rattle.denoter_checker.specs.Defines.{define_record}
 use Rattle.denoter_checker.specs.Variants.{arm_choices, choosing_at, next_arm_choices, nothing_listed, tag_part}
-use Rattle.denoter_checker.specs.Variants.{variant_part}
-use Rattle.denoter_checker.specs.declared.variants.Choosing.{Choosing}
-use Rattle.denoter_checker.specs.declared.variants.Listed.{Listed}
+use Rattle.denoter_checker.specs.declared.variants.{Choosing.Choosing, Listed.Listed, PartPlace.PartPlace}
 
 -- ---- records
 
@@ -52,7 +39,7 @@ scope_inside s frame = record { frame = frame; domains_at = s.domains_at }
 -- a field of a type, after the cells of those before
 unfoldable pub field_place : ℕ → ℕ → ℕ → ℕ → Step ℕ
 field_place holder t offset token = do
-  _ ← put token (row.Name (named.Field t offset holder))
+  _ ← put token (Row.Name (NameRow.Field t offset holder))
   cells ← look (λ k. size_of k.program t)
   give (capped (offset + cells))
 
@@ -60,7 +47,7 @@ field_place holder t offset token = do
 unfoldable pub put_record : Bool → ℕ → ℕ → ℕ → Option ℕ → Step ℕ
 put_record packed word frame cells variants = do
   region ← look (λ k. (frame_at k frame).region)
-  _ ← put word (row.Type (kind.Record packed region cells variants))
+  _ ← put word (Row.Type (TypeRow.Record packed region cells variants))
   give word
 
 abbrev pub case_word : VariantsTree → ℕ

@@ -1,18 +1,14 @@
 -- What headings have, and the names of their formal parameters (6.6.1, 6.6.2, 6.6.3.1).
-use Rattle.std.specs.Prelude.{ℕ, Bool, true, false, Option, Some, None, is_some, not, ◌||◌, List}
-use Rattle.pas_tree.specs.declared.headings.Heading.{Heading, Procedure, Function}
-use Rattle.pas_tree.specs.declared.headings.ProcedureHeading.{ProcedureHeading'}
-use Rattle.pas_tree.specs.declared.headings.FunctionHeading.{FunctionHeading', Held-FunctionHeading-formals}
-use Rattle.pas_tree.specs.declared.headings.FunctionHeading.{None', Some'}
-use Rattle.pas_tree.specs.declared.headings.ResultType.{ResultType}
+use Rattle.std.specs.Prelude.{◌||◌, ℕ, Bool, List, None, Option, Some, false, is_some, not, true}
+use Rattle.pas_tree.specs.{HeadingPlaces.heading_name, declared.headings.ProcedureHeading.ProcedureHeading'}
+use Rattle.pas_tree.specs.declared.headings.{FunctionHeading.Some', NextFormal.NextFormal, ResultType.ResultType}
+use Rattle.pas_tree.specs.declared.headings.Formal.{Formal, Routine', Value, Variable}
 use Rattle.pas_tree.specs.declared.headings.Formals.{Formals, out-Formals}
-use Rattle.pas_tree.specs.declared.headings.NextFormal.{NextFormal}
-use Rattle.pas_tree.specs.declared.headings.Formal.{Formal, Value, Variable, Routine'}
+use Rattle.pas_tree.specs.declared.headings.FunctionHeading.{FunctionHeading', Held-FunctionHeading-formals, None'}
+use Rattle.pas_tree.specs.declared.headings.Heading.{Function, Heading, Procedure}
 use Rattle.check_steps.specs.Known.{frame_at}
-use Rattle.check_steps.specs.Steps.{Step, give, ◌>>=◌, look, each}
-use Rattle.pas_tree.specs.HeadingPlaces.{heading_name}
-use Rattle.kind_checker.specs.declared.names.NameKind.TheVariants as kind
-use Rattle.kind_checker.specs.Names.{define_name, each_name}
+use Rattle.check_steps.specs.Steps.{◌>>=◌, Step, each, give, look}
+use Rattle.kind_checker.specs.{Names.define_name, Names.each_name, declared.names.NameKind.NameKind}
 
 -- ---- what a heading has
 
@@ -51,9 +47,9 @@ other_formals f = (out-Formals f).others.items
 
 -- The names of a section, where a heading has its own; rule 2: a region defines a name a second time.
 abbrev pub define_formal : ℕ → Formal → Step (Unit {0})
-define_formal region (Value f) = each_name (define_name region kind.Formal) tt f.names
-define_formal region (Variable word f) = each_name (define_name region kind.Formal) tt f.names
-define_formal region (Routine' _ h) = define_name region kind.Formal tt (heading_name h)
+define_formal region (Value f) = each_name (define_name region NameKind.Formal) tt f.names
+define_formal region (Variable word f) = each_name (define_name region NameKind.Formal) tt f.names
+define_formal region (Routine' _ h) = define_name region NameKind.Formal tt (heading_name h)
 
 unfoldable pub define_next_formal : ℕ → Unit {0} → NextFormal → Step (Unit {0})
 define_next_formal region u n = define_formal region n.formal

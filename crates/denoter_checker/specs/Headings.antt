@@ -1,34 +1,22 @@
 -- Headings (6.6.1, 6.6.2): what formal parameters and results are, and where a frame has them.
-use Rattle.std.specs.Prelude.{ℕ, ◌+◌, Bool, true, false, Option, Some, None, nat_le, nat_lt, length, if◌then◌else◌}
-use Rattle.pas_tree.specs.declared.constants.Names.{Names}
-use Rattle.pas_tree.specs.declared.headings.Heading.{Heading, Procedure, Function}
-use Rattle.pas_tree.specs.declared.headings.ProcedureHeading.{ProcedureHeading, ProcedureHeading'}
+use Rattle.std.specs.Prelude.{if◌then◌else◌, ◌+◌, ℕ, Bool, None, Option, Some, false, length, nat_le, nat_lt, true}
+use Rattle.pas_tree.specs.HeadingPlaces.{heading_name, heading_word}
+use Rattle.pas_tree.specs.declared.{constants.Names.Names, headings.Formals.more_of-NextFormal}
+use Rattle.pas_tree.specs.declared.headings.{FormalNames.FormalNames, NextFormal.NextFormal, ResultType.ResultType}
+use Rattle.pas_tree.specs.declared.headings.Formal.{Formal, Routine', Value, Variable}
+use Rattle.pas_tree.specs.declared.headings.Formals.{Formals, Formals', Row_of-NextFormal, end_of-NextFormal}
 use Rattle.pas_tree.specs.declared.headings.FunctionHeading.{FunctionHeading, FunctionHeading'}
 use Rattle.pas_tree.specs.declared.headings.FunctionHeading.{Held-FunctionHeading-formals, None', Some'}
-use Rattle.pas_tree.specs.declared.headings.ResultType.{ResultType}
-use Rattle.pas_tree.specs.declared.headings.Formals.{Formals, Formals', Row_of-NextFormal, end_of-NextFormal}
-use Rattle.pas_tree.specs.declared.headings.Formals.{more_of-NextFormal}
-use Rattle.pas_tree.specs.declared.headings.NextFormal.{NextFormal}
-use Rattle.pas_tree.specs.declared.headings.Formal.{Formal, Value, Variable, Routine'}
-use Rattle.pas_tree.specs.declared.headings.FormalNames.{FormalNames}
-use Rattle.core_program.specs.declared.rows.Row.{Row}
-use Rattle.core_program.specs.declared.rows.Row.TheVariants as row
-use Rattle.core_program.specs.declared.rows.TypeRow.{TypeRow}
-use Rattle.core_program.specs.declared.rows.TypeRow.TheVariants.{Ordinal, Subrange, Pointer}
-use Rattle.core_program.specs.declared.rows.NameRow.TheVariants as named
-use Rattle.core_program.specs.declared.rows.Mode.{Mode}
-use Rattle.core_program.specs.declared.rows.Mode.TheVariants as mode
-use Rattle.core_program.specs.declared.rows.PartRow.TheVariants as part
-use Rattle.core_program.specs.declared.rows.ItemRow.TheVariants as item
-use Rattle.core_program.specs.ProgramRows.{size_of}
+use Rattle.pas_tree.specs.declared.headings.Heading.{Function, Heading, Procedure}
+use Rattle.pas_tree.specs.declared.headings.ProcedureHeading.{ProcedureHeading, ProcedureHeading'}
+use Rattle.core_program.specs.{ProgramRows.size_of, declared.rows.TypeRow.TypeRow}
+use Rattle.core_program.specs.declared.rows.{ItemRow.ItemRow, Mode.Mode, NameRow.NameRow, PartRow.PartRow, Row.Row}
+use Rattle.core_program.specs.declared.rows.TypeRow.TheVariants.{Ordinal, Pointer, Subrange}
 use Rattle.check_steps.specs.Known.{frame_at, type_at}
-use Rattle.check_steps.specs.Steps.{Step, give, ◌>>=◌, look, early, late, too_big, put, open_region, each_back}
-use Rattle.pas_tree.specs.HeadingPlaces.{heading_name, heading_word}
-use Rattle.kind_checker.specs.Names.{each_name}
-use Rattle.kind_checker.specs.Sizes.{frame_capped}
-use Rattle.kind_checker.specs.Types.{named_type}
-use Rattle.denoter_checker.specs.Formals.{held_formals, is_complete, define_formals_at}
-use Rattle.denoter_checker.specs.Formals.{opening_parenthesis, first_formal, other_formals}
+use Rattle.check_steps.specs.Steps.{◌>>=◌, Step, each_back, early, give, late, look, open_region, put, too_big}
+use Rattle.kind_checker.specs.{Names.each_name, Sizes.frame_capped, Types.named_type}
+use Rattle.denoter_checker.specs.Formals.{define_formals_at, first_formal, held_formals, is_complete}
+use Rattle.denoter_checker.specs.Formals.{opening_parenthesis, other_formals}
 
 -- ---- value and variable parameters
 
@@ -41,13 +29,13 @@ value_cells t name = do
 
 -- a variable parameter takes one cell, for an address
 abbrev pub cells_of : Mode → ℕ → ℕ → Step ℕ
-cells_of mode.Place t name = give 1
+cells_of Mode.Place t name = give 1
 cells_of m t name = value_cells t name
 
 -- a parameter of a type at a place in a frame; the place after it is given
 unfoldable pub parameter : Mode → ℕ → ℕ → ℕ → ℕ → Step ℕ
 parameter m level t at name = do
-  _ ← put name (row.Name (named.Variable m t at level))
+  _ ← put name (Row.Name (NameRow.Variable m t at level))
   cells ← cells_of m t name
   give (frame_capped (at + cells))
 
@@ -64,7 +52,7 @@ parameters m frame at f = do
 unfoldable pub routine_formal : ℕ → ℕ → Heading → Step (Unit {0})
 routine_formal frame at h = do
   level ← look (λ k. (frame_at k frame).level)
-  _ ← put (heading_name h) (row.Name (named.RoutineFormal at level (heading_word h)))
+  _ ← put (heading_name h) (Row.Name (NameRow.RoutineFormal at level (heading_word h)))
   early 9 (heading_name h) (is_complete h)
 
 -- The region of its own formals begins at its name, inside the frame of the heading that holds it. It has no block, so
@@ -84,9 +72,9 @@ count_of n = if nat_lt (length n.others.items) 4294967295 then length n.others.i
 
 -- a section, and where the next one stands
 abbrev pub section_row : Formal → ℕ → Row
-section_row (Value f) next = row.Item (item.Section mode.Value f.names.first (count_of f.names) next)
-section_row (Variable word f) next = row.Item (item.Section mode.Place f.names.first (count_of f.names) next)
-section_row (Routine' _ h) next = row.Item (item.RoutineSection (heading_word h) next)
+section_row (Value f) next = Row.Item (ItemRow.Section Mode.Value f.names.first (count_of f.names) next)
+section_row (Variable word f) next = Row.Item (ItemRow.Section Mode.Place f.names.first (count_of f.names) next)
+section_row (Routine' _ h) next = Row.Item (ItemRow.RoutineSection (heading_word h) next)
 
 -- a section at its slot, which is given
 unfoldable pub put_section : ℕ → Formal → ℕ → Step ℕ
@@ -134,13 +122,13 @@ result_or around name (Some r) = checked_result_type around r.name
 unfoldable pub procedure_row : ℕ → ℕ → Option Formals → Step (Unit {0})
 procedure_row word name formals = do
   list ← section_list formals
-  put word (row.Part (part.Heading name list None))
+  put word (Row.Part (PartRow.Heading name list None))
 
 unfoldable pub function_row : ℕ → ℕ → ℕ → Option Formals → Option ResultType → Step (Unit {0})
 function_row around word name formals result = do
   list ← section_list formals
   t ← result_or around name result
-  put word (row.Part (part.Heading name list (Some t)))
+  put word (Row.Part (PartRow.Heading name list (Some t)))
 
 -- ---- signatures
 
@@ -180,8 +168,8 @@ abbrev mutual
 
   -- the parameters of a section; a routine takes one cell
   pub formal_place : ℕ → ℕ → Formal → Step ℕ
-  formal_place frame at (Value f) = parameters mode.Value frame at f
-  formal_place frame at (Variable word f) = parameters mode.Place frame at f
+  formal_place frame at (Value f) = parameters Mode.Value frame at f
+  formal_place frame at (Variable word f) = parameters Mode.Place frame at f
   formal_place frame at (Routine' _ h) = do
     _ ← routine_formal frame at h
     inner ← open_heading frame h

@@ -1,26 +1,14 @@
 -- The parts of a block that define types and declare variables (6.2.1).
-use Rattle.std.specs.Prelude.{ℕ, zero, suc, ◌+◌, ◌-◌, List, ◌∷◌, Some, None, nat_le}
-use Rattle.pas_tree.specs.declared.blocks.TypePart.{TypePart}
-use Rattle.pas_tree.specs.declared.blocks.TypeDefinition.{TypeDefinition}
-use Rattle.pas_tree.specs.declared.blocks.VariablePart.{VariablePart}
+use Rattle.std.specs.Prelude.{◌+◌, ◌-◌, ◌∷◌, ℕ, List, None, Some, nat_le, suc, zero}
+use Rattle.pas_tree.specs.declared.blocks.{TypeDefinition.TypeDefinition, TypePart.TypePart, VariablePart.VariablePart}
 use Rattle.pas_tree.specs.declared.blocks.VariableDeclaration.{VariableDeclaration}
-use Rattle.core_program.specs.declared.rows.Row.{Row}
-use Rattle.core_program.specs.declared.rows.Row.TheVariants as row
-use Rattle.core_program.specs.declared.rows.TypeRow.TheVariants as kind
-use Rattle.core_program.specs.declared.rows.NameRow.TheVariants as named
-use Rattle.core_program.specs.declared.rows.Mode.TheVariants.{Own}
 use Rattle.core_program.specs.ProgramRows.{size_of}
-use Rattle.check_steps.specs.declared.regions.Def.TheVariants as def
-use Rattle.check_steps.specs.Known.{Known, frame_at, row_at}
-use Rattle.check_steps.specs.Steps.{Step, give, ◌>>=◌, look, put, too_big, each}
-use Rattle.check_steps.specs.Names.{define_in}
-use Rattle.kind_checker.specs.declared.names.NameKind.TheVariants as name
-use Rattle.kind_checker.specs.declared.types.Scope.{Scope}
-use Rattle.kind_checker.specs.Names.{define_name, each_name}
-use Rattle.kind_checker.specs.Sizes.{frame_capped}
-use Rattle.kind_checker.specs.Types.{type_named}
-use Rattle.denoter_checker.specs.Defines.{define_denoter}
-use Rattle.denoter_checker.specs.Denoters.{denoter}
+use Rattle.core_program.specs.declared.rows.{Mode.TheVariants.Own, NameRow.NameRow, Row.Row, TypeRow.TypeRow}
+use Rattle.check_steps.specs.{Known.Known, Known.frame_at, Known.row_at, Names.define_in, declared.regions.Def.Def}
+use Rattle.check_steps.specs.Steps.{◌>>=◌, Step, each, give, look, put, too_big}
+use Rattle.kind_checker.specs.{Names.define_name, Names.each_name, Sizes.frame_capped, Types.type_named}
+use Rattle.kind_checker.specs.declared.{names.NameKind.NameKind, types.Scope.Scope}
+use Rattle.denoter_checker.specs.{Defines.define_denoter, Denoters.denoter}
 
 -- ---- types
 
@@ -30,19 +18,19 @@ types_in p = p.first ∷ p.others.items
 -- a type may be used from the semicolon after its definition on
 unfoldable pub define_type : ℕ → Unit {0} → TypeDefinition → Step (Unit {0})
 define_type region u d = do
-  _ ← define_in region (record { def = def.TypeName d.name; token = d.name; end = d.semicolon })
+  _ ← define_in region (record { def = Def.TypeName d.name; token = d.name; end = d.semicolon })
   define_denoter region d.denoter
 
 unfoldable pub type_definition : Scope → Unit {0} → TypeDefinition → Step (Unit {0})
 type_definition s u d = do
   t ← denoter s d.denoter
-  put d.name (row.Name (named.TypeName t))
+  put d.name (Row.Name (NameRow.TypeName t))
 
 -- ---- domains
 
 -- the row of a pointer whose domain is known by its definition alone
 abbrev pub settled : Known → Row → Row
-settled k (row.Type (kind.Pointer domain)) = row.Type (kind.Pointer (type_named (row_at k domain) domain))
+settled k (Row.Type (TypeRow.Pointer domain)) = Row.Type (TypeRow.Pointer (type_named (row_at k domain) domain))
 settled k r = r
 
 unfoldable pub settle_domain : ℕ → Step (Unit {0})
@@ -71,13 +59,13 @@ variables_in p = p.first ∷ p.others.items
 
 unfoldable pub define_variable : ℕ → Unit {0} → VariableDeclaration → Step (Unit {0})
 define_variable region u d = do
-  _ ← each_name (define_name region name.Variable) tt d.names
+  _ ← each_name (define_name region NameKind.Variable) tt d.names
   define_denoter region d.denoter
 
 -- a variable of a type, after the cells of those before; the place after it is given
 unfoldable pub place_variable : ℕ → ℕ → ℕ → ℕ → Step ℕ
 place_variable level t at token = do
-  _ ← put token (row.Name (named.Variable Own t at level))
+  _ ← put token (Row.Name (NameRow.Variable Own t at level))
   cells ← look (λ k. size_of k.program t)
   _ ← too_big token (nat_le cells 65536)
   give (frame_capped (at + cells))

@@ -1,24 +1,15 @@
 -- The procedures and functions of a block: which names they define, and which heading completes which (6.2.1, 6.6.1,
 -- 6.6.2).
-use Rattle.std.specs.Prelude.{ℕ, ◌+◌, min, Bool, true, false, List, Option, Some, None, nat_eq, not, codes, slice_get}
-use Rattle.std.specs.Prelude.{if◌then◌else◌}
-use Rattle.pas_tree.specs.declared.headings.Heading.{Heading}
-use Rattle.pas_tree.specs.declared.headings.Formals.{Formals}
-use Rattle.pas_tree.specs.declared.headings.ResultType.{ResultType}
-use Rattle.pas_tree.specs.declared.blocks.Routine.{Routine}
-use Rattle.pas_tree.specs.declared.blocks.RoutineBody.{RoutineBody, Directive, Block'}
-use Rattle.core_program.specs.declared.rows.Row.{Row}
-use Rattle.core_program.specs.declared.rows.Row.TheVariants as row
-use Rattle.core_program.specs.declared.rows.PartRow.TheVariants as part
-use Rattle.check_steps.specs.declared.regions.Def.TheVariants as def
-use Rattle.check_steps.specs.declared.regions.Definition.{Definition}
-use Rattle.check_steps.specs.Known.{Known, name_at, row_at}
-use Rattle.check_steps.specs.Regions.{defined_in}
-use Rattle.check_steps.specs.Names.{define_in}
-use Rattle.check_steps.specs.Steps.{Step, give, ◌>>=◌, look, early, when, put, each}
-use Rattle.check_steps.specs.Words.{number_of_name}
-use Rattle.pas_tree.specs.HeadingPlaces.{heading_name}
-use Rattle.denoter_checker.specs.Formals.{is_function, is_complete, formals_of, result_of, opening_parenthesis}
+use Rattle.std.specs.Prelude.{if◌then◌else◌, ◌+◌, ℕ, Bool, List, None, Option, Some, codes, false, min, nat_eq, not}
+use Rattle.std.specs.Prelude.{slice_get, true}
+use Rattle.pas_tree.specs.{HeadingPlaces.heading_name, declared.blocks.Routine.Routine}
+use Rattle.pas_tree.specs.declared.blocks.RoutineBody.{Block', Directive, RoutineBody}
+use Rattle.pas_tree.specs.declared.headings.{Formals.Formals, Heading.Heading, ResultType.ResultType}
+use Rattle.core_program.specs.declared.rows.{PartRow.PartRow, Row.Row}
+use Rattle.check_steps.specs.{Known.Known, Known.name_at, Known.row_at, Names.define_in, Regions.defined_in}
+use Rattle.check_steps.specs.{Words.number_of_name, declared.regions.Def.Def, declared.regions.Definition.Definition}
+use Rattle.check_steps.specs.Steps.{◌>>=◌, Step, each, early, give, look, put, when}
+use Rattle.denoter_checker.specs.Formals.{formals_of, is_complete, is_function, opening_parenthesis, result_of}
 
 -- the token of the name in a routine's heading
 abbrev pub routine_name : Routine → ℕ
@@ -28,7 +19,7 @@ routine_name r = heading_name r.heading
 
 -- a forward heading of a procedure, or of a function, that has no block so far
 abbrev pub awaits : Bool → Row → Bool
-awaits function (row.Part (part.Forward forward None)) = if forward then function else not function
+awaits function (Row.Part (PartRow.Forward forward None)) = if forward then function else not function
 awaits function r = false
 
 abbrev pub awaiting : Known → Bool → Option Definition → Option ℕ
@@ -49,7 +40,7 @@ completed_by k region h (Block' _ b) =
 unfoldable pub define_heading : ℕ → Heading → Step (Unit {0})
 define_heading region h = do
   _ ← define_in region (record {
-    def = def.Routine (heading_name h);
+    def = Def.Routine (heading_name h);
     token = heading_name h;
     end = heading_name h;
   })
@@ -68,7 +59,7 @@ unfoldable pub directed : Heading → ℕ → Step (Unit {0})
 directed h directive = do
   forward ← look (λ k. is_forward k directive)
   _ ← early 10 directive forward
-  when forward (put (heading_name h) (row.Part (part.Forward (is_function h) None)))
+  when forward (put (heading_name h) (Row.Part (PartRow.Forward (is_function h) None)))
 
 abbrev pub directive_in : Heading → RoutineBody → Step (Unit {0})
 directive_in h (Directive directive) = directed h directive
@@ -97,8 +88,8 @@ unfoldable pub completing : ℕ → ℕ → Heading → Step (Unit {0})
 completing first position h = do
   _ ← no_formals (formals_of h)
   _ ← no_result (result_of h)
-  _ ← put first (row.Part (part.Forward (is_function h) (Some position)))
-  put (heading_name h) (row.Part (part.Completing first))
+  _ ← put first (Row.Part (PartRow.Forward (is_function h) (Some position)))
+  put (heading_name h) (Row.Part (PartRow.Completing first))
 
 abbrev pub complete_or_define : Option ℕ → ℕ → ℕ → Heading → RoutineBody → Step (Unit {0})
 complete_or_define None region position h body = defining region h body
@@ -114,7 +105,7 @@ define_routine region position r = do
   give (min (position + 1) 4294967295)
 
 abbrev pub is_waiting : Row → Bool
-is_waiting (row.Part (part.Forward function None)) = true
+is_waiting (Row.Part (PartRow.Forward function None)) = true
 is_waiting r = false
 
 -- rule 8: a forward heading has no block later in the same part
@@ -132,7 +123,7 @@ define_routines region rs = do
 -- ---- the block of a forward heading
 
 abbrev pub block_in : Row → Option ℕ
-block_in (row.Part (part.Forward function block)) = block
+block_in (Row.Part (PartRow.Forward function block)) = block
 block_in r = None
 
 abbrev pub routine_at : List Routine → Option ℕ → Option Routine

@@ -1,27 +1,15 @@
 -- The tag of a variant part, and the values that choose its variants (6.4.3.3).
-use Rattle.std.specs.Prelude.{ℕ, ◌+◌, ◌-◌, Bool, true, Option, Some, None, is_none}
-use Rattle.std.specs.Prelude.{nat_eq, nat_lt, ◌&&◌, ◌||◌, not, if◌then◌else◌, ℤ}
-use Rattle.pas_tree.specs.declared.constants.Constant.{Constant}
-use Rattle.pas_tree.specs.declared.constants.Constants.{Constants}
-use Rattle.pas_tree.specs.declared.constants.NextConstant.{NextConstant}
-use Rattle.pas_tree.specs.declared.denoters.NextArm.{NextArm}
-use Rattle.pas_tree.specs.declared.denoters.TagField.{TagField}
-use Rattle.core_program.specs.declared.rows.Row.TheVariants as row
-use Rattle.core_program.specs.declared.rows.NameRow.TheVariants as named
-use Rattle.core_program.specs.declared.rows.PartRow.TheVariants as part
-use Rattle.core_program.specs.declared.rows.ItemRow.TheVariants as item
-use Rattle.check_steps.specs.Known.{Known, is_chosen, type_at}
-use Rattle.check_steps.specs.Items.{add_item}
-use Rattle.check_steps.specs.Steps.{Step, give, ◌>>=◌, add_chosen, look, late, put, each}
+use Rattle.std.specs.Prelude.{if◌then◌else◌, ◌&&◌, ◌+◌, ◌-◌, ◌||◌, ℕ, ℤ, Bool, None, Option, Some, is_none, nat_eq}
+use Rattle.std.specs.Prelude.{nat_lt, not, true}
 use Rattle.pas_tree.specs.DenoterPlaces.{first_of_constant}
-use Rattle.kind_checker.specs.declared.constants.ConstantValue.{ConstantValue}
-use Rattle.kind_checker.specs.declared.constants.ConstantValue.TheVariants.{Ordinal, Text}
-use Rattle.kind_checker.specs.Constants.{constant}
-use Rattle.kind_checker.specs.Sizes.{capped, host_of}
-use Rattle.kind_checker.specs.Types.{named_type, ordinal}
-use Rattle.denoter_checker.specs.declared.variants.Choosing.{Choosing}
-use Rattle.denoter_checker.specs.declared.variants.Listed.{Listed}
-use Rattle.denoter_checker.specs.declared.variants.PartPlace.{PartPlace}
+use Rattle.pas_tree.specs.declared.constants.{Constant.Constant, Constants.Constants, NextConstant.NextConstant}
+use Rattle.pas_tree.specs.declared.denoters.{NextArm.NextArm, TagField.TagField}
+use Rattle.core_program.specs.declared.rows.{ItemRow.ItemRow, NameRow.NameRow, PartRow.PartRow, Row.Row}
+use Rattle.check_steps.specs.{Items.add_item, Known.Known, Known.is_chosen, Known.type_at}
+use Rattle.check_steps.specs.Steps.{◌>>=◌, Step, add_chosen, each, give, late, look, put}
+use Rattle.kind_checker.specs.{Constants.constant, Sizes.capped, Sizes.host_of, Types.named_type, Types.ordinal}
+use Rattle.kind_checker.specs.declared.constants.ConstantValue.{ConstantValue, TheVariants.Ordinal, TheVariants.Text}
+use Rattle.denoter_checker.specs.declared.variants.{Choosing.Choosing, Listed.Listed, PartPlace.PartPlace}
 
 -- ---- tags
 
@@ -39,7 +27,7 @@ hidden_tag p name = do
 unfoldable pub named_tag : PartPlace → ℕ → ℕ → Step ℕ
 named_tag p field name = do
   t ← tag_type p.frame name
-  _ ← put field (row.Name (named.Tag t p.offset p.holder p.word))
+  _ ← put field (Row.Name (NameRow.Tag t p.offset p.holder p.word))
   look (λ k. host_of k t)
 
 -- the tag, which is hidden if it has no field; its host type is given
@@ -62,7 +50,7 @@ value_if ok v = None
 
 -- one more value, at a slot after the last one
 unfoldable pub add_choice : ℤ → ℕ → ℕ → ℕ → Step ℕ
-add_choice value chosen last slot = add_item last slot (item.Choice value chosen 0)
+add_choice value chosen last slot = add_item last slot (ItemRow.Choice value chosen 0)
 
 -- the same, with the value put down for the list
 unfoldable pub chosen_value : ℕ → ℤ → ℕ → ℕ → ℕ → Step ℕ
@@ -100,7 +88,7 @@ one_more n = if nat_lt n 4294967295 then n + 1 else n
 -- a variant, at its `(`, and the values that choose it
 unfoldable pub arm_choices : Choosing → Listed → ℕ → ℕ → Constants → Step Listed
 arm_choices c l slot open' constants = do
-  _ ← put open' (row.Part (part.Variant l.variants (one_more l.position)))
+  _ ← put open' (Row.Part (PartRow.Variant l.variants (one_more l.position)))
   last ← choices c open' l.last slot constants
   give (record { variants = l.variants; last = last; position = one_more l.position })
 
@@ -116,5 +104,5 @@ nothing_listed word = record { variants = word; last = word; position = 0 }
 -- the row of a variant part, once the place after its variants is known
 unfoldable pub variant_part : PartPlace → Bool → ℕ → ℕ → Step ℕ
 variant_part p hidden of' end = do
-  _ ← put p.word (row.Part (part.Variants hidden p.offset (end - capped (p.offset + 1)) of' p.holder))
+  _ ← put p.word (Row.Part (PartRow.Variants hidden p.offset (end - capped (p.offset + 1)) of' p.holder))
   give end

@@ -3,9 +3,9 @@
 ghost use Rattle.std.specs.Prelude.{◌≡◌, IfOk};
 ghost use Rattle.check_steps.specs.Steps.{Does, each};
 ghost use Rattle.denoter_checker.specs.Defines.{define_array, define_denoter, define_field, define_fixed};
-ghost use Rattle.denoter_checker.specs.Defines.{define_in_fields, define_next_arm, define_next_section};
-ghost use Rattle.denoter_checker.specs.Defines.{define_other, define_record, define_section};
-ghost use Rattle.denoter_checker.specs.Defines.{define_structure, define_tag, define_variants};
+ghost use Rattle.denoter_checker.specs.Defines.{define_in_fields, define_next_arm, define_next_section, define_other};
+ghost use Rattle.denoter_checker.specs.Defines.{define_record, define_section, define_structure, define_tag};
+ghost use Rattle.denoter_checker.specs.Defines.{define_variants};
 
 use check_steps::Work;
 use kind_checker::names::{NameKind, define_name, define_names};

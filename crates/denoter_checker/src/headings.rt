@@ -3,12 +3,11 @@
 ghost use Rattle.std.specs.Prelude.{◌≡◌, IfOk};
 ghost use Rattle.check_steps.specs.Steps.{Does, each, each_back};
 ghost use Rattle.kind_checker.specs.Names.{each_name, on_name};
-ghost use Rattle.denoter_checker.specs.Headings.{cells_of, count_of, formal_place, function_row, function_signature};
-ghost use Rattle.denoter_checker.specs.Headings.{may_be_result, next_formal_place, open_heading, parameter, parameters};
-ghost use Rattle.denoter_checker.specs.Headings.{places, procedure_row, procedure_signature, put_next_section};
-ghost use Rattle.denoter_checker.specs.Headings.{put_section, put_sections, result_or, checked_result_type};
-ghost use Rattle.denoter_checker.specs.Headings.{routine_formal};
-ghost use Rattle.denoter_checker.specs.Headings.{section_list, section_row, signature, value_cells};
+ghost use Rattle.denoter_checker.specs.Headings.{cells_of, checked_result_type, count_of, formal_place, function_row};
+ghost use Rattle.denoter_checker.specs.Headings.{function_signature, may_be_result, next_formal_place, open_heading};
+ghost use Rattle.denoter_checker.specs.Headings.{parameter, parameters, places, procedure_row, procedure_signature};
+ghost use Rattle.denoter_checker.specs.Headings.{put_next_section, put_section, put_sections, result_or};
+ghost use Rattle.denoter_checker.specs.Headings.{routine_formal, section_list, section_row, signature, value_cells};
 
 use crate::formals::{define_formals_at, is_complete};
 use check_steps::Work;

@@ -4,9 +4,8 @@ ghost use Rattle.std.specs.Prelude.{◌≡◌, IfOk};
 ghost use Rattle.check_steps.specs.Steps.{Does, each};
 ghost use Rattle.kind_checker.specs.Names.{each_name, on_name};
 ghost use Rattle.denoter_checker.specs.Parts.{at_names, define_type, define_variable, domains, place_variable};
-ghost use Rattle.denoter_checker.specs.Parts.{settle_domain, settled};
-ghost use Rattle.denoter_checker.specs.Parts.{type_definition, type_part, types_in, variable_declaration};
-ghost use Rattle.denoter_checker.specs.Parts.{variables_in};
+ghost use Rattle.denoter_checker.specs.Parts.{settle_domain, settled, type_definition, type_part, types_in};
+ghost use Rattle.denoter_checker.specs.Parts.{variable_declaration, variables_in};
 
 use crate::defines::define_denoter;
 use crate::denoters::check_denoter;

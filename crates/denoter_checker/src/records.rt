@@ -3,9 +3,8 @@
 ghost use Rattle.std.specs.Prelude.{◌≡◌, IfOk};
 ghost use Rattle.check_steps.specs.Steps.{Does, each};
 ghost use Rattle.kind_checker.specs.Names.{each_name, on_name};
-ghost use Rattle.denoter_checker.specs.Denoters.{choosing_in, choosing_of, field_place, scope_inside, open_record};
-ghost use Rattle.denoter_checker.specs.Denoters.{part_at, put_record};
-ghost use Rattle.denoter_checker.specs.Denoters.{variants_word};
+ghost use Rattle.denoter_checker.specs.Denoters.{choosing_in, choosing_of, field_place, open_record, part_at};
+ghost use Rattle.denoter_checker.specs.Denoters.{put_record, scope_inside, variants_word};
 
 use crate::variants::{
     Listed, PartPlace, check_arm_choices, check_more_arm_choices, check_tag, choosing_at,

@@ -3,10 +3,9 @@
 
 ghost use Rattle.std.specs.Prelude.{◌≡◌, IfOk, option_copied};
 ghost use Rattle.check_steps.specs.Steps.{Does, each};
-ghost use Rattle.denoter_checker.specs.RoutineParts.{awaiting, awaits, block_in, complete_or_define};
-ghost use Rattle.denoter_checker.specs.RoutineParts.{completed_by, completing, completion_of, define_heading};
-ghost use Rattle.denoter_checker.specs.RoutineParts.{define_routine, define_routines, defining, directed};
-ghost use Rattle.denoter_checker.specs.RoutineParts.{directive_in, has_block};
+ghost use Rattle.denoter_checker.specs.RoutineParts.{awaiting, awaits, block_in, complete_or_define, completed_by};
+ghost use Rattle.denoter_checker.specs.RoutineParts.{completing, completion_of, define_heading, define_routine};
+ghost use Rattle.denoter_checker.specs.RoutineParts.{define_routines, defining, directed, directive_in, has_block};
 ghost use Rattle.denoter_checker.specs.RoutineParts.{is_forward, is_waiting, no_formals, no_result, routine_name};
 
 use crate::formals::{formals_of, is_complete, is_function, result_of};

@@ -1,11 +1,8 @@
 -- What the columns of a run have at a call.
-use Rattle.std.proofs.Common.{◌≡◌, ℕ, suc, List, [], ◌∷◌, length, refl, sym, ap, ◌∙◌}
-use Rattle.std.specs.Prelude.{map, slice_index}
-use Rattle.call_tree.specs.declared.records.Call.{Call}
-use Rattle.call_tree.specs.Recording.{Recording, routines_of}
+use Rattle.std.proofs.Common.{◌∙◌, ◌∷◌, ◌≡◌, [], ℕ, List, ap, length, map, refl, slice_index, suc, sym}
+use Rattle.call_tree.specs.{Recording.Recording, Recording.routines_of, declared.records.Call.Call}
 use Rattle.optimal_query.specs.Search.{new_search}
-use Rattle.dialog_replies.specs.Kept.{AreCallsOf, IsSearchOf}
-use Rattle.dialog_replies.specs.Subject.{Subject, calls_recorded}
+use Rattle.dialog_replies.specs.{Kept.AreCallsOf, Kept.IsSearchOf, Subject.Subject, Subject.calls_recorded}
 
 column_length : {X Y : Type 0} (f : X → Y) (xs : List X) → length (map f xs) ≡ length xs
 column_length f [] = refl

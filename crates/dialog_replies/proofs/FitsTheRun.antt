@@ -1,24 +1,17 @@
 -- The entries of a session that fits a run name what there is, and the search with them is one over the run.
-use Rattle.std.proofs.Common.{◌≡◌, ℕ, ◌+◌, ◌<◌, ◌==◌, Bool, true, false, List, [], ◌∷◌, Option, Some, None, length, nat_lt, not, if◌then◌else◌}
-use Rattle.std.proofs.Common.{ap, sym, ◌∙◌, subst, refl, ltb-true}
-use Rattle.std.specs.Prelude.{All}
-use Rattle.std.specs.Option.{option_or}
-use Rattle.std.specs.Str.{bytes_eq}
-use Rattle.std.proofs.lemmas.List.Elements.{All-cons, All-nil}
-use Rattle.answer_book.specs.declared.entries.Entry.{Entry}
-use Rattle.answer_book.specs.declared.entries.What.{What}
-use Rattle.answer_book.specs.declared.entries.What.TheVariants.{Judged, Trusted}
-use Rattle.answer_book.specs.InRange.{IsInRange}
+use Rattle.std.proofs.Common.{if◌then◌else◌, ◌+◌, ◌<◌, ◌==◌, ◌∙◌, ◌∷◌, ◌≡◌, [], ℕ, All, Bool, List, None, Option, Some, ap, false, length, ltb-true, nat_lt}
+use Rattle.std.proofs.Common.{not, refl, subst, sym, true}
+use Rattle.std.{proofs.lemmas.List.Elements.All-cons, proofs.lemmas.List.Elements.All-nil, specs.Option.option_or, specs.Str.bytes_eq}
 use Rattle.call_tree.specs.Recording.{Recording}
-use Rattle.dialog_replies.specs.Kept.{AreCallsOf, IsSearchOf}
-use Rattle.dialog_replies.specs.Subject.{Subject, calls_recorded}
-use Rattle.dialog_replies.proofs.ColumnsOfCalls.{calls_counted, new_is_search}
+use Rattle.answer_book.specs.InRange.{IsInRange}
+use Rattle.answer_book.specs.declared.entries.{Entry.Entry, What.What, What.TheVariants.Judged, What.TheVariants.Trusted}
 use Rattle.optimal_query.specs.Search.{search_over}
 use Rattle.session_file.specs.declared.session.Session.{Session}
-use Rattle.dialog_replies.specs.declared.misfits.Misfit.{Misfit}
-use Rattle.dialog_replies.specs.declared.misfits.Misfit.TheVariants.{Source, Input, Budget, Call, Routine}
-use Rattle.dialog_replies.specs.declared.start.Start.{Start}
+use Rattle.dialog_replies.proofs.ColumnsOfCalls.{calls_counted, new_is_search}
+use Rattle.dialog_replies.specs.{Kept.AreCallsOf, Kept.IsSearchOf, Subject.Subject, Subject.calls_recorded}
 use Rattle.dialog_replies.specs.Fit.{entries_misfit, misfit, named_beyond, saved_misfit, session_misfit}
+use Rattle.dialog_replies.specs.declared.{misfits.Misfit.Misfit, start.Start.Start}
+use Rattle.dialog_replies.specs.declared.misfits.Misfit.TheVariants.{Budget, Call, Input, Routine, Source}
 
 -- they name calls and routines that there are
 abbrev pub AreNamed : ℕ → ℕ → List Entry → Type 0

@@ -1,8 +1,6 @@
 -- Texts that are written line by line, and numbers that are tried one by one.
-use Rattle.std.proofs.Common.{◌≡◌, ℕ, suc, ◌+◌, ◌-◌, ◌<◌, Bool, true, false, cond, List, [], ◌∷◌, ◌++◌, Some, length}
-use Rattle.std.proofs.Common.{sym, ap, ◌∙◌, append_assoc, append-nil, arith}
-use Rattle.std.specs.Prelude.{find}
-use Rattle.std.specs.List.{flat_map, range_with_len}
+use Rattle.std.proofs.Common.{◌++◌, ◌+◌, ◌-◌, ◌<◌, ◌∙◌, ◌∷◌, ◌≡◌, [], ℕ, Bool, List, Some, ap, append-nil, append_assoc, arith, cond, false, find, length, suc}
+use Rattle.std.{proofs.Common.sym, proofs.Common.true, specs.List.flat_map, specs.List.range_with_len}
 
 -- the numbers from one on are that one and those after it
 pub range_step : (k n : ℕ) → k < n → range_with_len k (n - k) ≡ k ∷ range_with_len (k + 1) (n - (k + 1))

@@ -1,13 +1,9 @@
 -- The entries are looked at one by one.
-use Rattle.std.proofs.Common.{◌≡◌, ℕ, ◌+◌, List, Option, Some, None, drop, length, ap, sym, ◌∙◌}
-use Rattle.std.specs.Prelude.{◌≤◌, slice_get}
-use Rattle.std.specs.Option.{option_or}
-use Rattle.std.proofs.lemmas.List.{drop_all}
+use Rattle.std.proofs.Common.{◌+◌, ◌∙◌, ◌≡◌, ◌≤◌, ℕ, List, None, Option, Some, ap, drop, length, slice_get, sym}
+use Rattle.std.{proofs.lemmas.List.drop_all, specs.Option.option_or}
 use Rattle.answer_book.specs.declared.entries.Entry.{Entry}
-use Rattle.dialog_replies.specs.Subject.{Subject}
-use Rattle.dialog_replies.specs.declared.misfits.Misfit.{Misfit}
-use Rattle.dialog_replies.specs.Fit.{entries_misfit, named_beyond}
 use Rattle.dialog_replies.proofs.EntriesInTurn.{one_fewer}
+use Rattle.dialog_replies.specs.{Fit.entries_misfit, Fit.named_beyond, Subject.Subject, declared.misfits.Misfit.Misfit}
 
 here_first : (s : Subject) (entries : List Entry) (place : ℕ) (entry : Entry) (o : Option Misfit) → slice_get entries place ≡ Some entry
     → o ≡ named_beyond s (place + 1) entry.what

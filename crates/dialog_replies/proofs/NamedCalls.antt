@@ -1,25 +1,16 @@
 -- The calls that a state of the search names are calls of the run, and so are the doubts, which rise.
-use Rattle.std.proofs.Common.{◌≡◌, ℕ, ◌<◌, List, [], ◌∷◌, Option, Some, None, length, refl, sym, ap, subst, ◌∙◌}
+use Rattle.std.proofs.Common.{◌<◌, ◌∙◌, ◌∷◌, ◌≡◌, [], ℕ, List, None, Option, Some, ap, find, length, refl, subst, sym}
 use Rattle.call_tree.specs.declared.records.Mark.{Mark}
-use Rattle.answer_book.specs.declared.entries.Entry.{Entry}
-use Rattle.answer_book.specs.declared.entries.What.{What}
-use Rattle.answer_book.specs.Accused.{accused_of, is_wrong}
-use Rattle.answer_book.specs.Entries.{standing_answers}
-use Rattle.answer_book.specs.Marks.{mark_of, marks_of}
-use Rattle.answer_book.specs.Numbers.{numbers_below}
-use Rattle.answer_book.proofs.LastWhere.{last_where_is}
-use Rattle.optimal_query.specs.declared.state.SearchState.{SearchState}
-use Rattle.optimal_query.specs.declared.state.SearchState.TheVariants.{Ask, Found, Narrowed, NothingWrong, Unclear}
-use Rattle.optimal_query.specs.Question.{leaves_least, question_of}
-use Rattle.optimal_query.specs.Region.{doubts_of, is_after, next_after, suspects_of}
-use Rattle.optimal_query.specs.Search.{Search, answers_in, next_doubt}
-use Rattle.optimal_query.specs.State as search_state
-use Rattle.optimal_query.specs.State.{state_by, state_of, state_with, verdict_by}
 use Rattle.subtree_weights.specs.Searched.{is_searched}
-use Rattle.std.specs.Prelude.{find}
-use Rattle.dialog_replies.specs.Kept.{IsSearchOf}
-use Rattle.dialog_replies.specs.Subject.{Subject, calls_recorded, doubts_after, state_after}
+use Rattle.answer_book.{proofs.LastWhere.last_where_is, specs.declared.entries.Entry.Entry, specs.declared.entries.What.What}
+use Rattle.answer_book.specs.{Accused.accused_of, Accused.is_wrong, Entries.standing_answers, Marks.mark_of, Marks.marks_of, Numbers.numbers_below}
+use Rattle.optimal_query.specs.{Question.leaves_least, Question.question_of, Search.Search, Search.answers_in, Search.next_doubt, State.state_by}
+use Rattle.optimal_query.specs.{State.state_of, State.state_with, State.verdict_by, declared.state.SearchState.SearchState}
+use Rattle.optimal_query.specs.Region.{doubts_of, is_after, next_after, suspects_of}
+use Rattle.optimal_query.specs.State as search_state
+use Rattle.optimal_query.specs.declared.state.SearchState.TheVariants.{Ask, Found, Narrowed, NothingWrong, Unclear}
 use Rattle.dialog_replies.proofs.RisingCalls.{Rises, filter_rises, found_within, numbers_rise}
+use Rattle.dialog_replies.specs.{Kept.IsSearchOf, Subject.Subject, Subject.calls_recorded, Subject.doubts_after, Subject.state_after}
 
 suspects_rise : (last : List ℕ) (marks : List Mark) (accused : Option ℕ) → Rises 0 (length last) (suspects_of last marks accused)
 unfolding suspects_of

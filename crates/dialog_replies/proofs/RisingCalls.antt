@@ -1,9 +1,7 @@
 -- Rising lists of numbers: what is found in them, and that the next one after each goes through all of them.
-use Rattle.std.proofs.Common.{◌≡◌, ◌⊎◌, inl, inr, ℕ, zero, suc, ◌+◌, ◌<◌, ◌≤◌, Bool, true, false, cond, List, [], ◌∷◌, Option, Some, None}
-use Rattle.std.proofs.Common.{refl, sym, ap, subst, ◌∙◌, arith}
-use Rattle.std.proofs.lemmas.Bool.Decides.{nat_tests}
-use Rattle.std.specs.Prelude.{filter, find}
-use Rattle.std.specs.List.{range_with_len}
+use Rattle.std.proofs.Common.{◌+◌, ◌<◌, ◌∙◌, ◌∷◌, ◌≡◌, ◌≤◌, ◌⊎◌, [], ℕ, Bool, List, None, Option, Some, ap, arith, cond, false, filter, find, inl, inr, refl}
+use Rattle.std.proofs.Common.{subst, suc, sym, true, zero}
+use Rattle.std.{proofs.lemmas.Bool.Decides.nat_tests, specs.List.range_with_len}
 use Rattle.optimal_query.specs.Region.{is_after}
 
 -- they rise, from this number on and below that one

@@ -1,9 +1,6 @@
 -- The words of a text, read from its front.
-use Rattle.std.proofs.Common.{◌≡◌, ◌⊎◌, inl, inr, ℕ, ◌-◌, Bool, true, false, not, List, [], ◌∷◌, length, take, drop}
-use Rattle.std.proofs.Common.{refl, sym, ap, ◌∙◌, arith, length-drop}
-use Rattle.std.proofs.lemmas.List.{take_all}
-use Rattle.std.specs.Prelude.{filter}
-use Rattle.std.specs.List.{slice_split, onto_first}
+use Rattle.std.proofs.Common.{◌-◌, ◌∙◌, ◌∷◌, ◌≡◌, ◌⊎◌, [], ℕ, Bool, List, ap, arith, drop, false, filter, inl, inr, length, length-drop, not, refl, sym, take}
+use Rattle.std.{proofs.Common.true, proofs.lemmas.List.take_all, specs.List.onto_first, specs.List.slice_split}
 use Rattle.dialog_replies.specs.Words.{count_while, is_space_or_tab, is_word, words}
 
 abbrev pub is_solid : ℕ → Bool

@@ -1,15 +1,12 @@
 -- Why a saved session does not fit a run, if it does not.
-use Rattle.std.specs.Prelude.{ℕ, ◌+◌, ◌==◌, nat_lt, not, if◌then◌else◌, List, [], ◌∷◌, Option, Some, None}
-use Rattle.std.specs.Option.{option_or}
-use Rattle.std.specs.Str.{bytes_eq}
+use Rattle.std.specs.Prelude.{if◌then◌else◌, ◌+◌, ◌==◌, ◌∷◌, [], ℕ, List, None, Option, Some, nat_lt, not}
+use Rattle.std.specs.{Option.option_or, Str.bytes_eq}
 use Rattle.answer_book.specs.declared.entries.Entry.{Entry}
-use Rattle.answer_book.specs.declared.entries.What.{What}
-use Rattle.answer_book.specs.declared.entries.What.TheVariants.{Judged, Trusted}
-use Rattle.dialog_replies.specs.Subject.{Subject, calls_recorded}
+use Rattle.answer_book.specs.declared.entries.What.{What, TheVariants.Judged, TheVariants.Trusted}
 use Rattle.session_file.specs.declared.session.Session.{Session}
-use Rattle.dialog_replies.specs.declared.misfits.Misfit.{Misfit}
-use Rattle.dialog_replies.specs.declared.misfits.Misfit.TheVariants.{Source, Input, Budget, Call, Routine}
-use Rattle.dialog_replies.specs.declared.start.Start.{Start}
+use Rattle.dialog_replies.specs.Subject.{Subject, calls_recorded}
+use Rattle.dialog_replies.specs.declared.{misfits.Misfit.Misfit, start.Start.Start}
+use Rattle.dialog_replies.specs.declared.misfits.Misfit.TheVariants.{Budget, Call, Input, Routine, Source}
 
 -- the entry of this number names a call or a routine that there is not
 abbrev pub named_beyond : Subject → ℕ → What → Option Misfit

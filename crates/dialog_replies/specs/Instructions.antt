@@ -1,14 +1,12 @@
 -- What a line of the console asks for.
-use Rattle.std.specs.Prelude.{ℕ, if◌then◌else◌, List, [], ◌∷◌, Option, Some, None}
+use Rattle.std.specs.Prelude.{if◌then◌else◌, ◌∷◌, [], ℕ, List, None, Option, Some}
 use Rattle.std.specs.Str.{is_utf8}
-use Rattle.dialog_replies.specs.declared.instructions.DialogCommand.TheVariants as commands
-use Rattle.dialog_replies.specs.declared.instructions.Instruction.{Instruction}
-use Rattle.dialog_replies.specs.declared.instructions.Instruction.TheVariants as ask
-use Rattle.dialog_replies.specs.declared.keywords.Keyword.{Keyword}
-use Rattle.dialog_replies.specs.declared.keywords.Keyword.TheVariants as key
-use Rattle.dialog_replies.specs.Keywords.{keyword_of}
-use Rattle.dialog_replies.specs.Numbers.{number_of, routine_number}
+use Rattle.dialog_replies.specs.{Keywords.keyword_of, Numbers.number_of, Numbers.routine_number}
 use Rattle.dialog_replies.specs.Words.{after_blanks, after_word, before_blanks, words}
+use Rattle.dialog_replies.specs.declared.{instructions.Instruction.Instruction, keywords.Keyword.Keyword}
+use Rattle.dialog_replies.specs.declared.instructions.DialogCommand.TheVariants as commands
+use Rattle.dialog_replies.specs.declared.instructions.Instruction.TheVariants as ask
+use Rattle.dialog_replies.specs.declared.keywords.Keyword.TheVariants as key
 
 -- what is asked for with a number, where the word is one
 abbrev pub with_number : Option ℕ → (ℕ → Instruction) → Instruction

@@ -1,5 +1,5 @@
 -- How a search keeps what a dialog is about.
-use Rattle.std.specs.Prelude.{◌≡◌, ◌<◌, [], length}
+use Rattle.std.specs.Prelude.{◌<◌, ◌≡◌, [], length}
 use Rattle.call_tree.specs.Recording.{Recording}
 use Rattle.optimal_query.specs.Search.{Search}
 use Rattle.dialog_replies.specs.Subject.{Subject, calls_recorded, tree_of}

@@ -1,10 +1,9 @@
 -- The words that begin a line.
-use Rattle.std.specs.Prelude.{ℕ, if◌then◌else◌, List, codes}
-use Rattle.std.specs.Str.{bytes_eq}
-use Rattle.answer_book.specs.declared.entries.Judgement.TheVariants.{Right, Wrong, Unknown}
+use Rattle.std.specs.{Prelude.if◌then◌else◌, Prelude.ℕ, Prelude.List, Prelude.codes, Str.bytes_eq}
+use Rattle.answer_book.specs.declared.entries.Judgement.TheVariants.{Right, Unknown, Wrong}
 use Rattle.dialog_replies.specs.declared.keywords.Keyword.{Keyword}
-use Rattle.dialog_replies.specs.declared.keywords.Keyword.TheVariants.{Judge, Trust, Back, Show, State, Trace, Carry}
-use Rattle.dialog_replies.specs.declared.keywords.Keyword.TheVariants.{Tree, Save, Quit, Other}
+use Rattle.dialog_replies.specs.declared.keywords.Keyword.TheVariants.{Back, Carry, Judge, Other, Quit, Save, Show}
+use Rattle.dialog_replies.specs.declared.keywords.Keyword.TheVariants.{State, Trace, Tree, Trust}
 
 abbrev pub keyword_of : List ℕ → Keyword
 keyword_of word =

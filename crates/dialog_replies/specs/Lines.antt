@@ -1,8 +1,8 @@
 -- The line that refuses a saved session.
-use Rattle.std.specs.Prelude.{ℕ, ◌++◌, List, codes, decimal}
+use Rattle.std.specs.Prelude.{◌++◌, ℕ, List, codes, decimal}
 use Rattle.hex.specs.Hex.{encode_lower}
 use Rattle.dialog_replies.specs.declared.misfits.Misfit.{Misfit}
-use Rattle.dialog_replies.specs.declared.misfits.Misfit.TheVariants.{Source, Input, Budget, Call, Routine}
+use Rattle.dialog_replies.specs.declared.misfits.Misfit.TheVariants.{Budget, Call, Input, Routine, Source}
 
 -- what is named has one value in the run and another one in the session
 abbrev pub differs_line : (name run saved : List ℕ) → List ℕ

@@ -1,22 +1,15 @@
 -- What each line of the dialog is replied, and the entries after it.
-use Rattle.std.specs.Prelude.{ℕ, Bool, ◌++◌, nat_lt, if◌then◌else◌, codes, decimal, List}
-use Rattle.std.specs.Prelude.{[], Option, Some, None, Result, Ok, Err}
-use Rattle.answer_book.specs.declared.entries.BookFault.{BookFault}
-use Rattle.answer_book.specs.declared.entries.BookFault.TheVariants as fault
-use Rattle.answer_book.specs.declared.entries.Entry.{Entry}
-use Rattle.answer_book.specs.declared.entries.Judgement.{Judgement}
-use Rattle.answer_book.specs.declared.entries.What.{What}
-use Rattle.answer_book.specs.declared.entries.What.TheVariants.{Judged, Trusted}
+use Rattle.std.specs.Prelude.{if◌then◌else◌, ◌++◌, [], ℕ, Bool, Err, List, None, Ok, Option, Result, Some, codes}
+use Rattle.std.specs.Prelude.{decimal, nat_lt}
 use Rattle.answer_book.specs.Answers.{judge_answer, take_back_answer, take_back_last_answer, trust_answer}
 use Rattle.answer_book.specs.Entries.{entries_with, entries_without}
-use Rattle.optimal_query.specs.declared.state.SearchState.{SearchState}
-use Rattle.optimal_query.specs.declared.state.SearchState.TheVariants.{Ask}
-use Rattle.dialog_replies.specs.declared.instructions.DialogCommand.{DialogCommand}
-use Rattle.dialog_replies.specs.declared.instructions.DialogCommand.TheVariants as commands
-use Rattle.dialog_replies.specs.declared.instructions.Instruction.{Instruction}
-use Rattle.dialog_replies.specs.declared.instructions.Instruction.TheVariants as asked
+use Rattle.answer_book.specs.declared.entries.{BookFault.BookFault, Entry.Entry, Judgement.Judgement}
+use Rattle.answer_book.specs.declared.entries.What.{What, TheVariants.Judged, TheVariants.Trusted}
+use Rattle.optimal_query.specs.declared.state.SearchState.{SearchState, TheVariants.Ask}
 use Rattle.dialog_replies.specs.Subject.{Subject, book_of, calls_recorded, routine_named, state_after}
 use Rattle.dialog_replies.specs.Texts.{report, tree_text}
+use Rattle.dialog_replies.specs.declared.instructions.{DialogCommand.DialogCommand, Instruction.Instruction}
+use Rattle.dialog_replies.specs.declared.instructions.DialogCommand.TheVariants as commands
 
 -- the entries after a line, and its reply
 pub record LineOutcome : Type 0 where
@@ -32,11 +25,11 @@ abbrev pub no_call : ℕ → List ℕ
 no_call call = codes "no call " ++ decimal call ++ codes "\n"
 
 abbrev pub book_fault_text : BookFault → List ℕ
-book_fault_text (fault.NoCall call) = no_call call
-book_fault_text (fault.NoRoutine routine) = codes "no routine #" ++ decimal routine ++ codes "\n"
-book_fault_text (fault.NotStanding number) = codes "entry " ++ decimal number ++ codes " does not stand\n"
-book_fault_text fault.NothingStanding = codes "nothing stands\n"
-book_fault_text fault.Full = codes "book is full\n"
+book_fault_text (BookFault.NoCall call) = no_call call
+book_fault_text (BookFault.NoRoutine routine) = codes "no routine #" ++ decimal routine ++ codes "\n"
+book_fault_text (BookFault.NotStanding number) = codes "entry " ++ decimal number ++ codes " does not stand\n"
+book_fault_text BookFault.NothingStanding = codes "nothing stands\n"
+book_fault_text BookFault.Full = codes "book is full\n"
 
 -- ---- a new entry, if the book takes it
 
@@ -131,9 +124,9 @@ command_outcome s entries commands.Other = replied entries (codes "not understoo
 
 -- What a line that saves is replied depends on the keeper, and is said where the session is held.
 abbrev pub outcome : Subject → List Entry → Instruction → LineOutcome
-outcome s entries (asked.Command command) = command_outcome s entries command
-outcome s entries (asked.Save file) = replied entries []
-outcome s entries asked.Quit = replied entries []
+outcome s entries (Instruction.Command command) = command_outcome s entries command
+outcome s entries (Instruction.Save file) = replied entries []
+outcome s entries Instruction.Quit = replied entries []
 
 -- ---- what a session with these entries opens with: the card of call 0, and a report
 

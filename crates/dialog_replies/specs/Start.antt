@@ -1,10 +1,7 @@
 -- What a dialog starts with, and what it saves.
-use Rattle.std.specs.Prelude.{ℕ, List, IfSome, Option, Some, None}
-use Rattle.answer_book.specs.declared.entries.Entry.{Entry}
-use Rattle.answer_book.specs.Entries.{first_entries}
-use Rattle.session_file.specs.declared.session.Session.{Session}
-use Rattle.session_file.specs.Text.{session_text}
-use Rattle.session_file.specs.Whole.{IsDigest, IsWhole}
+use Rattle.std.specs.Prelude.{ℕ, IfSome, List, None, Option, Some}
+use Rattle.answer_book.specs.{Entries.first_entries, declared.entries.Entry.Entry}
+use Rattle.session_file.specs.{Text.session_text, Whole.IsDigest, Whole.IsWhole, declared.session.Session.Session}
 use Rattle.dialog_replies.specs.declared.start.Start.{Start}
 
 -- two digests, and a saved session as one is loaded, if there is one

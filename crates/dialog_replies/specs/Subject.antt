@@ -1,15 +1,11 @@
 -- What a dialog is about, and the state of its search, from scratch: by the columns of a run and the entries of a book.
 use Rattle.std.specs.Prelude.{ℕ, Bool, List, Option, find, length}
 use Rattle.std.specs.Str.{str_eq_ignore_ascii_case}
-use Rattle.answer_book.specs.declared.entries.Entry.{Entry}
-use Rattle.answer_book.specs.Answers.{Answers}
-use Rattle.answer_book.specs.Entries.{standing_answers}
-use Rattle.answer_book.specs.Marks.{marks_of}
-use Rattle.answer_book.specs.Numbers.{numbers_below}
-use Rattle.call_tree.specs.declared.records.Mark.{Mark}
 use Rattle.call_tree.specs.Recording.{Recording, lasts_of, parents_of, routines_of}
-use Rattle.optimal_query.specs.declared.state.SearchState.{SearchState}
-use Rattle.optimal_query.specs.Laws.{CallTree, doubts_in, state_in}
+use Rattle.call_tree.specs.declared.records.Mark.{Mark}
+use Rattle.answer_book.specs.{Answers.Answers, Entries.standing_answers, Marks.marks_of, Numbers.numbers_below}
+use Rattle.answer_book.specs.declared.entries.Entry.{Entry}
+use Rattle.optimal_query.specs.{Laws.CallTree, Laws.doubts_in, Laws.state_in, declared.state.SearchState.SearchState}
 
 -- the columns of the calls of a run, how many routines the program has, and the name of each; the texts on each call:
 -- its card, the lines of its trace, whether a cell has a name before or after it, and the lines on the cells of a name;

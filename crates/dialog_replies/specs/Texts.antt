@@ -1,5 +1,5 @@
 -- What is printed of calls, and of the state of the search.
-use Rattle.std.specs.Prelude.{ℕ, List, ◌++◌, codes, decimal, slice_index}
+use Rattle.std.specs.Prelude.{◌++◌, ℕ, List, codes, decimal, slice_index}
 use Rattle.std.specs.List.{flat_map}
 use Rattle.answer_book.specs.declared.entries.Entry.{Entry}
 use Rattle.optimal_query.specs.declared.state.SearchState.{SearchState}

@@ -1,6 +1,6 @@
 -- The words of a line of the console.
-use Rattle.std.specs.Prelude.{ℕ, zero, suc, Bool, true, false, not, nat_eq, ◌||◌, if◌then◌else◌, List, [], ◌∷◌, drop}
-use Rattle.std.specs.Prelude.{filter, length, slice_index, take}
+use Rattle.std.specs.Prelude.{if◌then◌else◌, ◌||◌, ◌∷◌, [], ℕ, Bool, List, drop, false, filter, length, nat_eq, not}
+use Rattle.std.specs.Prelude.{slice_index, suc, take, true, zero}
 use Rattle.std.specs.List.{slice_split}
 
 -- a space or a tab

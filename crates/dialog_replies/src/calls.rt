@@ -1,5 +1,5 @@
 //! Calls and routines by number and name.
-ghost use Rattle.std.specs.Prelude.{◌≡◌, ◌<◌, ◌++◌, OnOk, decimal};
+ghost use Rattle.std.specs.Prelude.{◌++◌, ◌<◌, ◌≡◌, OnOk, decimal};
 ghost use Rattle.std.specs.Str.{str_eq_ignore_ascii_case};
 ghost use Rattle.dialog_replies.specs.Subject.{calls_recorded, routine_named};
 ghost use Rattle.dialog_replies.specs.Texts.{named_call, routine_of};

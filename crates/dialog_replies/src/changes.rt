@@ -1,11 +1,9 @@
 //! The replies to changes of the book.
-ghost use Rattle.std.specs.Prelude.{◌≡◌, ◌++◌, IfOk, decimal};
-ghost use Rattle.dialog_replies.specs.Kept.{IsSearchOf};
-ghost use Rattle.dialog_replies.specs.Replies.{adds, back_text, entry_text, judges, book_fault_text, replied};
-ghost use Rattle.dialog_replies.specs.Replies.{takes_back};
-ghost use Rattle.dialog_replies.specs.Replies.{takes_back_last, trust_outcome};
-ghost use Rattle.dialog_replies.specs.Subject.{book_of};
+ghost use Rattle.std.specs.Prelude.{◌++◌, ◌≡◌, IfOk, decimal};
 ghost use Rattle.answer_book.specs.Answers.{take_back_answer, take_back_last_answer};
+ghost use Rattle.dialog_replies.specs.{Kept.IsSearchOf, Subject.book_of};
+ghost use Rattle.dialog_replies.specs.Replies.{adds, back_text, book_fault_text, entry_text, judges, replied};
+ghost use Rattle.dialog_replies.specs.Replies.{takes_back, takes_back_last, trust_outcome};
 
 use crate::calls::write_number;
 use crate::debugged::Debugged;

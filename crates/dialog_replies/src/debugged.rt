@@ -1,7 +1,6 @@
 //! What the dialog needs of a run.
-ghost use Rattle.std.specs.Prelude.{◌≡◌, ◌<◌, ◌++◌, IfOk, OnOk, length};
-ghost use Rattle.dialog_replies.specs.Kept.{AreCallsOf};
-ghost use Rattle.dialog_replies.specs.Subject.{Subject, calls_recorded};
+ghost use Rattle.std.specs.Prelude.{◌++◌, ◌<◌, ◌≡◌, IfOk, OnOk, length};
+ghost use Rattle.dialog_replies.specs.{Kept.AreCallsOf, Subject.Subject, Subject.calls_recorded};
 
 use call_tree::{Calls, Mark};
 use edge_ports::{Bytes, Memory};

@@ -1,5 +1,5 @@
 //! Whether a saved session fits a run.
-ghost use Rattle.std.specs.Prelude.{◌≡◌, ◌<◌, IfOk, Some, length, option_map, slice_get};
+ghost use Rattle.std.specs.Prelude.{◌<◌, ◌≡◌, IfOk, Some, length, option_map, slice_get};
 ghost use Rattle.dialog_replies.specs.Fit.{entries_misfit, misfit, named_beyond, session_misfit};
 ghost use Rattle.dialog_replies.specs.Lines.{misfit_line};
 

@@ -1,9 +1,8 @@
 //! What a line of the console asks for.
-ghost use Rattle.std.specs.Prelude.{◌≡◌, ◌∷◌, [], ℕ, List};
+ghost use Rattle.std.specs.Prelude.{◌∷◌, ◌≡◌, [], ℕ, List};
+ghost use Rattle.dialog_replies.specs.{Numbers.number_of, Words.after_word, Words.words};
 ghost use Rattle.dialog_replies.specs.Instructions.{carry_in, cell_in, instruction_by, instruction_of, save_in};
 ghost use Rattle.dialog_replies.specs.Instructions.{trust_in, with_number};
-ghost use Rattle.dialog_replies.specs.Numbers.{number_of};
-ghost use Rattle.dialog_replies.specs.Words.{after_word, words};
 ghost use Rattle.dialog_replies.specs.declared.instructions.DialogCommand.TheVariants as commands;
 ghost use Rattle.dialog_replies.specs.declared.instructions.Instruction.TheVariants as ask;
 ghost use Rattle.dialog_replies.specs.declared.keywords.Keyword.TheVariants as key;

@@ -1,5 +1,5 @@
 //! The line that refuses a saved session.
-ghost use Rattle.std.specs.Prelude.{◌≡◌, ◌++◌, IfOk, OnOk, codes, decimal};
+ghost use Rattle.std.specs.Prelude.{◌++◌, ◌≡◌, IfOk, OnOk, codes, decimal};
 ghost use Rattle.hex.specs.Hex.{encode_lower};
 ghost use Rattle.dialog_replies.specs.Lines.{differs_line, misfit_line, names_line};
 

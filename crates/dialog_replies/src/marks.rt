@@ -1,7 +1,6 @@
 //! The marks of the calls.
 ghost use Rattle.std.specs.Prelude.{◌≡◌, IfOk, length};
-ghost use Rattle.dialog_replies.specs.Kept.{IsSearchOf};
-ghost use Rattle.dialog_replies.specs.Subject.{calls_recorded, marks_after};
+ghost use Rattle.dialog_replies.specs.{Kept.IsSearchOf, Subject.calls_recorded, Subject.marks_after};
 
 use crate::debugged::Debugged;
 use call_tree::Mark;

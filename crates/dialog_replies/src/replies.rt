@@ -1,11 +1,9 @@
 //! The reply to each line.
-ghost use Rattle.std.specs.Prelude.{◌≡◌, ◌<◌, ◌++◌, IfOk, codes, if◌then◌else◌, nat_lt};
-ghost use Rattle.dialog_replies.specs.Kept.{IsSearchOf};
-ghost use Rattle.dialog_replies.specs.Replies.{card_or_none, carry_line, carry_or_none, carry_text};
-ghost use Rattle.dialog_replies.specs.Replies.{command_outcome, judges_asked, no_call, no_cell, opening, replied};
-ghost use Rattle.dialog_replies.specs.Replies.{state_or_none, trace_or_none, trusts_named};
+ghost use Rattle.std.specs.Prelude.{if◌then◌else◌, ◌++◌, ◌<◌, ◌≡◌, IfOk, codes, nat_lt};
+ghost use Rattle.dialog_replies.specs.{Kept.IsSearchOf, Replies.trace_or_none, Replies.trusts_named, Texts.tree_text};
+ghost use Rattle.dialog_replies.specs.Replies.{card_or_none, carry_line, carry_or_none, carry_text, command_outcome};
+ghost use Rattle.dialog_replies.specs.Replies.{judges_asked, no_call, no_cell, opening, replied, state_or_none};
 ghost use Rattle.dialog_replies.specs.Subject.{calls_recorded, routine_named, state_after};
-ghost use Rattle.dialog_replies.specs.Texts.{tree_text};
 
 use crate::calls::{routine_named, write_number};
 use crate::changes::{judge, refusal, take_back, take_back_last, text_of, trust};

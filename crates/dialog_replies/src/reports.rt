@@ -1,7 +1,6 @@
 //! The report on the state of the search.
-ghost use Rattle.std.specs.Prelude.{◌≡◌, ◌<◌, ◌++◌, OnOk};
-ghost use Rattle.dialog_replies.specs.Kept.{IsSearchOf};
-ghost use Rattle.dialog_replies.specs.Subject.{calls_recorded, state_after};
+ghost use Rattle.std.specs.Prelude.{◌++◌, ◌<◌, ◌≡◌, OnOk};
+ghost use Rattle.dialog_replies.specs.{Kept.IsSearchOf, Subject.calls_recorded, Subject.state_after};
 ghost use Rattle.dialog_replies.specs.Texts.{doubt_line, doubt_lines, question_line, report};
 
 use crate::calls::{write_named_call, write_number};

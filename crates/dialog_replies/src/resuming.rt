@@ -1,9 +1,7 @@
 //! The search that a dialog starts with.
 ghost use Rattle.std.specs.Prelude.{◌≡◌, ◌≤◌, All, IfOk, None, length};
 ghost use Rattle.answer_book.specs.InRange.{IsInRange};
-ghost use Rattle.dialog_replies.specs.Kept.{IsSearchOf};
-ghost use Rattle.dialog_replies.specs.Subject.{calls_recorded};
-ghost use Rattle.dialog_replies.specs.Fit.{misfit};
+ghost use Rattle.dialog_replies.specs.{Fit.misfit, Kept.IsSearchOf, Subject.calls_recorded};
 ghost use Rattle.dialog_replies.specs.Start.{IsWholeStart, entries_at_start};
 
 use crate::debugged::Debugged;

@@ -1,5 +1,5 @@
 //! The words of a line.
-ghost use Rattle.std.specs.Prelude.{◌≡◌, ◌≤◌, ◌∷◌, [], length, not, IfSome};
+ghost use Rattle.std.specs.Prelude.{◌∷◌, ◌≡◌, ◌≤◌, [], IfSome, length, not};
 ghost use Rattle.std.specs.Option.{MatchOption};
 ghost use Rattle.dialog_replies.specs.Words.{after_blanks, after_word, before_blanks, count_while, is_space_or_tab};
 ghost use Rattle.dialog_replies.specs.Words.{solid_end, words};

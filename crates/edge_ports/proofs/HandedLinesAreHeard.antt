@@ -1,15 +1,12 @@
 -- The lines handed out are the first of those heard.
-use Rattle.std.proofs.Common.{◌≡◌, ℕ, ◌+◌, ◌-◌, ◌<◌, ◌≤◌, ◌⊎◌, inl, inr, Bool, true, false, cond, IsTrue, List, [], ◌∷◌, ◌++◌, map, take, drop, length, None}
-use Rattle.std.proofs.Common.{Some, refl, ap, sym, ◌∙◌, arith, suc}
-use Rattle.std.proofs.lemmas.List.{append-nil, append_cancel_right, take-append-drop, length-take-le, length-drop, drop_all, drop-drop, get_or-take}
-use Rattle.std.proofs.Math.Seq.{take-add}
-use Rattle.std.specs.List.{slice_split, onto_first, slice_index}
-use Rattle.std.specs.Str.Lines.{lines, lines_of_parts, strip_carriage_return}
-use Rattle.edge_ports.specs.Lines.{is_line_end, line_end_of, next_line, lines_of, whole_parts, whole_lines, lines_heard, EndsWhole, LinesState, unread}
-use Rattle.edge_ports.specs.Lines.{handed_bytes, handed_lines, IsCutAtLines, IsUsed}
-use Rattle.std.proofs.Math.Dec.{leb}
-use Rattle.std.proofs.lemmas.Bool.{leb-true, leb-false}
-use Rattle.edge_ports.proofs.NextLineIsFirst.{some_part, no_split, lines_of-next}
+use Rattle.std.proofs.Common.{◌++◌, ◌+◌, ◌-◌, ◌<◌, ◌∙◌, ◌∷◌, ◌≡◌, ◌≤◌, ◌⊎◌, [], ℕ, Bool, IsTrue, List, None, Some, ap, arith, cond, drop, false, inl, inr}
+use Rattle.std.proofs.Common.{length, map, refl, suc, sym, take, true}
+use Rattle.std.proofs.{Math.Dec.leb, Math.Seq.take-add, lemmas.Bool.leb-false, lemmas.Bool.leb-true}
+use Rattle.std.proofs.lemmas.List.{append-nil, append_cancel_right, drop-drop, drop_all, get_or-take, length-drop, length-take-le, take-append-drop}
+use Rattle.std.specs.{List.onto_first, List.slice_index, List.slice_split, Str.Lines.lines, Str.Lines.lines_of_parts, Str.Lines.strip_carriage_return}
+use Rattle.edge_ports.proofs.NextLineIsFirst.{lines_of-next, no_split, some_part}
+use Rattle.edge_ports.specs.Lines.{EndsWhole, IsCutAtLines, IsUsed, LinesState, handed_bytes, handed_lines, is_line_end, line_end_of, lines_heard, lines_of}
+use Rattle.edge_ports.specs.Lines.{next_line, unread, whole_lines, whole_parts}
 
 -- The parts of bytes that end whole, whatever comes after them.
 record Parts (bytes : List ℕ) : Type 0 where

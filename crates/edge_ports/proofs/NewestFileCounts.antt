@@ -1,16 +1,10 @@
 -- The file of a name among the entries of a shelf.
-use Rattle.std.proofs.Common.{◌≡◌, ℕ, true, cond, List, [], ◌∷◌, None, Some, refl, ap, sym, subst, ◌∙◌, eqb}
-use Rattle.std.specs.Ordering.{nat_cmp, eq_by_cmp, is_eq}
-use Rattle.std.specs.declared.cmp.Ordering.{Ordering}
-use Rattle.std.specs.declared.cmp.Ordering.TheVariants.{Less, Equal, Greater}
-use Rattle.std.specs.Bool.{Decides, one_answer}
-use Rattle.std.specs.Cmp.Lexicographic.{slice_cmp, pointwise}
-use Rattle.std.proofs.lemmas.Cmp.{tied_itself, nat_list_cmp_total}
-use Rattle.std.proofs.lemmas.Slice.Eq.{bytes_eq-Decides}
-use Rattle.std.specs.FinMap.{get-insert, get-empty, slice_cmp-IsAntisymmetric, nat_cmp-IsAntisymmetric}
-use Rattle.edge_ports.specs.declared.shelf.ShelvedFile.{ShelvedFile}
-use Rattle.edge_ports.specs.Files.{file_at}
-use Rattle.edge_ports.specs.Entries.{files_of}
+use Rattle.std.proofs.Common.{◌∙◌, ◌∷◌, ◌≡◌, [], ℕ, List, None, Some, ap, cond, eqb, refl, subst, sym, true}
+use Rattle.std.proofs.lemmas.{Cmp.nat_list_cmp_total, Cmp.tied_itself, Slice.Eq.bytes_eq-Decides}
+use Rattle.std.specs.{Bool.Decides, Bool.one_answer, Cmp.Lexicographic.pointwise, Cmp.Lexicographic.slice_cmp, FinMap.get-empty, FinMap.get-insert}
+use Rattle.std.specs.{FinMap.nat_cmp-IsAntisymmetric, FinMap.slice_cmp-IsAntisymmetric, Ordering.eq_by_cmp, Ordering.is_eq, Ordering.nat_cmp}
+use Rattle.std.specs.declared.cmp.Ordering.{Ordering, TheVariants.Equal, TheVariants.Greater, TheVariants.Less}
+use Rattle.edge_ports.specs.{Entries.files_of, Files.file_at, declared.shelf.ShelvedFile.ShelvedFile}
 
 is_equal : (r : Ordering) → is_eq r ≡ true → r ≡ Equal
 is_equal Less e = cc

@@ -1,14 +1,11 @@
 -- The next line is the first of the lines still to come.
-use Rattle.std.proofs.Common.{◌≡◌, ℕ, ◌+◌, ◌<◌, ◌≤◌, Bool, true, false, cond, not, IsTrue, List, [], ◌∷◌, ◌++◌, take, drop, length, None, Some, refl, ap, sym}
-use Rattle.std.proofs.Common.{◌∙◌, arith, ltb, suc}
-use Rattle.std.proofs.lemmas.Bool.Decides.{nat_tests}
-use Rattle.std.proofs.lemmas.List.{append-nil, take-append-drop, take-append-le, length-take-le, drop-append-le, length-append}
-use Rattle.std.specs.List.{position, position_or_len, slice_split, onto_first, after_first}
-use Rattle.std.specs.Option.{option_map}
-use Rattle.std.proofs.lemmas.List.Splits.{slice_split_none, slice_split_first}
-use Rattle.std.proofs.lemmas.List.Sums.{prefix_len-le-length, fails_before_first}
-use Rattle.std.specs.Str.Lines.{lines_of_parts, strip_carriage_return}
-use Rattle.edge_ports.specs.Lines.{is_line_end, line_end_of, lines_of, line_up_to, next_line}
+use Rattle.std.proofs.Common.{◌++◌, ◌+◌, ◌<◌, ◌∙◌, ◌∷◌, ◌≡◌, ◌≤◌, [], ℕ, Bool, IsTrue, List, None, Some, ap, arith, cond, drop, false, length, ltb, not, refl}
+use Rattle.std.proofs.{Common.suc, Common.sym, Common.take, Common.true, lemmas.Bool.Decides.nat_tests}
+use Rattle.std.proofs.lemmas.List.{append-nil, drop-append-le, length-append, length-take-le, take-append-drop, take-append-le, Splits.slice_split_first}
+use Rattle.std.proofs.lemmas.List.{Splits.slice_split_none, Sums.fails_before_first, Sums.prefix_len-le-length}
+use Rattle.std.specs.{Option.option_map, Str.Lines.lines_of_parts, Str.Lines.strip_carriage_return}
+use Rattle.std.specs.List.{after_first, onto_first, position, position_or_len, slice_split}
+use Rattle.edge_ports.specs.Lines.{is_line_end, line_end_of, line_up_to, lines_of, next_line}
 
 -- the place of the first that passes, after some that all fail
 pub position_or_len-append : {X : Type 0} (p : X → Bool) (xs ys : List X) → position_or_len p xs ≡ length xs

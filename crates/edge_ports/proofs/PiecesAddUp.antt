@@ -1,11 +1,8 @@
 -- Bytes that are given or taken piece by piece add up.
-use Rattle.std.proofs.Common.{◌≡◌, ℕ, ◌+◌, List, [], ◌++◌, take, drop, Option, None, Some, refl, ap, sym, ◌∙◌, append_assoc}
-use Rattle.std.proofs.lemmas.List.{append-nil, take-append-drop}
-use Rattle.std.proofs.Math.Seq.{take-add}
-use Rattle.std.proofs.KnownBytes.{prepend_known-nil}
+use Rattle.std.proofs.Common.{◌++◌, ◌+◌, ◌∙◌, ◌≡◌, [], ℕ, List, None, Option, Some, ap, append_assoc, drop, refl, sym, take}
+use Rattle.std.proofs.{KnownBytes.prepend_known-nil, Math.Seq.take-add, lemmas.List.append-nil, lemmas.List.take-append-drop}
 use Rattle.std.specs.Io.KnownBytes.{append_known, prepend_known}
-use Rattle.edge_ports.specs.Told.{GaveAll, GavePrefix, TookAll}
-use Rattle.edge_ports.specs.Lines.{Moves}
+use Rattle.edge_ports.specs.{Lines.Moves, Told.GaveAll, Told.GavePrefix, Told.TookAll}
 
 append_known-append : (known : Option (List ℕ)) (a b : List ℕ) → append_known (append_known known a) b ≡ append_known known (a ++ b)
 append_known-append None a b = refl

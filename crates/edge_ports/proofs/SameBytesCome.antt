@@ -1,15 +1,10 @@
 -- While bytes are taken and lines handed out, the same bytes are still to come.
-use Rattle.std.proofs.Common.{◌≡◌, ℕ, ◌<◌, ◌≤◌, ◌⊎◌, inl, inr, true, false, IsTrue, List, [], ◌∷◌, ◌++◌, take, drop, length, Option, None, Some, IsSome}
-use Rattle.std.proofs.Common.{is_some, Result, Ok, Err, is_ok, OnOk, refl, ap, sym, subst, ◌∙◌, append_assoc, arith}
-use Rattle.std.specs.Io.KnownBytes.{IsAtEnd}
-use Rattle.edge_ports.specs.Limits.{console_bytes}
-use Rattle.edge_ports.specs.declared.lines.Turn.{Turn}
-use Rattle.edge_ports.specs.declared.lines.LineFault.{LineFault}
-use Rattle.edge_ports.specs.Told.{TookAll}
-use Rattle.edge_ports.specs.Lines.{LinesState, line_end_of, unread, lines_of, Moves, StillComes}
-use Rattle.edge_ports.specs.Turns.{AsksNothing, TurnsTo}
+use Rattle.std.proofs.Common.{◌++◌, ◌<◌, ◌∙◌, ◌∷◌, ◌≡◌, ◌≤◌, ◌⊎◌, [], ℕ, Err, IsSome, IsTrue, List, None, Ok, OnOk, Option, Result, Some, ap, append_assoc}
+use Rattle.std.proofs.Common.{arith, drop, false, inl, inr, is_ok, is_some, length, refl, subst, sym, take, true}
+use Rattle.std.{proofs.lemmas.List.drop-append-le, proofs.lemmas.List.length-append, proofs.lemmas.List.take_at, specs.Io.KnownBytes.IsAtEnd}
 use Rattle.edge_ports.proofs.PiecesAddUp.{moves_more}
-use Rattle.std.proofs.lemmas.List.{drop-append-le, length-append, take_at}
+use Rattle.edge_ports.specs.{Limits.console_bytes, Told.TookAll, Turns.AsksNothing, Turns.TurnsTo, declared.lines.LineFault.LineFault, declared.lines.Turn.Turn}
+use Rattle.edge_ports.specs.Lines.{LinesState, Moves, StillComes, line_end_of, lines_of, unread}
 
 -- from the state and the source at the call to those now; the first `looked` bytes have no LF
 pub record Filled {I : Type 0} (left : I → Option (List ℕ)) (faults : I → ℕ) (old now : LinesState) (source source' : I) (looked : ℕ) : Type 0 where

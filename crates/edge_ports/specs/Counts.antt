@@ -1,9 +1,7 @@
 -- Counts of what went wrong outside: numbers of 64 bits that never fall, and stand still at the last one.
-use Rattle.std.specs.Prelude.{◌≡◌, ℕ, ◌+◌, ◌-◌, ◌^◌, ◌≤◌, min, Bool, true, false, List, Result, Ok, Err, ⊤}
-use Rattle.edge_ports.specs.declared.ports.FetchFault.{FetchFault}
-use Rattle.edge_ports.specs.declared.ports.FetchFault.TheVariants.{Absent, Failed, TooLong, Memory}
-use Rattle.edge_ports.specs.declared.ports.StoreFault.{StoreFault}
-use Rattle.edge_ports.specs.declared.ports.StoreFault.TheVariants as store
+use Rattle.std.specs.Prelude.{◌+◌, ◌-◌, ◌^◌, ◌≡◌, ◌≤◌, ℕ, ⊤, Bool, Err, List, Ok, Result, false, min, true}
+use Rattle.edge_ports.specs.declared.ports.{FetchFault.FetchFault, StoreFault.StoreFault}
+use Rattle.edge_ports.specs.declared.ports.FetchFault.TheVariants.{Absent, Failed, Memory, TooLong}
 
 -- one more, unless the count stands at its last value
 abbrev pub next_count : ℕ → ℕ
@@ -57,9 +55,9 @@ CountsFetch answer before now = now ≡ counts_after answer before
 -- where it did
 abbrev pub counts_stored : Result ⊤ StoreFault → KeeperCounts → KeeperCounts
 counts_stored (Ok _) counts = record counts { stores = next_count counts.stores }
-counts_stored (Err store.Failed) counts =
+counts_stored (Err StoreFault.Failed) counts =
     record counts { stores = next_count counts.stores; faults = next_count counts.faults }
-counts_stored (Err store.Memory) counts = record counts { stores = next_count counts.stores }
+counts_stored (Err StoreFault.Memory) counts = record counts { stores = next_count counts.stores }
 
 -- the counts rose as this answer says
 abbrev pub CountsStore : Result ⊤ StoreFault → KeeperCounts → KeeperCounts → Type 0

@@ -1,8 +1,6 @@
 -- The files of a shelf, as the entries that stand for them: the newest entry of a name counts.
-use Rattle.std.specs.Prelude.{ℕ, List, map}
-use Rattle.std.specs.FinMap.{from_entries}
-use Rattle.edge_ports.specs.declared.shelf.ShelvedFile.{ShelvedFile}
-use Rattle.edge_ports.specs.Files.{FileMap}
+use Rattle.std.specs.{Prelude.ℕ, Prelude.List, Prelude.map, FinMap.from_entries}
+use Rattle.edge_ports.specs.{Files.FileMap, declared.shelf.ShelvedFile.ShelvedFile}
 
 -- a name and its file
 abbrev pub entry_of : ShelvedFile → List ℕ × List ℕ

@@ -1,9 +1,6 @@
 -- The files of a keeper, where it tells them.
-use Rattle.std.specs.Prelude.{◌≡◌, ◌≢◌, ◌<◌, ◌≤◌, ◌⊎◌, ℕ, List, [], length, take}
-use Rattle.std.specs.Prelude.{Option, Some, None, IfSome, IsSomeAnd}
-use Rattle.std.specs.Option.{option_map}
-use Rattle.std.specs.Ordering.{nat_cmp}
-use Rattle.std.specs.Cmp.Lexicographic.{slice_cmp}
+use Rattle.std.specs.Prelude.{◌%◌, ◌<◌, ◌≡◌, ◌≢◌, ◌≤◌, ◌⊎◌, [], ℕ, IfSome, IsSomeAnd, List, None, Option, Some, length}
+use Rattle.std.specs.{Prelude.take, Cmp.Lexicographic.slice_cmp, Option.option_map, Ordering.nat_cmp}
 use Rattle.std.specs.FinMap.{FinMap, get, insert}
 
 -- a finite map from the bytes of names to the bytes of files
@@ -41,3 +38,7 @@ KeepsOthers name before now = (other : List ℕ) → other ≢ name → told_at 
 -- a file with the old bytes may be replaced by one with the new bytes: it is empty, or both begin with the same ten
 abbrev pub MayReplace : (old new : List ℕ) → Type 0
 MayReplace old new = (old ≡ []) ⊎ ((10 ≤ length old) × (take 10 new ≡ take 10 old))
+
+-- the bits of a mode that say who may read, write and run a file: the last nine
+abbrev pub access_mode : ℕ → ℕ
+access_mode mode = mode % 512

@@ -1,8 +1,7 @@
 -- The lines of a console, and how far a reader of them has come.
-use Rattle.std.specs.Prelude.{◌≡◌, ◌⊎◌, ℕ, ◌+◌, ◌-◌, ◌<◌, ◌≤◌, Bool, true, false, IsTrue, List, [], ◌∷◌, ◌++◌, ◌==◌}
-use Rattle.std.specs.Prelude.{length, take, drop, slice_index, position, Option, None, Some, IsSome}
-use Rattle.std.specs.List.{slice_split}
-use Rattle.std.specs.Str.Lines.{lines, strip_carriage_return}
+use Rattle.std.specs.Prelude.{◌++◌, ◌+◌, ◌-◌, ◌<◌, ◌==◌, ◌∷◌, ◌≡◌, ◌≤◌, ◌⊎◌, [], ℕ, Bool, IsSome, IsTrue, List, None}
+use Rattle.std.specs.Prelude.{Option, Some, drop, false, length, position, slice_index, take, true}
+use Rattle.std.specs.{List.slice_split, Str.Lines.lines, Str.Lines.strip_carriage_return}
 use Rattle.edge_ports.specs.Told.{TookAll}
 
 -- the lines of these bytes, as `str::lines` gives them: each ends at LF, and loses a CR directly before that; a last

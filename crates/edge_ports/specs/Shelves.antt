@@ -1,14 +1,11 @@
 -- What contracts see of a keeper in memory.
-use Rattle.std.specs.Prelude.{ℕ, List, Bool, Result, Ok, Err, true, false, refl, ⊤}
+use Rattle.std.specs.Prelude.{ℕ, ⊤, Bool, Err, List, Ok, Result, false, refl, true}
+use Rattle.std.specs.Coded.{Coded, code_by, coded_list, coded_ℕ, coded×}
 use Rattle.std.specs.FinMap.{code, empty, insert}
-use Rattle.std.specs.Coded.{Coded, code_by, coded×, coded_ℕ, coded_list}
-use Rattle.edge_ports.specs.declared.ports.FetchFault.{FetchFault}
-use Rattle.edge_ports.specs.declared.ports.FetchFault.TheVariants.{Absent, Failed, TooLong, Memory}
-use Rattle.edge_ports.specs.declared.ports.StoreFault.{StoreFault}
-use Rattle.edge_ports.specs.declared.ports.StoreFault.TheVariants as store
-use Rattle.edge_ports.specs.Counts.{KeeperCounts, no_counts, counts_after, counts_stored}
-use Rattle.edge_ports.specs.States.{PlanState, plan_after, plan_of}
-use Rattle.edge_ports.specs.Files.{FileMap}
+use Rattle.edge_ports.specs.{Files.FileMap, States.PlanState, States.plan_after, States.plan_of}
+use Rattle.edge_ports.specs.Counts.{KeeperCounts, counts_after, counts_stored, no_counts}
+use Rattle.edge_ports.specs.declared.ports.{FetchFault.FetchFault, StoreFault.StoreFault}
+use Rattle.edge_ports.specs.declared.ports.FetchFault.TheVariants.{Absent, Failed, Memory, TooLong}
 
 -- the files, which calls are to fail, and how often one went wrong
 pub record ShelfState : Type 0 where
@@ -38,8 +35,8 @@ shelf_after answer shelf = record shelf {
 -- the storing failed
 abbrev pub has_not_stored : Result ⊤ StoreFault → Bool
 has_not_stored (Ok _) = false
-has_not_stored (Err store.Failed) = true
-has_not_stored (Err store.Memory) = false
+has_not_stored (Err StoreFault.Failed) = true
+has_not_stored (Err StoreFault.Memory) = false
 
 -- the files after one was to be stored, with this answer: it is there exactly where the answer is Ok
 abbrev pub files_stored : Result ⊤ StoreFault → List ℕ → List ℕ → FileMap → FileMap

@@ -1,5 +1,5 @@
 -- What contracts see of the objects in memory.
-use Rattle.std.specs.Prelude.{ℕ, Bool, List, Contains, if◌then◌else◌}
+use Rattle.std.specs.Prelude.{if◌then◌else◌, ℕ, Bool, Contains, List}
 use Rattle.edge_ports.specs.Counts.{next_count}
 
 -- which calls are to fail, the number of the next call, and how many failed

@@ -1,8 +1,6 @@
 -- What a port is made over, and what std tells of it.
 use Rattle.std.specs.Prelude.{ℕ, List, Option}
-use Rattle.edge_ports.specs.declared.streams.StdSource.{StdSource}
-use Rattle.edge_ports.specs.declared.streams.StdSink.{StdSink}
-use Rattle.edge_ports.specs.declared.disk.FileKeeper.{FileKeeper}
+use Rattle.edge_ports.specs.declared.{disk.FileKeeper.FileKeeper, streams.StdSink.StdSink, streams.StdSource.StdSource}
 
 -- the reader that the port is made over
 abbrev pub reader_of : {R : Type 0} → StdSource R → R

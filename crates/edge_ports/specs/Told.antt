@@ -1,5 +1,5 @@
 -- Bytes that an object of the outside may tell: `None` where it does not.
-use Rattle.std.specs.Prelude.{◌≡◌, ℕ, List, ◌++◌, Option}
+use Rattle.std.specs.Prelude.{◌++◌, ◌≡◌, ℕ, List, Option}
 use Rattle.std.specs.Io.KnownBytes.{append_known, prepend_known}
 
 -- what was given grew by these bytes

@@ -1,11 +1,9 @@
 -- What a call of `Lines::next` does, by what it answers.
-use Rattle.std.specs.Prelude.{◌≡◌, ℕ, ◌<◌, ◌≤◌, ◌⊎◌, List, [], ◌∷◌, ◌++◌, length, Result, Ok, Err, Option, Some, None}
-use Rattle.std.specs.Prelude.{nat_le, if◌then◌else◌, IsTrue}
-use Rattle.edge_ports.specs.Limits.{console_bytes, line_bytes}
-use Rattle.edge_ports.specs.declared.lines.Turn.{Turn}
-use Rattle.edge_ports.specs.declared.lines.Turn.TheVariants.{Line, TooLong, End}
-use Rattle.edge_ports.specs.declared.lines.LineFault.{LineFault}
-use Rattle.edge_ports.specs.Lines.{LinesState, unread, HasWholeLine, IsCutAtLines}
+use Rattle.std.specs.Prelude.{if◌then◌else◌, ◌++◌, ◌<◌, ◌∷◌, ◌≡◌, ◌≤◌, ◌⊎◌, [], ℕ, Err, IsTrue, List, None, Ok, Option}
+use Rattle.std.specs.Prelude.{Result, Some, length, nat_le}
+use Rattle.edge_ports.specs.{Limits.console_bytes, Limits.line_bytes, declared.lines.LineFault.LineFault}
+use Rattle.edge_ports.specs.Lines.{HasWholeLine, IsCutAtLines, LinesState, unread}
+use Rattle.edge_ports.specs.declared.lines.Turn.{Turn, TheVariants.End, TheVariants.Line, TheVariants.TooLong}
 
 -- nothing more is asked of the source: a whole line is left in the bytes taken, or the end was seen, or all room is
 -- used

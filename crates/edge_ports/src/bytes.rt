@@ -1,5 +1,5 @@
 //! A list of bytes that grows.
-ghost use Rattle.std.specs.Prelude.{◌≡◌, ◌++◌, [], List, ℕ, OnOk, OnErr};
+ghost use Rattle.std.specs.Prelude.{◌++◌, ◌≡◌, [], ℕ, List, OnErr, OnOk};
 
 use std::alloc::{AllocError, Global};
 use std::marker::Model;

@@ -1,6 +1,6 @@
 //! Counts of what went wrong.
 ghost use Rattle.std.specs.Prelude.{◌≡◌};
-ghost use Rattle.edge_ports.specs.Counts.{NotFallen, next_count, no_counts, CountsFetch, CountsStore, NoneFallen};
+ghost use Rattle.edge_ports.specs.Counts.{CountsFetch, CountsStore, NoneFallen, NotFallen, next_count, no_counts};
 
 use crate::{Bytes, FetchFault, StoreFault};
 use std::marker::Model;

@@ -1,15 +1,16 @@
 //! Real files as a keeper. It tells nothing of its files.
-ghost use Rattle.std.specs.Prelude.{◌≡◌, ◌<◌, ◌≤◌, ◌+◌, ℕ, List, length, Err, IfOk, IfSome, None};
+ghost use Rattle.std.specs.Prelude.{◌+◌, ◌<◌, ◌≡◌, ◌≤◌, ℕ, Err, IfOk, IfSome, List, None, length};
 ghost use Rattle.std.specs.Io.KnownBytes.{Consumes};
-ghost use Rattle.edge_ports.specs.Counts.{no_counts};
-ghost use Rattle.edge_ports.specs.Streams.{opener_of};
+ghost use Rattle.edge_ports.specs.{Counts.no_counts, Streams.opener_of};
 
 use crate::counts::Counts;
+use crate::retries::read_uninterrupted;
 use crate::storing::replace_file;
-use crate::{Bytes, FetchFault, Keeper, StoreFault};
+use crate::{Bytes, FetchFault, Keeper, Memory, StoreFault};
 use std::alloc::Global;
 use std::fs;
 use std::io::{ErrorKind, Read};
+use std::random::RandomSource;
 use std::rt::Files;
 
 /// Real files as a keeper. It tells nothing of them, and counts each error.
@@ -17,9 +18,10 @@ use std::rt::Files;
 pub struct FileKeeper<R> {
     files: R,
     counts: Counts,
+    spared: Option<Vec<String>>,
 }
 
-impl<R: Files> FileKeeper<R> {
+impl<R: Files + RandomSource> FileKeeper<R> {
     /// The files that the runtime opens. Nothing has failed yet.
     pub fn new(files: R) -> FileKeeper<R>
         ensures kept { opener_of result ≡ files }
@@ -28,7 +30,22 @@ impl<R: Files> FileKeeper<R> {
         FileKeeper {
             files,
             counts: Counts::new(),
+            spared: None,
         }
+    }
+
+    /// From now on nothing is stored under this name, nor in the place of the file that has it under another name.
+    pub fn spare(&mut self, alloc: Global, name: &str) -> Result<(), Memory>
+        ensures kept { opener_of self.new ≡ opener_of self.old }
+        ensures counts { ⟦<FileKeeper<R> as Keeper>⟧.counts self.new ≡ ⟦<FileKeeper<R> as Keeper>⟧.counts self.old }
+    {
+        let mut spared = match self.spared.take() {
+            Some(spared) => spared,
+            None => Vec::new(alloc),
+        };
+        spared.push(name.to_string(alloc)?)?;
+        self.spared = Some(spared);
+        Ok(())
     }
 }
 
@@ -48,7 +65,8 @@ fn chunk_len(left: u64) -> usize
     }
 }
 
-/// All the bytes of the reader, if they are at most `limit`. It reads at most one byte more.
+/// All the bytes of the reader, if they are at most `limit`. It reads at most one byte more, and again where a signal
+/// interrupts it.
 fn read_within<R: Read>(alloc: Global, reader: &mut R, limit: u64) -> Result<Bytes, FetchFault>
     ensures fits { IfOk result (λ bytes. length bytes ≤ limit) }
     ensures whole { IfOk result (λ bytes. IfSome (R.remaining reader.old) (λ all. bytes ≡ all)) }
@@ -64,7 +82,7 @@ fn read_within<R: Read>(alloc: Global, reader: &mut R, limit: u64) -> Result<Byt
     'chunks: loop {
         let left = limit - bytes.as_slice().len() as u64;
         let want = chunk_len(left);
-        let count = match reader.read(&mut chunk[..want]) {
+        let count = match read_uninterrupted(reader, &mut chunk[..want]) {
             Ok(0) => return Ok(bytes),
             Ok(count) => count,
             Err(_) => return Err(FetchFault::Failed),
@@ -97,7 +115,7 @@ fn read_file<R: Files>(
     }
 }
 
-impl<R: Files> Keeper for FileKeeper<R> {
+impl<R: Files + RandomSource> Keeper for FileKeeper<R> {
     ghost files = { λ _. None };
 
     ghost counts = { λ k. k.counts };
@@ -110,9 +128,15 @@ impl<R: Files> Keeper for FileKeeper<R> {
 
     /// Writes a new file in the folder of this name and renames it. So a file of this name is whole or as it
     /// was, whatever fails. It fails where the file that is there is neither empty nor begins with the ten bytes
-    /// with which the new one begins: what is no file of the same kind is not replaced.
+    /// with which the new one begins: what is no file of the same kind is not replaced. So it does where that file is
+    /// spared, by this name or another. The new file's name is one that nobody foretells, so that no other file stands
+    /// in its way.
     fn store(&mut self, alloc: Global, name: &str, bytes: &[u8]) -> Result<(), StoreFault> {
-        let answer = replace_file(&self.files, alloc, name, bytes);
+        let spared: &[String] = match &self.spared {
+            Some(spared) => spared.as_slice(),
+            None => &[],
+        };
+        let answer = replace_file(&self.files, alloc, spared, name, bytes);
         self.counts.count_store(&answer);
         answer
     }

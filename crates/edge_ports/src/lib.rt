@@ -10,6 +10,7 @@ mod lines;
 mod page;
 mod plan;
 mod ports;
+mod retries;
 mod room;
 mod shelf;
 mod storing;

@@ -1,12 +1,9 @@
 //! The lines of a console.
-ghost use Rattle.std.specs.Prelude.{◌≡◌, ◌<◌, ◌≤◌, ◌⊎◌, ◌+◌, ◌-◌, Ok, None, length, take, drop, slice_index};
-ghost use Rattle.std.specs.Prelude.{vec_capacity, IsTrue, OnOk, OnErr, IfOk, IfSome};
-ghost use Rattle.std.specs.Option.{option_map};
-ghost use Rattle.std.specs.Str.Lines.{strip_carriage_return};
-ghost use Rattle.std.specs.Io.KnownBytes.{IsAtEnd};
-ghost use Rattle.edge_ports.specs.Counts.{Rose, NotFallen};
-ghost use Rattle.edge_ports.specs.Limits.{console_bytes};
-ghost use Rattle.edge_ports.specs.Lines.{line_end_of, next_line, lines_of, Moves};
+ghost use Rattle.std.specs.Prelude.{◌+◌, ◌-◌, ◌<◌, ◌≡◌, ◌≤◌, ◌⊎◌, IfOk, IfSome, IsTrue, None, Ok, OnErr, OnOk, drop};
+ghost use Rattle.std.specs.Prelude.{length, slice_index, take, vec_capacity};
+ghost use Rattle.std.specs.{Io.KnownBytes.IsAtEnd, Option.option_map, Str.Lines.strip_carriage_return};
+ghost use Rattle.edge_ports.specs.{Counts.NotFallen, Counts.Rose, Limits.console_bytes};
+ghost use Rattle.edge_ports.specs.Lines.{Moves, line_end_of, lines_of, next_line};
 
 use crate::{Failed, Memory, Source};
 use std::alloc::Global;
@@ -52,9 +49,8 @@ pub struct Lines {
 }
 
 impl Model for Lines {
-    ghost use Rattle.std.specs.Prelude.{◌≡◌, ◌<◌, ◌≤◌, IsTrue, [], take, drop, length, vec_capacity};
-    ghost use Rattle.edge_ports.specs.Limits.{console_bytes};
-    ghost use Rattle.edge_ports.specs.Lines.{LinesState, IsCutAtLines};
+    ghost use Rattle.std.specs.Prelude.{◌<◌, ◌≡◌, ◌≤◌, [], IsTrue, drop, length, take, vec_capacity};
+    ghost use Rattle.edge_ports.specs.{Limits.console_bytes, Lines.IsCutAtLines, Lines.LinesState};
 
     ghost Value = { LinesState };
 
@@ -156,15 +152,13 @@ fn take_piece<I: Source>(source: &mut I, bytes: &mut Vec<u8>) -> Result<usize, F
 }
 
 impl Lines {
-    ghost use Rattle.std.specs.Prelude.{◌≡◌, ◌<◌, ◌≤◌, ◌↔◌, ◌⊎◌, ◌+◌, ℕ, List, [], ◌++◌, Ok, Err, Some, None, Option};
-    ghost use Rattle.std.specs.Prelude.{length, take, drop, IsTrue, OnOk, OnErr, IfOk, IsSomeAnd, MatchOption, true};
-    ghost use Rattle.std.specs.Prelude.{false};
-    ghost use Rattle.std.specs.Io.KnownBytes.{IsAtEnd};
-    ghost use Rattle.edge_ports.specs.Counts.{Rose, NotFallen};
-    ghost use Rattle.edge_ports.specs.Limits.{console_bytes, line_bytes};
-    ghost use Rattle.edge_ports.specs.Lines.{line_end_of, next_line, lines_of, Moves, unread, upcoming, handed_lines};
-    ghost use Rattle.edge_ports.specs.Lines.{whole_lines, IsUsed, StillComes};
-    ghost use Rattle.edge_ports.specs.Turns.{AsksNothing, IsConsistent, shown_line, HandsOut, HandedBy, TurnsTo};
+    ghost use Rattle.std.specs.Prelude.{◌++◌, ◌+◌, ◌<◌, ◌↔◌, ◌≡◌, ◌≤◌, ◌⊎◌, [], ℕ, Err, IfOk, IsSomeAnd, IsTrue, List};
+    ghost use Rattle.std.specs.Prelude.{MatchOption, None, Ok, OnErr, OnOk, Option, Some, drop, false, length, take};
+    ghost use Rattle.std.specs.{Prelude.true, Io.KnownBytes.IsAtEnd};
+    ghost use Rattle.edge_ports.specs.{Counts.NotFallen, Counts.Rose, Limits.console_bytes, Limits.line_bytes};
+    ghost use Rattle.edge_ports.specs.Lines.{IsUsed, Moves, StillComes, handed_lines, line_end_of, lines_of, next_line};
+    ghost use Rattle.edge_ports.specs.Lines.{unread, upcoming, whole_lines};
+    ghost use Rattle.edge_ports.specs.Turns.{AsksNothing, HandedBy, HandsOut, IsConsistent, TurnsTo, shown_line};
 
     /// A reader that has taken nothing. It reserves the memory for all [`CONSOLE_BYTES`] bytes at once.
     pub fn new(alloc: Global) -> Result<Lines, Memory>

@@ -1,8 +1,7 @@
 //! A sink in memory.
-ghost use Rattle.std.specs.Prelude.{◌≡◌, ◌<◌, ◌≤◌, ◌↔◌, ◌⊎◌, ◌-◌, [], false, Some, length, take, min, is_err, IfOk};
-ghost use Rattle.std.specs.Prelude.{IsErr, OnErr, OnOk};
-ghost use Rattle.edge_ports.specs.Counts.{Rose, NotFallen};
-ghost use Rattle.edge_ports.specs.Told.{GaveAll};
+ghost use Rattle.std.specs.Prelude.{◌-◌, ◌<◌, ◌↔◌, ◌≡◌, ◌≤◌, ◌⊎◌, [], IfOk, IsErr, OnErr, OnOk, Some, false, is_err};
+ghost use Rattle.std.specs.Prelude.{length, min, take};
+ghost use Rattle.edge_ports.specs.{Counts.NotFallen, Counts.Rose, Told.GaveAll};
 ghost use Rattle.edge_ports.specs.States.{IsListed, no_loan, plan_after, plan_of};
 
 use crate::plan::Plan;

@@ -1,7 +1,6 @@
 //! Which calls of an object in memory are to fail.
-ghost use Rattle.std.specs.Prelude.{◌≡◌, ◌↔◌, IsTrue, IfOk};
-ghost use Rattle.edge_ports.specs.Counts.{NotFallen};
-ghost use Rattle.edge_ports.specs.States.{IsListed, plan_after, plan_of};
+ghost use Rattle.std.specs.Prelude.{◌↔◌, ◌≡◌, IfOk, IsTrue};
+ghost use Rattle.edge_ports.specs.{Counts.NotFallen, States.IsListed, States.plan_after, States.plan_of};
 
 use crate::Memory;
 use crate::counts::count_on;

@@ -1,10 +1,9 @@
 //! What the program asks of the outside.
-ghost use Rattle.std.specs.Prelude.{◌≡◌, ◌<◌, ◌≤◌, ℕ, Bool, true, List, Ok, Err, Option, length, take, is_err, IfOk};
-ghost use Rattle.std.specs.Prelude.{OnOk, OnErr};
-ghost use Rattle.std.specs.Io.KnownBytes.{IsAtEnd};
-ghost use Rattle.edge_ports.specs.Counts.{Rose, NotFallen, KeeperCounts, CountsFetch, CountsStore, NoneFallen};
+ghost use Rattle.std.specs.Prelude.{◌<◌, ◌≡◌, ◌≤◌, ℕ, Bool, Err, IfOk, List, Ok, OnErr, OnOk, Option, is_err, length};
+ghost use Rattle.std.specs.{Prelude.take, Prelude.true, Io.KnownBytes.IsAtEnd};
+ghost use Rattle.edge_ports.specs.Counts.{CountsFetch, CountsStore, KeeperCounts, NoneFallen, NotFallen, Rose};
+ghost use Rattle.edge_ports.specs.Files.{FileMap, HoldsFile, HoldsLonger, KeepsOthers, LacksFile, StoresFile};
 ghost use Rattle.edge_ports.specs.Told.{GaveAll, GavePrefix, TookAll};
-ghost use Rattle.edge_ports.specs.Files.{FileMap, HoldsFile, LacksFile, HoldsLonger, StoresFile, KeepsOthers};
 
 use crate::Bytes;
 use std::alloc::Global;

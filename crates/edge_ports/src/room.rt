@@ -1,5 +1,5 @@
 //! A sink over the caller's own room.
-ghost use Rattle.std.specs.Prelude.{◌≡◌, ◌≤◌, true, length};
+ghost use Rattle.std.specs.Prelude.{◌≡◌, ◌≤◌, length, true};
 
 use crate::counts::count_on;
 use crate::{Failed, Sink};
@@ -16,8 +16,8 @@ pub struct Room<'a> {
 }
 
 impl<'a> Room<'a> {
-    ghost use Rattle.std.specs.Prelude.{◌≡◌, ◌≤◌, [], false, true, Some, length, take};
-    ghost use Rattle.edge_ports.specs.Rooms.{room_of, given_of};
+    ghost use Rattle.std.specs.Prelude.{◌≡◌, ◌≤◌, [], Some, false, length, take, true};
+    ghost use Rattle.edge_ports.specs.Rooms.{given_of, room_of};
 
     /// All of the slice is free, and nothing has failed yet.
     pub fn new(room: &'a mut [u8]) -> Room<'a>
@@ -47,11 +47,10 @@ impl<'a> Room<'a> {
 }
 
 impl Sink for Room<'_> {
-    ghost use Rattle.std.specs.Prelude.{◌≡◌, ◌≤◌, ◌<◌, ◌↔◌, ◌-◌, Some, length, take, min, is_err};
-    ghost use Rattle.std.specs.Prelude.{IfOk, IsErr, OnErr, OnOk};
-    ghost use Rattle.edge_ports.specs.Counts.{Rose, NotFallen};
-    ghost use Rattle.edge_ports.specs.Told.{GaveAll};
-    ghost use Rattle.edge_ports.specs.Rooms.{room_of, given_of, loan_of};
+    ghost use Rattle.std.specs.Prelude.{◌-◌, ◌<◌, ◌↔◌, ◌≡◌, ◌≤◌, IfOk, IsErr, OnErr, OnOk, Some, is_err, length, min};
+    ghost use Rattle.std.specs.Prelude.{take};
+    ghost use Rattle.edge_ports.specs.{Counts.NotFallen, Counts.Rose, Told.GaveAll};
+    ghost use Rattle.edge_ports.specs.Rooms.{given_of, loan_of, room_of};
 
     ghost given = { λ r. Some (given_of r) };
 

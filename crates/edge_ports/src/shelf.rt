@@ -1,13 +1,10 @@
 //! A keeper in memory.
-ghost use Rattle.std.specs.Prelude.{◌≡◌, ◌<◌, ◌≤◌, ◌↔◌, ℕ, length, Option, Some, None, Ok, Err, IfOk, OnOk, OnErr};
-ghost use Rattle.std.specs.Prelude.{IsSomeAnd};
-ghost use Rattle.std.specs.Option.{option_map};
-ghost use Rattle.std.specs.FinMap.{empty, insert};
-ghost use Rattle.edge_ports.specs.Counts.{no_counts, NoneFallen, CountsFetch, CountsStore};
-ghost use Rattle.edge_ports.specs.States.{IsListed};
-ghost use Rattle.edge_ports.specs.Files.{file_at, HoldsFile, LacksFile, HoldsLonger, StoresFile, KeepsOthers};
-ghost use Rattle.edge_ports.specs.Shelves.{empty_shelf, shelf_after, shelf_stored, files_stored};
-ghost use Rattle.edge_ports.specs.Entries.{files_of};
+ghost use Rattle.std.specs.Prelude.{◌<◌, ◌↔◌, ◌≡◌, ◌≤◌, ℕ, Err, IfOk, IsSomeAnd, None, Ok, OnErr, OnOk, Option, Some};
+ghost use Rattle.std.specs.{Prelude.length, FinMap.empty, FinMap.insert, Option.option_map};
+ghost use Rattle.edge_ports.specs.{Entries.files_of, States.IsListed};
+ghost use Rattle.edge_ports.specs.Counts.{CountsFetch, CountsStore, NoneFallen, no_counts};
+ghost use Rattle.edge_ports.specs.Files.{HoldsFile, HoldsLonger, KeepsOthers, LacksFile, StoresFile, file_at};
+ghost use Rattle.edge_ports.specs.Shelves.{empty_shelf, files_stored, shelf_after, shelf_stored};
 
 use crate::counts::Counts;
 use crate::plan::Plan;

@@ -1,9 +1,10 @@
 //! std's readers and writers as ports. They tell nothing of their bytes.
-ghost use Rattle.std.specs.Prelude.{◌≡◌, ◌<◌, ◌≤◌, false, length, take, IfOk};
+ghost use Rattle.std.specs.Prelude.{◌<◌, ◌≡◌, ◌≤◌, IfOk, false, length, take};
 ghost use Rattle.std.specs.Io.KnownBytes.{Appends};
 ghost use Rattle.edge_ports.specs.Streams.{reader_of, writer_of};
 
 use crate::counts::count_on;
+use crate::retries::{flush_uninterrupted, read_uninterrupted, write_uninterrupted};
 use crate::{Failed, Sink, Source};
 use std::io::{Read, Write};
 
@@ -25,17 +26,15 @@ impl<R: Read> StdSource<R> {
 }
 
 impl<R: Read> Source for StdSource<R> {
-    ghost use Rattle.std.specs.Prelude.{◌≡◌, ◌≤◌, ◌<◌, Ok, None, length, take, IfOk, OnErr, OnOk};
-    ghost use Rattle.std.specs.Io.KnownBytes.{ReadConsumes, IsAtEnd};
-    ghost use Rattle.edge_ports.specs.Counts.{Rose, NotFallen};
-    ghost use Rattle.edge_ports.specs.Told.{TookAll};
-    ghost use Rattle.edge_ports.specs.Streams.{reader_left};
+    ghost use Rattle.std.specs.Prelude.{◌<◌, ◌≡◌, ◌≤◌, IfOk, None, Ok, OnErr, OnOk, length, take};
+    ghost use Rattle.std.specs.Io.KnownBytes.{IsAtEnd, ReadConsumes};
+    ghost use Rattle.edge_ports.specs.{Counts.NotFallen, Counts.Rose, Streams.reader_left, Told.TookAll};
 
     ghost left = { λ _. None };
 
     ghost faults = { λ s. s.faults };
 
-    /// One read, as std says of the reader.
+    /// One read, as std says of the reader. It is made again where a signal interrupts it.
     fn take(&mut self, room: &mut [u8]) -> Result<usize, Failed>
         requires { 0 < length room.old }
         ensures read { ReadConsumes (reader_left R.remaining self.old) (reader_left R.remaining self.new)
@@ -47,7 +46,7 @@ impl<R: Read> Source for StdSource<R> {
         ensures calm { OnOk result (self.new.faults ≡ self.old.faults) }
         ensures faults { NotFallen self.old.faults self.new.faults }
     {
-        match self.reader.read(room) {
+        match read_uninterrupted(&mut self.reader, room) {
             Ok(count) => Ok(count),
             Err(_) => {
                 self.faults = count_on(self.faults);
@@ -81,15 +80,16 @@ impl<W: Write> StdSink<W> {
     }
 }
 
-/// Writes from the front of the piece and flushes, and answers how many bytes were written.
+/// Writes from the front of the piece and flushes, and answers how many bytes were written. Each of the two is made
+/// again by itself where a signal interrupts it, so that no byte goes out twice.
 fn write_flushed<W: Write>(writer: &mut W, piece: &[u8]) -> Result<usize, Failed>
     ensures some { IfOk result (λ n. 0 < n) }
     ensures count { IfOk result (λ n. n ≤ length piece.now) }
     ensures wrote { IfOk result (λ n. Appends (W.contents writer.old) (W.contents writer.new) (take n piece.now)) }
 {
-    match writer.write(piece) {
+    match write_uninterrupted(writer, piece) {
         Ok(0) => Err(Failed),
-        Ok(count) => match writer.flush() {
+        Ok(count) => match flush_uninterrupted(writer) {
             Ok(()) => Ok(count),
             Err(_) => Err(Failed),
         },
@@ -98,12 +98,10 @@ fn write_flushed<W: Write>(writer: &mut W, piece: &[u8]) -> Result<usize, Failed
 }
 
 impl<W: Write> Sink for StdSink<W> {
-    ghost use Rattle.std.specs.Prelude.{◌≡◌, ◌≤◌, ◌<◌, None, length, take, is_err, IfOk, OnErr, OnOk};
+    ghost use Rattle.std.specs.Prelude.{◌<◌, ◌≡◌, ◌≤◌, IfOk, None, OnErr, OnOk, is_err, length, take};
     ghost use Rattle.std.specs.Io.KnownBytes.{Appends};
-    ghost use Rattle.edge_ports.specs.Counts.{Rose, NotFallen};
-    ghost use Rattle.edge_ports.specs.Told.{GaveAll};
-    ghost use Rattle.edge_ports.specs.Streams.{writer_holds};
-    ghost use Rattle.edge_ports.specs.States.{no_loan};
+    ghost use Rattle.edge_ports.specs.{States.no_loan, Streams.writer_holds, Told.GaveAll};
+    ghost use Rattle.edge_ports.specs.Counts.{NotFallen, Rose};
 
     ghost given = { λ _. None };
 
@@ -113,7 +111,7 @@ impl<W: Write> Sink for StdSink<W> {
 
     ghost loan = { λ _. no_loan };
 
-    /// One write and a flush, as std says of the writer.
+    /// One write and a flush, as std says of the writer. Each is made again where a signal interrupts it.
     fn give(&mut self, piece: &[u8]) -> Result<usize, Failed>
         requires { 0 < length piece.now }
         ensures wrote { IfOk result (λ n. Appends (writer_holds W.contents self.old)

@@ -1,9 +1,7 @@
 //! A source in memory.
-ghost use Rattle.std.specs.Prelude.{◌≡◌, ◌<◌, ◌≤◌, ◌↔◌, Some, Ok, length, take, min, is_err, IfOk, IsErr, OnErr, OnOk};
-ghost use Rattle.std.specs.Prelude.{◌++◌, drop};
-ghost use Rattle.std.specs.Io.KnownBytes.{IsAtEnd};
-ghost use Rattle.edge_ports.specs.Counts.{Rose, NotFallen};
-ghost use Rattle.edge_ports.specs.Told.{TookAll};
+ghost use Rattle.std.specs.Prelude.{◌++◌, ◌<◌, ◌↔◌, ◌≡◌, ◌≤◌, IfOk, IsErr, Ok, OnErr, OnOk, Some, drop, is_err, length};
+ghost use Rattle.std.specs.{Prelude.min, Prelude.take, Io.KnownBytes.IsAtEnd};
+ghost use Rattle.edge_ports.specs.{Counts.NotFallen, Counts.Rose, Told.TookAll};
 ghost use Rattle.edge_ports.specs.States.{IsListed, plan_after, plan_of};
 
 use crate::plan::Plan;

@@ -1,10 +1,7 @@
 -- The lists of an effect grow by one address after another.
-use Rattle.std.proofs.Common.{◌≡◌, ℕ, ◌<◌, ◌≤◌, ◌+◌, suc, zero, [], ◌∷◌, ◌++◌, length, Option, Some, None, refl, ap, sym, ◌∙◌, arith, length-append}
-use Rattle.std.specs.Prelude.{option_to_list}
-use Rattle.std.specs.Option.{option_map}
-use Rattle.std.specs.List.{cons_option, filter_map, range_with_len}
-use Rattle.std.proofs.lemmas.List.{append-nil}
-use Rattle.std.proofs.lemmas.List.Elements.{filter_map-append}
+use Rattle.std.proofs.Common.{◌++◌, ◌+◌, ◌<◌, ◌∙◌, ◌∷◌, ◌≡◌, ◌≤◌, [], ℕ, None, Option, Some, ap, arith, length, length-append, option_to_list, refl, suc, sym}
+use Rattle.std.proofs.{Common.zero, lemmas.List.append-nil, lemmas.List.Elements.filter_map-append}
+use Rattle.std.specs.{List.cons_option, List.filter_map, List.range_with_len, Option.option_map}
 use Rattle.cell_value.specs.Effects.{listed}
 use Rattle.effect_log.specs.Lists.{listed_to}
 

@@ -1,12 +1,8 @@
 -- The cells of a block are marked one after another.
-use Rattle.std.proofs.Common.{◌≡◌, ◌≢◌, ℕ, ◌≤◌, ◌+◌, refl, ap, sym, ◌∙◌, arith, inl, inr, true, false, cond, Bool}
-use Rattle.std.specs.Prelude.{◌==◌, ◌&&◌, nat_le, nat_lt}
+use Rattle.std.proofs.Common.{◌&&◌, ◌+◌, ◌==◌, ◌∙◌, ◌≡◌, ◌≢◌, ◌≤◌, ℕ, Bool, ap, arith, cond, false, inl, inr, nat_le, nat_lt, refl, sym, true}
 use Rattle.std.proofs.lemmas.Bool.Decides.{eqb_tells, nat_tests}
 use Rattle.cell_value.specs.Effects.{is_shared}
-use Rattle.effect_log.specs.declared.cells.Cell.{Cell}
-use Rattle.effect_log.specs.declared.cells.Pages.{Pages}
-use Rattle.effect_log.specs.Pages.{cell_at}
-use Rattle.effect_log.specs.Marks.{MarksCells, block_mark, change_mark}
+use Rattle.effect_log.specs.{Marks.MarksCells, Marks.block_mark, Marks.change_mark, Pages.cell_at, declared.cells.Cell.Cell, declared.cells.Pages.Pages}
 
 either : {X : Type 0} (b : Bool) (x y : X) → x ≡ y → x ≡ cond b y x
 either true x y e = e

@@ -1,12 +1,8 @@
 -- The cells of a block are changed one after another, and what a touch does not name stays.
-use Rattle.std.proofs.Common.{◌≡◌, ◌≢◌, ℕ, ◌≤◌, ◌+◌, Option, Some, None, refl, ap, sym, ◌∙◌, arith, inl, inr, true, false, cond, Bool}
-use Rattle.std.specs.Prelude.{◌==◌, ◌&&◌, nat_le, nat_lt}
-use Rattle.std.specs.BTreeMap.{BTreeMap}
-use Rattle.std.proofs.lemmas.Bool.Decides.{eqb_tells, nat_tests}
-use Rattle.cell_value.specs.declared.entries.Seen.{Seen}
-use Rattle.cell_value.specs.declared.entries.Seen.TheVariants.{Held, There, Absent}
-use Rattle.cell_value.specs.declared.entries.Change.{Change}
+use Rattle.std.proofs.Common.{◌&&◌, ◌+◌, ◌==◌, ◌∙◌, ◌≡◌, ◌≢◌, ◌≤◌, ℕ, Bool, None, Option, Some, ap, arith, cond, false, inl, inr, nat_le, nat_lt, refl, sym}
+use Rattle.std.{proofs.Common.true, proofs.lemmas.Bool.Decides.eqb_tells, proofs.lemmas.Bool.Decides.nat_tests, specs.BTreeMap.BTreeMap}
 use Rattle.cell_value.specs.Effects.{changed_block, is_shared}
+use Rattle.cell_value.specs.declared.entries.{Change.Change, Seen.Seen, Seen.TheVariants.Absent, Seen.TheVariants.Held, Seen.TheVariants.There}
 use Rattle.effect_log.specs.Passing.{ChangesBy, found_at, later, seen_next}
 
 pub either : {X : Type 0} (b : Bool) (x : X) → x ≡ cond b x x

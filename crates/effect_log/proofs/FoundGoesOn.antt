@@ -1,15 +1,10 @@
 -- All that is found in touches goes on with one more touch, and at the end is their effect.
-use Rattle.std.proofs.Common.{◌≡◌, ℕ, List, [], ◌∷◌, ◌++◌, Some, None, refl, ap, sym, ◌∙◌, subst, true, false, cond, Bool, inl, inr, ◌⊎◌}
-use Rattle.std.specs.Prelude.{slice_get}
-use Rattle.cell_value.specs.declared.entries.Touch.{Touch}
+use Rattle.std.proofs.Common.{◌++◌, ◌∙◌, ◌∷◌, ◌≡◌, ◌⊎◌, [], ℕ, Bool, List, None, Some, ap, cond, false, inl, inr, refl, slice_get, subst, sym, true}
 use Rattle.cell_value.specs.Effects.{asked_by, change_at, changes_of, is_shared, read_by, reads_of, seen_at, seen_by, shared}
-use Rattle.effect_log.specs.declared.paged.Found.{Found}
-use Rattle.effect_log.specs.declared.page_lists.Lists.{Lists}
-use Rattle.effect_log.specs.Lists.{ListsReach}
-use Rattle.effect_log.specs.Marks.{PagesHold, IsMarked, PagesTakeIn, cell_after, changed_in, touch_numbered, first_before, seen_in, shown}
-use Rattle.effect_log.specs.Pages.{cell_at}
-use Rattle.effect_log.proofs.AddressesAreListed.{all_listed, listed_same}
-use Rattle.effect_log.proofs.TouchesMark.{cell_marked, one_more_counted}
+use Rattle.cell_value.specs.declared.entries.Touch.{Touch}
+use Rattle.effect_log.proofs.{AddressesAreListed.all_listed, AddressesAreListed.listed_same, TouchesMark.cell_marked, TouchesMark.one_more_counted}
+use Rattle.effect_log.specs.{Lists.ListsReach, Pages.cell_at, declared.page_lists.Lists.Lists, declared.paged.Found.Found}
+use Rattle.effect_log.specs.Marks.{IsMarked, PagesHold, PagesTakeIn, cell_after, changed_in, first_before, seen_in, shown, touch_numbered}
 
 pub one_more_found : (base place : ℕ) (log ts : List Touch) (number : ℕ) (t : Touch) → slice_get log number ≡ Some t → (old new : Found)
     → PagesHold base place log ts old → PagesTakeIn base place (record { number = number; touch = t }) old new → PagesHold base place log (ts ++ t ∷ []) new

@@ -1,15 +1,10 @@
 -- The lists of an effect go on with an address, and with a page of which nothing was found.
-use Rattle.std.proofs.Common.{◌≡◌, ℕ, ◌<◌, ◌+◌, ◌++◌, List, [], Option, ap, sym, ◌∙◌, subst}
-use Rattle.std.specs.Prelude.{option_to_list}
+use Rattle.std.proofs.Common.{◌++◌, ◌+◌, ◌<◌, ◌∙◌, ◌≡◌, [], ℕ, List, Option, ap, option_to_list, subst, sym}
 use Rattle.std.specs.Option.{option_map}
 use Rattle.cell_value.specs.declared.entries.Touch.{Touch}
-use Rattle.effect_log.specs.declared.cells.Pages.{Pages}
-use Rattle.effect_log.specs.declared.page_lists.Lists.{Lists}
-use Rattle.effect_log.specs.Lists.{ListsReach, listed_to}
-use Rattle.effect_log.specs.Marks.{changed_in, seen_in}
-use Rattle.effect_log.specs.Pages.{cell_at}
-use Rattle.effect_log.specs.Paging.{blank_cell}
 use Rattle.effect_log.proofs.AddressesAreListed.{listed_more, listed_skip, none_listed}
+use Rattle.effect_log.specs.{Lists.ListsReach, Lists.listed_to, Marks.changed_in, Marks.seen_in, Pages.cell_at, Paging.blank_cell}
+use Rattle.effect_log.specs.declared.{cells.Pages.Pages, page_lists.Lists.Lists}
 
 pub grows : {X : Type 0} (f : ℕ → Option X) (n : ℕ) (old new : List (ℕ × X)) (found : Option X) → old ≡ listed_to f n
     → new ≡ old ++ option_to_list (option_map (λ x. (n, x)) found) → found ≡ f n → new ≡ listed_to f (n + 1)

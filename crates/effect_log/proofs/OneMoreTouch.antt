@@ -1,14 +1,10 @@
 -- What a list of touches says, with one more touch: the first and the last that say something, sums, and what is changed.
-use Rattle.std.proofs.Common.{◌≡◌, ℕ, ◌+◌, List, [], ◌∷◌, ◌++◌, Option, Some, None, refl, ap, sym, ◌∙◌, cond, Bool, max, inl, inr, ◌⊎◌, take}
-use Rattle.std.proofs.Common.{zero-add}
-use Rattle.std.proofs.Math.Numerals.{one-add}
-use Rattle.std.specs.Prelude.{is_some, not, fold, map, sum_by, option_to_list}
-use Rattle.std.specs.List.{before_first, cons_option, filter_map, prefix_len}
-use Rattle.std.proofs.lemmas.List.{append-nil, map-append}
-use Rattle.std.proofs.lemmas.List.Elements.{filter_map-append}
-use Rattle.std.proofs.lemmas.List.Sums.{fold-append, sum_by-append}
-use Rattle.cell_value.specs.declared.entries.Touch.{Touch}
+use Rattle.std.proofs.Common.{◌++◌, ◌+◌, ◌∙◌, ◌∷◌, ◌≡◌, ◌⊎◌, [], ℕ, Bool, List, None, Option, Some, ap, cond, fold, inl, inr, is_some, map, max, not}
+use Rattle.std.proofs.Common.{option_to_list, refl, sum_by, sym, take, zero-add}
+use Rattle.std.{proofs.Math.Numerals.one-add, specs.List.before_first, specs.List.cons_option, specs.List.filter_map, specs.List.prefix_len}
+use Rattle.std.proofs.lemmas.List.{append-nil, map-append, Elements.filter_map-append, Sums.fold-append, Sums.sum_by-append}
 use Rattle.cell_value.specs.Effects.{change_at, change_by, head_of, last_of, looked_by, looked_of}
+use Rattle.cell_value.specs.declared.entries.Touch.{Touch}
 use Rattle.effect_log.specs.Passing.{later}
 
 -- ---- the last and the first of a list with one more element, or none more

@@ -1,12 +1,9 @@
 -- A page that is made and a cell that is set leave all other cells as they were.
-use Rattle.std.proofs.Common.{◌≡◌, ◌≢◌, ℕ, ◌<◌, ◌+◌, ◌/◌, ◌%◌, List, [], ◌∷◌, ◌++◌, suc, zero, length, get_or, set, Option, Some, None, refl, ap, sym, ◌∙◌}
-use Rattle.std.proofs.Common.{arith, inl, inr, ◌⊎◌, cond}
-use Rattle.std.specs.Prelude.{◌==◌}
-use Rattle.std.proofs.lemmas.Bool.Decides.{eqb_tells, leb_tells}
-use Rattle.std.proofs.lemmas.List.{get_or-append-add, get_or-set_same, get_or-set_other, length-set}
-use Rattle.std.proofs.Math.ListN.{get_or-append}
-use Rattle.effect_log.specs.declared.cells.Cell.{Cell}
-use Rattle.effect_log.specs.Paging.{IsPaged, cell_in, blank_cell}
+use Rattle.std.proofs.Common.{◌%◌, ◌++◌, ◌+◌, ◌/◌, ◌<◌, ◌==◌, ◌∙◌, ◌∷◌, ◌≡◌, ◌≢◌, ◌⊎◌, [], ℕ, List, None, Option, Some, ap, arith, cond, get_or, inl, inr}
+use Rattle.std.proofs.Common.{length, refl, set, suc, sym, zero}
+use Rattle.std.proofs.{Math.ListN.get_or-append, lemmas.Bool.Decides.eqb_tells, lemmas.Bool.Decides.leb_tells}
+use Rattle.std.proofs.lemmas.List.{get_or-append-add, get_or-set_other, get_or-set_same, length-set}
+use Rattle.effect_log.specs.{Paging.IsPaged, Paging.blank_cell, Paging.cell_in, declared.cells.Cell.Cell}
 
 option_cases : {X : Type 0} (o : Option X) → ((x : X) × (o ≡ Some x)) ⊎ (o ≡ None)
 option_cases (Some x) = inl (x, refl)

@@ -1,16 +1,9 @@
 -- A map's entries by rising key are what it gives at each key, one key after another.
-use Rattle.std.proofs.Common.{◌≡◌, ◌≢◌, ℕ, ◌≤◌, ◌+◌, suc, zero, List, [], ◌∷◌, length, Option, Some, None, refl, ap, sym, ◌∙◌, subst, arith, inl, inr, true}
-use Rattle.std.proofs.Common.{false, cond}
-use Rattle.std.specs.Prelude.{◌==◌}
-use Rattle.std.specs.Option.{option_map}
-use Rattle.std.specs.Ordering.{nat_cmp}
-use Rattle.std.specs.Cmp.{unsigned_tied}
-use Rattle.std.specs.BTreeMap.{is_at}
-use Rattle.std.specs.Map.{lookup, keys_of}
-use Rattle.std.specs.List.{cons_option, filter_map, range_with_len}
-use Rattle.std.specs.List.Sorted.{IsStrictlySortedBy}
-use Rattle.std.proofs.lemmas.Bool.Decides.{eqb_tells, nat_tests}
-use Rattle.std.proofs.lemmas.Map.Keys.{sorted_tail, below_from_sorted}
+use Rattle.std.proofs.Common.{◌+◌, ◌==◌, ◌∙◌, ◌∷◌, ◌≡◌, ◌≢◌, ◌≤◌, [], ℕ, List, None, Option, Some, ap, arith, cond, false, inl, inr, length, refl, subst, suc}
+use Rattle.std.proofs.Common.{sym, true, zero}
+use Rattle.std.proofs.lemmas.{Bool.Decides.eqb_tells, Bool.Decides.nat_tests, Map.Keys.below_from_sorted, Map.Keys.sorted_tail}
+use Rattle.std.specs.{BTreeMap.is_at, Cmp.unsigned_tied, Map.keys_of, Map.lookup, Option.option_map, Ordering.nat_cmp}
+use Rattle.std.specs.List.{cons_option, filter_map, range_with_len, Sorted.IsStrictlySortedBy}
 use Rattle.cell_value.specs.Effects.{listed}
 
 module _ {X : Type 0} where

@@ -1,20 +1,14 @@
 -- What is found in touches, one more touch at a time.
-use Rattle.std.proofs.Common.{◌≡◌, ℕ, ◌+◌, List, [], ◌∷◌, ◌++◌, Option, Some, None, refl, ap, sym, ◌∙◌, true, false, cond, Bool, max, inl, inr}
-use Rattle.std.specs.Prelude.{option_to_list}
-use Rattle.std.specs.List.{before_first, filter_map}
-use Rattle.effect_log.proofs.BlocksChange.{nothing_seen}
-use Rattle.std.proofs.lemmas.List.{append-nil}
-use Rattle.std.proofs.lemmas.List.Elements.{filter_map-append}
-use Rattle.cell_value.specs.declared.values.Value.{Value}
-use Rattle.cell_value.specs.declared.entries.Touch.{Touch}
-use Rattle.cell_value.specs.declared.entries.Touch.TheVariants.{Read, Has, Write, Make, Drop, Look, Take, Give}
-use Rattle.cell_value.specs.declared.entries.Change.{Change}
-use Rattle.cell_value.specs.Effects.{asked_by, byte_by, change_at, change_by, head_of, given_of, is_shared, last_of, looked_by, made_by, read_by}
-use Rattle.cell_value.specs.Effects.{seen_at, seen_by, shown_by, taken_by}
-use Rattle.effect_log.specs.declared.found.Found.{Found}
-use Rattle.effect_log.proofs.OneMoreTouch.{all_before, before_changing, before_none, before_other, before_some, change_more, changes, first_more}
-use Rattle.effect_log.proofs.OneMoreTouch.{looked_more, one_option, option_cases, sooner, sum_more}
+use Rattle.std.proofs.Common.{◌++◌, ◌+◌, ◌∙◌, ◌∷◌, ◌≡◌, [], ℕ, Bool, List, None, Option, Some, ap, cond, false, inl, inr, max, option_to_list, refl, sym, true}
+use Rattle.std.{proofs.lemmas.List.append-nil, proofs.lemmas.List.Elements.filter_map-append, specs.List.before_first, specs.List.filter_map}
+use Rattle.cell_value.specs.Effects.{asked_by, byte_by, change_at, change_by, given_of, head_of, is_shared, last_of, looked_by, made_by, read_by, seen_at}
+use Rattle.cell_value.specs.Effects.{seen_by, shown_by, taken_by}
+use Rattle.cell_value.specs.declared.{entries.Change.Change, entries.Touch.Touch, values.Value.Value}
+use Rattle.cell_value.specs.declared.entries.Touch.TheVariants.{Drop, Give, Has, Look, Make, Read, Take, Write}
+use Rattle.effect_log.proofs.{BlocksChange.nothing_seen, OneMoreTouch.one_option, OneMoreTouch.option_cases, OneMoreTouch.sooner, OneMoreTouch.sum_more}
+use Rattle.effect_log.proofs.OneMoreTouch.{all_before, before_changing, before_none, before_other, before_some, change_more, changes, first_more, looked_more}
 use Rattle.effect_log.specs.Passing.{IsFound, TakesIn, found_at, later, seen_next}
+use Rattle.effect_log.specs.declared.found.Found.{Found}
 
 -- ---- one address
 

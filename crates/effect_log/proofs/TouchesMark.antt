@@ -1,22 +1,15 @@
 -- What is found in touches, one more touch at a time.
-use Rattle.std.proofs.Common.{◌≡◌, ℕ, ◌+◌, List, [], ◌∷◌, ◌++◌, Option, Some, None, refl, ap, sym, ◌∙◌, true, false, cond, Bool, max, inl, inr}
-use Rattle.std.specs.Prelude.{◌==◌, ◌&&◌, is_some, option_to_list, nat_le, nat_lt, slice_get}
-use Rattle.std.specs.List.{filter_map}
-use Rattle.std.proofs.lemmas.List.{append-nil}
-use Rattle.std.proofs.lemmas.List.Elements.{filter_map-append}
-use Rattle.cell_value.specs.declared.values.Value.TheVariants as value
-use Rattle.cell_value.specs.declared.entries.Touch.{Touch}
-use Rattle.cell_value.specs.declared.entries.Touch.TheVariants.{Read, Has, Write, Make, Drop, Look, Take, Give}
-use Rattle.cell_value.specs.declared.entries.Change.{Change}
-use Rattle.cell_value.specs.declared.entries.Change.TheVariants.{Set, Gone}
-use Rattle.cell_value.specs.Effects.{asked_by, byte_by, change_at, change_by, head_of, given_of, looked_by, made_by, read_by, taken_by}
-use Rattle.effect_log.specs.Passing.{later}
-use Rattle.effect_log.proofs.OneMoreTouch.{all_before, before_changing, before_none, before_other, before_some, change_more, first_more}
-use Rattle.effect_log.proofs.OneMoreTouch.{looked_more, one_option, option_cases, sooner, sum_more}
-use Rattle.effect_log.specs.declared.paged.Found.{Found}
-use Rattle.effect_log.specs.declared.cells.Cell.{Cell}
-use Rattle.effect_log.specs.Marks.{HasCounts, IsMarked, IsNumberOf, PagesTakeIn, answer_mark, cell_after, change_mark, first_before}
-use Rattle.effect_log.specs.Marks.{first_mark, read_mark, shown}
+use Rattle.std.proofs.Common.{◌&&◌, ◌++◌, ◌+◌, ◌==◌, ◌∙◌, ◌∷◌, ◌≡◌, [], ℕ, Bool, List, None, Option, Some, ap, cond, false, inl, inr, is_some, max, nat_le}
+use Rattle.std.proofs.Common.{nat_lt, option_to_list, refl, slice_get, sym, true}
+use Rattle.std.{proofs.lemmas.List.append-nil, proofs.lemmas.List.Elements.filter_map-append, specs.List.filter_map}
+use Rattle.cell_value.specs.Effects.{asked_by, byte_by, change_at, change_by, given_of, head_of, looked_by, made_by, read_by, taken_by}
+use Rattle.cell_value.specs.declared.entries.{Change.Change, Change.TheVariants.Gone, Change.TheVariants.Set, Touch.Touch}
+use Rattle.cell_value.specs.declared.entries.Touch.TheVariants.{Drop, Give, Has, Look, Make, Read, Take, Write}
+use Rattle.cell_value.specs.declared.values.Value.{Value}
+use Rattle.effect_log.proofs.OneMoreTouch.{all_before, before_changing, before_none, before_other, before_some, change_more, first_more, looked_more}
+use Rattle.effect_log.proofs.OneMoreTouch.{one_option, option_cases, sooner, sum_more}
+use Rattle.effect_log.specs.{Marks.shown, Passing.later, declared.cells.Cell.Cell, declared.paged.Found.Found}
+use Rattle.effect_log.specs.Marks.{HasCounts, IsMarked, IsNumberOf, PagesTakeIn, answer_mark, cell_after, change_mark, first_before, first_mark, read_mark}
 
 -- ---- one address
 
@@ -154,9 +147,9 @@ cell_marked log ts addr number (Write at value) cell is marked =
 cell_marked log ts addr number (Make first cells kind) cell is marked =
     let inside : Bool = nat_le first addr && nat_lt addr (first + cells) in
     by_test (IsMarked log (ts ++ Make first cells kind ∷ []) addr) inside (change_mark number cell) cell
-    (λ (e : inside ≡ true). changes_here log ts addr number (Make first cells kind) cell is marked (Set value.Undefined)
-    (ap (λ b. cond b (Some (Set value.Undefined)) None) e) refl refl)
-    (λ (e : inside ≡ false). not_here log ts addr number (Make first cells kind) cell is marked (ap (λ b. cond b (Some (Set value.Undefined)) None) e) refl
+    (λ (e : inside ≡ true). changes_here log ts addr number (Make first cells kind) cell is marked (Set Value.Undefined)
+    (ap (λ b. cond b (Some (Set Value.Undefined)) None) e) refl refl)
+    (λ (e : inside ≡ false). not_here log ts addr number (Make first cells kind) cell is marked (ap (λ b. cond b (Some (Set Value.Undefined)) None) e) refl
     refl)
 cell_marked log ts addr number (Drop first cells) cell is marked =
     let inside : Bool = nat_le first addr && nat_lt addr (first + cells) in

@@ -1,8 +1,7 @@
 -- How a log is kept: an entry for each touch, and aside the touches with sets.
-use Rattle.std.specs.Prelude.{◌≤◌, All, List, map, length, vec_len}
+use Rattle.std.specs.Prelude.{◌≤◌, All, List, length, map, vec_len}
 use Rattle.cell_value.specs.declared.entries.Touch.{Touch}
-use Rattle.effect_log.specs.declared.log.Log.TheInside.{Inside}
-use Rattle.effect_log.specs.Entries.{IsWithin, touch_of}
+use Rattle.effect_log.specs.{Entries.IsWithin, Entries.touch_of, declared.log.Log.TheInside.Inside}
 
 abbrev pub touches_of : Inside → List Touch
 touches_of kept = map (touch_of kept.aside.items) kept.entries.items

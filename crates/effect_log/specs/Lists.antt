@@ -1,12 +1,9 @@
 -- The lists of an effect, one address after another.
 use Rattle.std.specs.Prelude.{◌≡◌, ℕ, List, Option}
-use Rattle.std.specs.Option.{option_map}
-use Rattle.std.specs.List.{filter_map, range_with_len}
+use Rattle.std.specs.{List.filter_map, List.range_with_len, Option.option_map}
 use Rattle.cell_value.specs.declared.entries.Touch.{Touch}
-use Rattle.effect_log.specs.declared.page_lists.Lists.{Lists}
-use Rattle.effect_log.specs.declared.cells.Pages.{Pages}
-use Rattle.effect_log.specs.Marks.{changed_in, seen_in}
-use Rattle.effect_log.specs.Pages.{cell_at}
+use Rattle.effect_log.specs.{Marks.changed_in, Marks.seen_in, Pages.cell_at}
+use Rattle.effect_log.specs.declared.{cells.Pages.Pages, page_lists.Lists.Lists}
 
 -- what a function gives at each address below this one where it gives something, by rising address
 unfoldable pub listed_to : {X : Type 0} → (ℕ → Option X) → ℕ → List (ℕ × X)

@@ -1,18 +1,13 @@
 -- What an entry of the log changes in what was found of each address, and what the numbers of entries stand for.
-use Rattle.std.specs.Prelude.{◌≡◌, ◌+◌, ◌==◌, ◌&&◌, ◌++◌, ℕ, true, false, if◌then◌else◌, is_some, max, nat_le, nat_lt}
-use Rattle.std.specs.Prelude.{List, Option, Some, None, slice_get, option_to_list}
+use Rattle.std.specs.Prelude.{if◌then◌else◌, ◌&&◌, ◌++◌, ◌+◌, ◌==◌, ◌≡◌, ℕ, List, None, Option, Some, false, is_some}
+use Rattle.std.specs.Prelude.{max, nat_le, nat_lt, option_to_list, slice_get, true}
 use Rattle.std.specs.List.{before_first, filter_map}
-use Rattle.cell_value.specs.declared.entries.Touch.{Touch}
-use Rattle.cell_value.specs.declared.entries.Touch.TheVariants.{Read, Has, Write, Make, Drop}
-use Rattle.cell_value.specs.declared.entries.Seen.{Seen}
-use Rattle.cell_value.specs.declared.entries.Change.{Change}
-use Rattle.cell_value.specs.Effects.{asked_by, byte_by, change_at, change_by, head_of, given_of, is_shared, looked_by}
+use Rattle.cell_value.specs.Effects.{asked_by, byte_by, change_at, change_by, given_of, head_of, is_shared, looked_by}
 use Rattle.cell_value.specs.Effects.{looked_of, made_by, made_of, read_by, seen_by, taken_by, taken_of}
-use Rattle.effect_log.specs.declared.paged.Found.{Found}
-use Rattle.effect_log.specs.declared.cells.Cell.{Cell}
-use Rattle.effect_log.specs.declared.cells.Pages.{Pages}
-use Rattle.effect_log.specs.Pages.{cell_at}
-use Rattle.effect_log.specs.Paging.{blank_cell}
+use Rattle.cell_value.specs.declared.entries.{Change.Change, Seen.Seen, Touch.Touch}
+use Rattle.cell_value.specs.declared.entries.Touch.TheVariants.{Drop, Has, Make, Read, Write}
+use Rattle.effect_log.specs.{Pages.cell_at, Paging.blank_cell}
+use Rattle.effect_log.specs.declared.{cells.Cell.Cell, cells.Pages.Pages, paged.Found.Found}
 
 -- the first number before a change: another one is the first if there is none yet and nothing was changed
 abbrev pub first_mark : Option ℕ → Option ℕ → ℕ → Option ℕ

@@ -1,5 +1,5 @@
 -- How cells are kept in pages of 32.
-use Rattle.std.specs.Prelude.{◌≡◌, ◌≢◌, ◌≤◌, ◌+◌, ℕ, List, Option, Some, None, length, slice_index_or}
+use Rattle.std.specs.Prelude.{◌+◌, ◌≡◌, ◌≢◌, ◌≤◌, ℕ, List, None, Option, Some, length, slice_index_or}
 use Rattle.effect_log.specs.declared.cells.Cell.{Cell}
 
 -- the cell of an address of which nothing was found

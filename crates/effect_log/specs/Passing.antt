@@ -1,15 +1,10 @@
 -- One pass over touches: what has been found after some of them, and how one more touch adds to it.
-use Rattle.std.specs.Prelude.{◌≡◌, ℕ, Bool, true, false, ◌+◌, ◌++◌, if◌then◌else◌, max, List, Option, Some, None}
-use Rattle.std.specs.Prelude.{option_to_list}
-use Rattle.std.specs.Ordering.{nat_cmp}
-use Rattle.std.specs.BTreeMap.{BTreeMap, get}
-use Rattle.cell_value.specs.declared.values.Value.{Value}
-use Rattle.cell_value.specs.declared.entries.Touch.{Touch}
-use Rattle.cell_value.specs.declared.entries.Seen.{Seen}
-use Rattle.cell_value.specs.declared.entries.Seen.TheVariants.{Held, There, Absent}
-use Rattle.cell_value.specs.declared.entries.Change.{Change}
+use Rattle.std.specs.Prelude.{if◌then◌else◌, ◌++◌, ◌+◌, ◌≡◌, ℕ, Bool, List, None, Option, Some, false, max}
+use Rattle.std.specs.{Prelude.option_to_list, Prelude.true, BTreeMap.BTreeMap, BTreeMap.get, Ordering.nat_cmp}
 use Rattle.cell_value.specs.Effects.{asked_by, byte_by, change_at, change_by, given_of, is_shared, looked_by, looked_of}
 use Rattle.cell_value.specs.Effects.{made_by, made_of, read_by, seen_at, seen_by, shared, taken_by, taken_of}
+use Rattle.cell_value.specs.declared.{entries.Change.Change, entries.Touch.Touch, values.Value.Value}
+use Rattle.cell_value.specs.declared.entries.Seen.{Seen, TheVariants.Absent, TheVariants.Held, TheVariants.There}
 use Rattle.effect_log.specs.declared.found.Found.{Found}
 
 -- what a map has at each address

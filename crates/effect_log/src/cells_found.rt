@@ -1,5 +1,5 @@
 //! Maps of what is found of each cell while the log is gone over.
-ghost use Rattle.std.specs.Prelude.{◌≡◌, ◌==◌, ◌≤◌, ℕ, if◌then◌else◌, IfOk, None, OnOk, Some, vec_len};
+ghost use Rattle.std.specs.Prelude.{if◌then◌else◌, ◌==◌, ◌≡◌, ◌≤◌, ℕ, IfOk, None, OnOk, Some, vec_len};
 ghost use Rattle.cell_value.specs.Effects.{is_shared, listed};
 ghost use Rattle.effect_log.specs.Passing.{found_at};
 

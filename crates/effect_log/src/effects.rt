@@ -1,5 +1,5 @@
 //! The effect of a part of the log.
-ghost use Rattle.std.specs.Prelude.{◌≡◌, ◌<◌, ◌≤◌, ◌^◌, All, IfOk, length, slice_range};
+ghost use Rattle.std.specs.Prelude.{◌<◌, ◌^◌, ◌≡◌, ◌≤◌, All, IfOk, length, slice_range};
 ghost use Rattle.cell_value.specs.Effects.{IsCountable, changes_of, given_of, looked_of, made_of, reads_of, taken_of};
 ghost use Rattle.effect_log.specs.Marks.{PagesHold};
 

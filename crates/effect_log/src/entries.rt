@@ -1,7 +1,7 @@
 //! What entries of the log show of an address.
-ghost use Rattle.std.specs.Prelude.{◌≡◌, ◌+◌};
+ghost use Rattle.std.specs.Prelude.{◌+◌, ◌≡◌};
 ghost use Rattle.cell_value.specs.Effects.{asked_by, change_by, changed_block, read_by};
-ghost use Rattle.effect_log.specs.Marks.{changed_in, touch_numbered, seen_in, shown};
+ghost use Rattle.effect_log.specs.Marks.{changed_in, seen_in, shown, touch_numbered};
 
 use crate::cells::Cell;
 use crate::log::Log;

@@ -1,9 +1,8 @@
 //! What has been found in the log so far.
-ghost use Rattle.std.specs.Prelude.{◌≡◌, ◌<◌, ◌≤◌, ◌+◌, ◌^◌, OnOk, Some, [], ℕ};
-ghost use Rattle.cell_value.specs.declared.entries.Change.{Change as CellChange};
+ghost use Rattle.std.specs.Prelude.{◌+◌, ◌<◌, ◌^◌, ◌≡◌, ◌≤◌, [], ℕ, OnOk, Some};
+ghost use Rattle.cell_value.specs.{Effects.taken_by, declared.entries.Change.Change as CellChange};
+ghost use Rattle.cell_value.specs.Effects.{IsCountable, change_by, changed_block, given_of, looked_by, made_by};
 ghost use Rattle.cell_value.specs.declared.entries.Touch.TheVariants as touch;
-ghost use Rattle.cell_value.specs.Effects.{IsCountable, change_by, changed_block, given_of, looked_by};
-ghost use Rattle.cell_value.specs.Effects.{made_by, taken_by};
 ghost use Rattle.effect_log.specs.Passing.{ChangesBy, IsFound, Sees, TakesIn, was_read_lem};
 
 use crate::cells_found::{find, is_shared_cell, put};

@@ -1,5 +1,5 @@
 //! The lists of an effect.
-ghost use Rattle.std.specs.Prelude.{◌≡◌, ◌<◌, [], ◌∷◌, ◌++◌, length, OnOk, OnErr, Some, slice_get};
+ghost use Rattle.std.specs.Prelude.{◌++◌, ◌<◌, ◌∷◌, ◌≡◌, [], OnErr, OnOk, Some, length, slice_get};
 
 use cell_value::{Change, Memory, Seen};
 use std::alloc::Global;
@@ -13,7 +13,7 @@ pub struct Reads {
 }
 
 impl Model for Reads {
-    ghost use Rattle.std.specs.Prelude.{List, ℕ, ◌<◌, ◌^◌, vec_len};
+    ghost use Rattle.std.specs.Prelude.{◌<◌, ◌^◌, ℕ, List, vec_len};
     ghost use Rattle.cell_value.specs.declared.entries.Seen.{Seen};
 
     ghost Value = { List (ℕ × Seen) };
@@ -68,7 +68,7 @@ pub struct Changes {
 }
 
 impl Model for Changes {
-    ghost use Rattle.std.specs.Prelude.{List, ℕ, ◌<◌, ◌^◌, vec_len};
+    ghost use Rattle.std.specs.Prelude.{◌<◌, ◌^◌, ℕ, List, vec_len};
     ghost use Rattle.cell_value.specs.declared.entries.Change.{Change};
 
     ghost Value = { List (ℕ × Change) };

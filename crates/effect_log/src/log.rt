@@ -1,5 +1,5 @@
 //! The log, sixteen bytes an entry.
-ghost use Rattle.std.specs.Prelude.{◌≡◌, ◌<◌, [], ◌∷◌, ◌++◌, IfSome, OnErr, OnOk, Some, length, slice_get};
+ghost use Rattle.std.specs.Prelude.{◌++◌, ◌<◌, ◌∷◌, ◌≡◌, [], IfSome, OnErr, OnOk, Some, length, slice_get};
 ghost use Rattle.effect_log.specs.Entries.{IsEntryOf, IsWithin, touch_of};
 
 use cell_value::{Memory, Touch, Value};

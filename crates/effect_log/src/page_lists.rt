@@ -1,5 +1,5 @@
 //! The lists of an effect, out of the cells.
-ghost use Rattle.std.specs.Prelude.{◌≡◌, ◌<◌, ◌+◌, ◌*◌, ◌++◌, IfOk, OnOk, length, option_to_list};
+ghost use Rattle.std.specs.Prelude.{◌*◌, ◌++◌, ◌+◌, ◌<◌, ◌≡◌, IfOk, OnOk, length, option_to_list};
 ghost use Rattle.std.specs.Option.{option_map};
 ghost use Rattle.effect_log.specs.Lists.{ListsReach};
 

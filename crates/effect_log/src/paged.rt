@@ -1,8 +1,8 @@
 //! What has been found in the log so far.
-ghost use Rattle.std.specs.Prelude.{◌≡◌, ◌<◌, ◌≤◌, ◌+◌, ◌^◌, ◌==◌, IfOk, OnOk, [], ℕ, List, if◌then◌else◌};
-ghost use Rattle.cell_value.specs.declared.entries.Touch.{Touch as LogTouch};
+ghost use Rattle.std.specs.Prelude.{if◌then◌else◌, ◌+◌, ◌<◌, ◌==◌, ◌^◌, ◌≡◌, ◌≤◌, [], ℕ, IfOk, List, OnOk};
 ghost use Rattle.cell_value.specs.Effects.{IsCountable, is_shared, made_by, taken_by};
-ghost use Rattle.effect_log.specs.Marks.{PagesHold, MarksCells, PagesTakeIn, answer_mark, block_mark, change_mark};
+ghost use Rattle.cell_value.specs.declared.entries.Touch.{Touch as LogTouch};
+ghost use Rattle.effect_log.specs.Marks.{MarksCells, PagesHold, PagesTakeIn, answer_mark, block_mark, change_mark};
 ghost use Rattle.effect_log.specs.Marks.{read_mark};
 
 use crate::cells::{Cell, Pages};

@@ -1,8 +1,7 @@
 //! Cells by address, in pages that are made when an address of theirs is first written.
-ghost use Rattle.std.specs.Prelude.{◌≡◌, ◌<◌, ◌+◌, ◌*◌, ◌==◌, ℕ, IfOk, OnOk, None, Some, false, if◌then◌else◌};
+ghost use Rattle.std.specs.Prelude.{if◌then◌else◌, ◌*◌, ◌+◌, ◌<◌, ◌==◌, ◌≡◌, ℕ, IfOk, None, OnOk, Some, false};
 ghost use Rattle.std.specs.Prelude.{slice_index_or};
-ghost use Rattle.effect_log.specs.Pages.{cell_at};
-ghost use Rattle.effect_log.specs.Paging.{blank_cell};
+ghost use Rattle.effect_log.specs.{Pages.cell_at, Paging.blank_cell};
 
 use crate::cells::{Cell, NOTHING, Pages};
 use cell_value::Memory;

@@ -1,27 +1,11 @@
 -- Actions, one after another.
-use Rattle.std.proofs.Common.{◌≡◌, List, [], ◌++◌, Result, Ok, Err, refl, sym, ap, ◌∙◌, append_assoc, append-nil}
+use Rattle.std.proofs.Common.{◌++◌, ◌∙◌, ◌≡◌, [], Err, List, Ok, Result, ap, append-nil, append_assoc, refl, sym}
 use Rattle.cell_value.specs.declared.entries.Touch.{Touch}
+use Rattle.core_program.specs.Actions.{◌>>=◌, Action, Fail, Finished, Give, NoMeaning, NotMeant, Perform, Performed, Stopped, act, before, follow, performs}
+use Rattle.core_program.specs.Acts.{Act, ActResult, Answer, Stops, Went, perform}
 use Rattle.core_program.specs.State.{State}
-use Rattle.core_program.specs.Acts.{Act, Answer, ActResult, Went, Stops, perform}
-use Rattle.core_program.specs.Actions.{
-  Action,
-  Give,
-  Fail,
-  NoMeaning,
-  Perform,
-  ◌>>=◌,
-  Performed,
-  Finished,
-  Stopped,
-  NotMeant,
-  before,
-  follow,
-  performs,
-  act,
-}
-use Rattle.eval_ops.specs.declared.halt.Halt.{Halt}
-use Rattle.eval_ops.specs.declared.halt.Halt.TheVariants.{Fault, OutOfSteps, Limited, Memory}
-use Rattle.eval_ops.specs.Machines.{Moment, ActionFinished, DoesAct, DoesAll, Gives}
+use Rattle.eval_ops.specs.Machines.{ActionFinished, DoesAct, DoesAll, Gives, Moment}
+use Rattle.eval_ops.specs.declared.halt.Halt.{Halt, TheVariants.Fault, TheVariants.Limited, TheVariants.Memory, TheVariants.OutOfSteps}
 
 before_nothing : {A : Type 0} (x : Performed A) → before [] x ≡ x
 before_nothing (Finished x w σ) = refl

@@ -1,12 +1,10 @@
 -- Bounds that are handed on as machine words.
+use Rattle.std.proofs.{Common.ℤ, Common.Result, Common.subst, lemmas.Int.to_z-of_z}
 use mir.Syntax.{w32}
 use mir.Val.{SFits, of_z, to_z}
-use Rattle.std.proofs.Common.{ℤ, Result, subst}
-use Rattle.std.proofs.lemmas.Int.{to_z-of_z}
 use Rattle.cell_value.specs.declared.values.Value.{Value}
 use Rattle.core_program.specs.Actions.{Action}
-use Rattle.eval_ops.specs.declared.halt.Halt.{Halt}
-use Rattle.eval_ops.specs.Machines.{Gives}
+use Rattle.eval_ops.specs.{Machines.Gives, declared.halt.Halt.Halt}
 
 abbrev word : ℤ → ℤ
 word n = to_z w32 (of_z w32 n)

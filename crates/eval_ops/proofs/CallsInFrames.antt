@@ -1,16 +1,11 @@
 -- What a call may rely on: the limits that were asked, and what making its frame did.
-use Rattle.std.proofs.Common.{◌≡◌, ℕ, ◌+◌, Bool, true, false, List, [], Some, None, refl, nat_lt, if◌then◌else◌, arith}
+use Rattle.std.proofs.Common.{if◌then◌else◌, ◌+◌, ◌≡◌, [], ℕ, Bool, List, None, Some, arith, false, nat_lt, refl, true}
 use Rattle.std.proofs.lemmas.Bool.Decides.{nat_tests}
-use Rattle.cell_value.specs.declared.values.Value.{Value}
-use Rattle.cell_value.specs.declared.ways_out.Which.TheVariants.{Stack}
-use Rattle.core_program.specs.declared.program.Routine.{Routine}
-use Rattle.core_program.specs.State.{State, stack_end}
-use Rattle.core_program.specs.Acts.{OutOfSteps, Limited, ActResult, Went, Stops, spent, limit_passed}
-use Rattle.core_program.specs.Tree.{way_of}
-use Rattle.core_program.specs.Run.{Outcome, Halted, ends, after_all, with_frame, without_frame, in_frame}
-use Rattle.eval_ops.specs.declared.machine.Machine.{Machine}
-use Rattle.eval_ops.specs.Machines.{AllowsCall, machine_state}
-use Rattle.eval_ops.specs.Frames.{framing}
+use Rattle.cell_value.specs.declared.{values.Value.Value, ways_out.Which.TheVariants.Stack}
+use Rattle.core_program.specs.{State.State, State.stack_end, Tree.way_of, declared.program.Routine.Routine}
+use Rattle.core_program.specs.Acts.{ActResult, Limited, OutOfSteps, Stops, Went, limit_passed, spent}
+use Rattle.core_program.specs.Run.{Halted, Outcome, after_all, ends, in_frame, with_frame, without_frame}
+use Rattle.eval_ops.specs.{Frames.framing, Machines.AllowsCall, Machines.machine_state, declared.machine.Machine.Machine}
 
 -- goes on in a frame that was made
 abbrev pub on_framing : ActResult (Unit {0}) → (State → Outcome) → Outcome

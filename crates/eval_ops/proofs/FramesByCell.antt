@@ -1,10 +1,8 @@
 -- Frames and blocks, made and removed a cell at a time.
-use Rattle.std.proofs.Common.{◌≡◌, ℕ, suc, ◌+◌, List, Some, ap, ◌∙◌, drop, replicate, slice_get, arith}
-use Rattle.std.specs.Ordering.{nat_cmp}
-use Rattle.std.specs.FinMap.{FinMap, insert, remove}
-use Rattle.cell_value.specs.declared.values.Value.{Value}
-use Rattle.cell_value.specs.declared.values.Value.TheVariants.{Undefined}
-use Rattle.core_program.specs.Blocks.{filled, cleared}
+use Rattle.std.proofs.Common.{◌+◌, ◌∙◌, ◌≡◌, ℕ, List, Some, ap, arith, drop, replicate, slice_get, suc}
+use Rattle.std.specs.{FinMap.FinMap, FinMap.insert, FinMap.remove, Ordering.nat_cmp}
+use Rattle.cell_value.specs.declared.values.Value.{Value, TheVariants.Undefined}
+use Rattle.core_program.specs.Blocks.{cleared, filled}
 use Rattle.eval_ops.proofs.Lists.{drop_get}
 
 -- one cell more is made

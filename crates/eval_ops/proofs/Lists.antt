@@ -1,5 +1,5 @@
 -- A list from a place on.
-use Rattle.std.proofs.Common.{◌≡◌, ℕ, zero, suc, List, [], ◌∷◌, Some, drop, slice_get, ap}
+use Rattle.std.proofs.Common.{◌∷◌, ◌≡◌, [], ℕ, List, Some, ap, drop, slice_get, suc, zero}
 use Rattle.core_program.proofs.OutcomesCompose.{some_same}
 
 pub drop_get : {A : Type 0} (xs : List A) (i : ℕ) (x : A) → slice_get xs i ≡ Some x → drop i xs ≡ x ∷ drop (suc i) xs

@@ -1,13 +1,11 @@
 -- Actions over many cells, at the next one.
-use Rattle.std.proofs.Common.{◌≡◌, ℕ, suc, ◌+◌, ◌-◌, ◌<◌, List, [], ◌∷◌, ◌++◌, Some, drop, length, slice_get, ap, subst, ◌∙◌, arith}
+use Rattle.std.proofs.Common.{◌++◌, ◌+◌, ◌-◌, ◌<◌, ◌∙◌, ◌∷◌, ◌≡◌, [], ℕ, List, Some, ap, arith, drop, length, slice_get, subst, suc}
 use Rattle.std.proofs.lemmas.List.{length-append}
 use Rattle.cell_value.specs.declared.values.Value.{Value}
-use Rattle.core_program.specs.State.{moved}
-use Rattle.core_program.specs.Actions.{Action, ◌>>=◌}
-use Rattle.core_program.specs.Cells.{read_value, read_values, write, writes, linked, frame_out}
+use Rattle.core_program.specs.{Actions.◌>>=◌, Actions.Action, State.moved}
+use Rattle.core_program.specs.Cells.{frame_out, linked, read_value, read_values, write, writes}
+use Rattle.eval_ops.proofs.{ActionsCompose.CameTo, Lists.drop_get}
 use Rattle.eval_ops.specs.Machines.{Moment}
-use Rattle.eval_ops.proofs.ActionsCompose.{CameTo}
-use Rattle.eval_ops.proofs.Lists.{drop_get}
 
 pub at_link : {first : Action ℕ} {m0 m : Moment} (frame levels i : ℕ) → i < levels → CameTo first m0 (frame_out (levels - i) frame) m
     → CameTo first m0 (linked frame >>= frame_out (levels - (i + 1))) m

@@ -1,15 +1,11 @@
 -- Texts that are given, at the next char.
-use Rattle.std.proofs.Common.{◌≡◌, ℕ, suc, ◌+◌, ◌-◌, ◌<◌, Bool, true, false, List, [], ◌∷◌, ◌++◌, Option, Some, None, Result, Err, drop, take, map, length}
-use Rattle.std.proofs.Common.{slice_get, if◌then◌else◌, refl, sym, ap, subst, ◌∙◌, arith}
+use Rattle.std.proofs.Common.{if◌then◌else◌, ◌++◌, ◌+◌, ◌-◌, ◌<◌, ◌∙◌, ◌∷◌, ◌≡◌, [], ℕ, Bool, Err, List, None, Option, Result, Some, ap, arith, drop, false}
+use Rattle.std.proofs.Common.{length, map, refl, slice_get, subst, suc, sym, take, true}
 use Rattle.std.proofs.lemmas.List.{length-map, take-map}
-use Rattle.core_program.specs.Actions.{Action, ◌>>=◌, performs}
-use Rattle.core_program.specs.Input.{space}
-use Rattle.core_program.specs.Output.{give_byte, gives, spaces, kept, in_width}
-use Rattle.eval_ops.specs.declared.halt.Halt.{Halt}
-use Rattle.eval_ops.specs.Machines.{Moment, ActionFinished, DoesAll}
-use Rattle.eval_ops.specs.Output.{give_one, text_by}
-use Rattle.eval_ops.proofs.ActionsCompose.{CameTo, does_bind, does_stop}
-use Rattle.eval_ops.proofs.Lists.{drop_get}
+use Rattle.core_program.specs.{Actions.◌>>=◌, Actions.Action, Actions.performs, Input.space}
+use Rattle.core_program.specs.Output.{give_byte, gives, in_width, kept, spaces}
+use Rattle.eval_ops.proofs.{ActionsCompose.CameTo, ActionsCompose.does_bind, ActionsCompose.does_stop, Lists.drop_get}
+use Rattle.eval_ops.specs.{Machines.ActionFinished, Machines.DoesAll, Machines.Moment, Output.give_one, Output.text_by, declared.halt.Halt.Halt}
 
 give_first : (c : Option ℕ) (cs : List (Option ℕ)) → gives (c ∷ cs) ≡ (give_one c >>= λ _. gives cs)
 give_first (Some byte) cs = refl

@@ -1,9 +1,7 @@
 -- The variants around a field, one more of them.
-use Rattle.std.proofs.Common.{◌≡◌, ◌<◌, ℕ, zero, suc, ◌-◌, Bool, Some, None, nat_lt, if◌then◌else◌, ap, refl, ◌∙◌, arith, lt-ltb}
-use Rattle.core_program.specs.ProgramRows.{ProgramRows}
-use Rattle.core_program.specs.declared.variants.VariantPart.{VariantPart}
-use Rattle.core_program.specs.Actions.{Action, Give, NoMeaning, ◌>>=◌}
-use Rattle.core_program.specs.Variants.{variant_at, on_variant, variant_entered, all_entered}
+use Rattle.std.proofs.Common.{if◌then◌else◌, ◌-◌, ◌<◌, ◌∙◌, ◌≡◌, ℕ, Bool, None, Some, ap, arith, lt-ltb, nat_lt, refl, suc, zero}
+use Rattle.core_program.specs.{Actions.◌>>=◌, Actions.Action, Actions.Give, Actions.NoMeaning, ProgramRows.ProgramRows, Variants.all_entered}
+use Rattle.core_program.specs.{Variants.on_variant, Variants.variant_at, Variants.variant_entered, declared.variants.VariantPart.VariantPart}
 
 module _ (p : ProgramRows) (target : Bool) (addr : ℕ) where
   -- the variant of a holder, with at most n of those around it

@@ -1,13 +1,9 @@
 -- A write of a cell of the heap asks first whether the cell is there.
-use Rattle.std.proofs.Common.{◌≡◌, ℕ, ◌-◌, ◌<◌, ◌≤◌, Bool, true, false, [], ◌∷◌, refl, sym, ap, ◌∙◌, nat_lt, is_some, if◌then◌else◌}
-use Rattle.std.proofs.lemmas.Bool.{lt-ltb, le-ltb}
-use Rattle.std.specs.FinMap.{get}
-use Rattle.cell_value.specs.declared.values.Value.{Value}
-use Rattle.cell_value.specs.declared.entries.Touch.TheVariants as touch
-use Rattle.cell_value.specs.declared.ways_out.Kind.TheVariants as kind
-use Rattle.core_program.specs.State.{State, stack_end, is_in_reach}
-use Rattle.core_program.specs.Acts.{Fault, OutOfSteps, ActResult, Went, Stops, HasCell, WriteCell, spent, with_steps, on_cell, perform}
-use Rattle.core_program.specs.Acts.{put_value, put_asked, after_touches}
+use Rattle.std.proofs.Common.{if◌then◌else◌, ◌-◌, ◌<◌, ◌∙◌, ◌∷◌, ◌≡◌, ◌≤◌, [], ℕ, Bool, ap, false, is_some, nat_lt, refl, sym, true}
+use Rattle.std.{proofs.lemmas.Bool.le-ltb, proofs.lemmas.Bool.lt-ltb, specs.FinMap.get}
+use Rattle.cell_value.specs.declared.{entries.Touch.Touch, values.Value.Value, ways_out.Kind.Kind}
+use Rattle.core_program.specs.{Acts.with_steps, State.State, State.is_in_reach, State.stack_end}
+use Rattle.core_program.specs.Acts.{ActResult, Fault, HasCell, OutOfSteps, Stops, Went, WriteCell, after_touches, on_cell, perform, put_asked, put_value, spent}
 
 -- in the stack it does not ask
 pub in_stack : (addr : ℕ) (v : Value) (σ : State) → addr < stack_end → perform (WriteCell addr v) σ ≡ on_cell addr σ (put_value addr v)
@@ -25,20 +21,20 @@ in_heap addr v σ h = ap (λ b. on_cell addr σ (λ τ. if b then put_value addr
     ∙ by (is_in_reach σ addr) (nat_lt σ.steps 1) refl
   where
     asked : Bool → State → ActResult Bool
-    asked there τ = Went there (touch.Has addr there ∷ []) τ
+    asked there τ = Went there (Touch.Has addr there ∷ []) τ
 
     there : (b r : Bool) → is_in_reach σ addr ≡ r → r ≡ true → put_asked b addr v (record σ { steps = σ.steps - 1 })
         ≡ after_answer addr v (asked b (record σ { steps = σ.steps - 1 }))
-    there true r e q = sym (ap (λ r. after_touches (touch.Has addr true ∷ [])
-        (if r then with_steps 1 (record σ { steps = σ.steps - 1 }) (put_value addr v) else Stops (Fault kind.Undefined) [] (record σ { steps = σ.steps - 1 })))
+    there true r e q = sym (ap (λ r. after_touches (Touch.Has addr true ∷ [])
+        (if r then with_steps 1 (record σ { steps = σ.steps - 1 }) (put_value addr v) else Stops (Fault Kind.Undefined) [] (record σ { steps = σ.steps - 1 })))
         (e ∙ q))
     there false r e q = refl
 
     by : (r b : Bool) → is_in_reach σ addr ≡ r
         → (if r then if b then Stops OutOfSteps [] (spent σ) else put_asked (is_some (get σ.cells addr)) addr v (record σ { steps = σ.steps - 1 }) else Stops
-        (Fault kind.Undefined) [] σ)
+        (Fault Kind.Undefined) [] σ)
         ≡ after_answer addr v (if r then if b then Stops OutOfSteps [] (spent σ) else asked (is_some (get σ.cells addr)) (record σ { steps = σ.steps - 1 })
-        else Stops (Fault kind.Undefined) [] σ)
+        else Stops (Fault Kind.Undefined) [] σ)
     by true true e = refl
     by true false e = there (is_some (get σ.cells addr)) true e refl
     by false b e = refl

@@ -1,12 +1,9 @@
 -- The components of an array that is accessed.
-use Rattle.std.specs.Prelude.{ℕ, Option, Some, None, option_map}
-use Rattle.core_program.specs.declared.rows.Row.{Row}
-use Rattle.core_program.specs.declared.rows.Row.TheVariants as rows
-use Rattle.core_program.specs.declared.rows.TypeRow.{TypeRow}
-use Rattle.core_program.specs.declared.rows.TypeRow.TheVariants.{Ordinal, Subrange, Array}
-use Rattle.core_program.specs.ProgramRows.{ProgramRows, type_at, cells_in, size_of}
-use Rattle.core_program.specs.declared.components.Components.{Components}
+use Rattle.std.specs.Prelude.{ℕ, None, Option, Some, option_map}
 use Rattle.core_program.specs.Accesses.{type_accessed}
+use Rattle.core_program.specs.ProgramRows.{ProgramRows, cells_in, size_of, type_at}
+use Rattle.core_program.specs.declared.{components.Components.Components, rows.Row.Row, rows.TypeRow.TypeRow}
+use Rattle.core_program.specs.declared.rows.TypeRow.TheVariants.{Array, Ordinal, Subrange}
 
 -- the cells of a variable of a type, if the type is there
 abbrev pub size_in : Option TypeRow → Option ℕ
@@ -29,6 +26,6 @@ components_in p t = None
 
 -- the cells of the array, and its components
 abbrev pub array_in : ProgramRows → Row → Option (ℕ × Components)
-array_in p (rows.Access a) =
+array_in p (Row.Access a) =
     option_map (λ c. (size_of p (type_accessed a), c)) (components_in p (type_at p (type_accessed a)))
 array_in p r = None

@@ -1,20 +1,16 @@
 -- The rows of the turns of for statements.
-use Rattle.std.specs.Prelude.{Option, Some, None}
+use Rattle.std.specs.Prelude.{None, Option, Some}
 use Rattle.cell_value.specs.declared.values.Value.{Value}
-use Rattle.cell_value.specs.declared.values.Value.TheVariants as value
-use Rattle.core_program.specs.declared.rows.Row.{Row}
-use Rattle.core_program.specs.declared.rows.Row.TheVariants as rows
-use Rattle.core_program.specs.declared.rows.StatementRow.TheVariants.{Turns}
-use Rattle.eval_ops.specs.declared.counting.Counting.{Counting}
-use Rattle.eval_ops.specs.declared.counting.ForProgress.{ForProgress}
+use Rattle.core_program.specs.declared.rows.{Row.Row, StatementRow.TheVariants.Turns}
+use Rattle.eval_ops.specs.declared.counting.{Counting.Counting, ForProgress.ForProgress}
 
 -- the row of the turns of a for statement
 abbrev pub turns_row : Counting → Row
-turns_row c = rows.Statement (Turns c.direction c.last c.place c.of c.body)
+turns_row c = Row.Statement (Turns c.direction c.last c.place c.of c.body)
 
 -- what a row says, if it is that of the turns of a for statement
 abbrev pub turns_in : Row → Option Counting
-turns_in (rows.Statement (Turns direction last place of' body)) = Some (record {
+turns_in (Row.Statement (Turns direction last place of' body)) = Some (record {
   direction = direction;
   last = last;
   place = place;
@@ -25,7 +21,7 @@ turns_in r = None
 
 -- two values, if both are numbers
 abbrev pub span_in : Value → Value → Option ForProgress
-span_in (value.Number i) (value.Number last) = Some (record { value = i; last = last })
+span_in (Value.Number i) (Value.Number last) = Some (record { value = i; last = last })
 span_in i last = None
 
 -- both, if both are there

@@ -1,10 +1,8 @@
 -- What the beginning and the end of a call do with its frame.
-use Rattle.std.specs.Prelude.{ℕ, ◌+◌, List, [], nat_lt, if◌then◌else◌}
-use Rattle.cell_value.specs.declared.values.Value.{Value}
-use Rattle.cell_value.specs.declared.ways_out.Which.TheVariants.{Stack}
-use Rattle.core_program.specs.State.{State, stack_end}
-use Rattle.core_program.specs.Acts.{OutOfSteps, Limited, ActResult, Went, Stops, spent}
-use Rattle.core_program.specs.Run.{with_frame}
+use Rattle.std.specs.Prelude.{if◌then◌else◌, ◌+◌, [], ℕ, List, nat_lt}
+use Rattle.cell_value.specs.declared.{values.Value.Value, ways_out.Which.TheVariants.Stack}
+use Rattle.core_program.specs.{Run.with_frame, State.State, State.stack_end}
+use Rattle.core_program.specs.Acts.{ActResult, Limited, OutOfSteps, Stops, Went, spent}
 
 -- A frame of n cells is made at the top. One that would end above the stack is not made, nor one that needs more steps
 -- than are left.

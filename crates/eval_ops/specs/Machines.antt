@@ -1,13 +1,12 @@
 -- What a machine stands for, and what the code's acts and actions do to it.
-use Rattle.std.specs.Prelude.{◌≡◌, ◌≤◌, ◌<◌, ◌+◌, List, ◌++◌, Result, Ok, Err, length}
+use Rattle.std.specs.Prelude.{◌++◌, ◌+◌, ◌<◌, ◌≡◌, ◌≤◌, Err, List, Ok, Result, length}
 use Rattle.cell_value.specs.declared.entries.Touch.{Touch}
-use Rattle.core_program.specs.State.{State, stack_end, most_calls, most_depth}
-use Rattle.core_program.specs.Acts.{Trouble, ActResult, Went, Stops}
+use Rattle.core_program.specs.Actions.{Action, Fail, Finished, Give, Performed, Stopped}
+use Rattle.core_program.specs.Acts.{ActResult, Stops, Trouble, Went}
 use Rattle.core_program.specs.Acts as trouble
-use Rattle.core_program.specs.Actions.{Action, Give, Fail, Performed, Finished, Stopped}
-use Rattle.eval_ops.specs.declared.machine.Machine.{Machine}
-use Rattle.eval_ops.specs.declared.halt.Halt.{Halt}
-use Rattle.eval_ops.specs.declared.halt.Halt.TheVariants.{Fault, OutOfSteps, Limited, Memory}
+use Rattle.core_program.specs.State.{State, most_calls, most_depth, stack_end}
+use Rattle.eval_ops.specs.declared.{halt.Halt.Halt, machine.Machine.Machine}
+use Rattle.eval_ops.specs.declared.halt.Halt.TheVariants.{Fault, Limited, Memory, OutOfSteps}
 
 -- a state, and the log so far
 pub record Moment : Type 0 where

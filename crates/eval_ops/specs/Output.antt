@@ -1,7 +1,6 @@
 -- How texts are given, char by char.
-use Rattle.std.specs.Prelude.{ℕ, Bool, List, [], ◌∷◌, Option, map}
-use Rattle.core_program.specs.Actions.{Action}
-use Rattle.core_program.specs.Output.{Text, gives}
+use Rattle.std.specs.Prelude.{◌∷◌, [], ℕ, Bool, List, Option, map}
+use Rattle.core_program.specs.{Actions.Action, Output.Text, Output.gives}
 
 -- the byte of one char is given, if it is defined
 abbrev pub give_one : Option ℕ → Action (Unit {0})

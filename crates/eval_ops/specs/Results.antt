@@ -1,9 +1,7 @@
 -- What a function returns.
 use Rattle.std.specs.Prelude.{ℤ}
-use Rattle.cell_value.specs.Arithmetic.{in_range_of}
-use Rattle.cell_value.specs.declared.values.Value.{Value}
-use Rattle.core_program.specs.Actions.{Action}
-use Rattle.core_program.specs.Run.{or_no_result}
+use Rattle.cell_value.specs.{Arithmetic.in_range_of, declared.values.Value.Value}
+use Rattle.core_program.specs.{Actions.Action, Run.or_no_result}
 
 -- what a function returns, by the value of its result and the bounds of its result type
 abbrev pub returned : (least greatest : ℤ) → Value → Action Value

@@ -1,10 +1,10 @@
 //! The blocks of the heap, made and dropped.
 
-ghost use Rattle.std.specs.Prelude.{◌≡◌, ◌+◌, ◌≤◌, OnOk, replicate};
-ghost use Rattle.cell_value.specs.declared.values.Value.TheVariants as value;
+ghost use Rattle.std.specs.Prelude.{◌+◌, ◌≡◌, ◌≤◌, OnOk, replicate};
 ghost use Rattle.cell_value.specs.Effects.{heap_end};
-ghost use Rattle.core_program.specs.Blocks as blocks;
+ghost use Rattle.cell_value.specs.declared.values.Value.TheVariants as value;
 ghost use Rattle.core_program.specs.Acts.{DropBlock, MakeBlock, perform};
+ghost use Rattle.core_program.specs.Blocks as blocks;
 ghost use Rattle.eval_ops.specs.Machines.{DoesAct, IsReady, machine_state, moment_of};
 
 use crate::calls::remove_cells;

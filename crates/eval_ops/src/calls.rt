@@ -1,12 +1,11 @@
 //! The beginning and the end of a call: its frame, and the counts of calls.
 
-ghost use Rattle.std.specs.Prelude.{◌≡◌, ℕ, ◌≤◌, ◌<◌, ◌+◌, OnOk, Some, slice_get};
+ghost use Rattle.std.specs.Prelude.{◌+◌, ◌<◌, ◌≡◌, ◌≤◌, ℕ, OnOk, Some, slice_get};
 ghost use Rattle.cell_value.specs.Effects.{heap_end};
-ghost use Rattle.core_program.specs.State.{stack_end};
-ghost use Rattle.core_program.specs.Blocks.{cleared, filled};
+ghost use Rattle.core_program.specs.{Blocks.cleared, Blocks.filled, State.stack_end};
 ghost use Rattle.core_program.specs.Run as calls;
-ghost use Rattle.eval_ops.specs.Machines.{DoesAct, AllowsCall, IsReady, changed, machine_state, moment_of};
 ghost use Rattle.eval_ops.specs.Frames.{framing};
+ghost use Rattle.eval_ops.specs.Machines.{AllowsCall, DoesAct, IsReady, changed, machine_state, moment_of};
 
 use crate::halt::Halt;
 use crate::machine::{Machine, STACK_END, Uncounted};

@@ -1,8 +1,7 @@
 //! What a constant chooses: the statement of a case statement, or a variant.
 
 ghost use Rattle.std.specs.Prelude.{◌≡◌, ℕ, Option, length};
-ghost use Rattle.core_program.specs.ProgramRows.{row_at};
-ghost use Rattle.core_program.specs.Tree.{Here};
+ghost use Rattle.core_program.specs.{ProgramRows.row_at, Tree.Here};
 ghost use Rattle.core_program.specs.Statements.{Sought, choice_along, choice_of, choose_at, chosen_by, on_to};
 ghost use Rattle.eval_ops.specs.Choices.{Rises, case_tree, found_by};
 
@@ -24,6 +23,7 @@ pub(crate) enum Said {
 }
 
 /// What an item says of what it is not itself, which the items after it may be.
+#[inline(always)]
 pub(crate) fn after(at: u32, next: u32) -> Said
     ensures found { (go : ℕ → Sought) → on_to at next go ≡ found_by result go }
     ensures rises { Rises at result }
@@ -38,6 +38,7 @@ pub(crate) fn after(at: u32, next: u32) -> Said
 }
 
 /// What the choice that stands at an item says of a value.
+#[inline(always)]
 fn look(program: &Program, at: u32, value: i64) -> Said
     ensures found { (go : ℕ → Sought) → choose_at (row_at program.now at) at value go ≡ found_by result go }
     ensures rises { Rises at result }
@@ -61,6 +62,7 @@ fn look(program: &Program, at: u32, value: i64) -> Said
 }
 
 /// What a constant of this value chooses, among the items of constants from the row `choices` on.
+#[inline(always)]
 fn choose_from(program: &Program, choices: u32, value: i64) -> Option<Option<u32>>
     ensures { result ≡ choice_along program.now (length program.now.rows) choices value }
 {
@@ -78,6 +80,7 @@ fn choose_from(program: &Program, choices: u32, value: i64) -> Option<Option<u32
 /// What a constant of this value chooses, if it chooses something, in a list of constants: a statement of a case
 /// statement (6.8.3.5), or a variant of a variant part (6.4.3.3). There is no answer where the list does not end as it
 /// says.
+#[inline(always)]
 pub fn chosen(program: &Program, choices: u32, value: i64) -> Option<Option<u32>>
     ensures { result ≡ choice_of program.now (length program.now.rows) choices value }
 {

@@ -1,7 +1,6 @@
 //! The turns of a for statement.
 
-ghost use Rattle.std.specs.Prelude.{◌≡◌, true, false};
-ghost use Rattle.std.specs.Ordering.{int_eq};
+ghost use Rattle.std.specs.{Prelude.◌≡◌, Prelude.false, Prelude.true, Ordering.int_eq};
 ghost use Rattle.cell_value.specs.declared.values.Value.TheVariants as CellValue;
 ghost use Rattle.core_program.specs.ProgramRows.{row_at};
 ghost use Rattle.core_program.specs.Statements as statements;

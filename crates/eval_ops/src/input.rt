@@ -1,10 +1,9 @@
 //! Actions on the input: eof and eoln, chars, integers turn by turn, and the rest of a line (6.6.6.5, 6.9.1, 6.9.2).
 
-ghost use Rattle.std.specs.Prelude.{◌≡◌, ◌<◌, slice_get, Some, IfOk};
-ghost use Rattle.core_program.specs.Acts.{TakeIf, take_item};
-ghost use Rattle.core_program.specs.Actions.{act, performs};
-ghost use Rattle.core_program.specs.declared.scan.Scan.TheVariants.{Blanks, Digits};
+ghost use Rattle.std.specs.Prelude.{◌<◌, ◌≡◌, IfOk, Some, slice_get};
+ghost use Rattle.core_program.specs.{Actions.act, Actions.performs, Acts.TakeIf, Acts.take_item};
 ghost use Rattle.core_program.specs.Input as input;
+ghost use Rattle.core_program.specs.declared.scan.Scan.TheVariants.{Blanks, Digits};
 ghost use Rattle.eval_ops.specs.Input.{after_sign, looked_at, wants};
 ghost use Rattle.eval_ops.specs.Machines.{DoesAct, DoesAll, Gives, IsReady, machine_state, moment_of};
 

@@ -1,8 +1,7 @@
 //! The statement of a sequence that has a label.
 
 ghost use Rattle.std.specs.Prelude.{◌≡◌, ℕ, Option, length};
-ghost use Rattle.core_program.specs.ProgramRows.{row_at};
-ghost use Rattle.core_program.specs.Statements.{Sought};
+ghost use Rattle.core_program.specs.{ProgramRows.row_at, Statements.Sought};
 ghost use Rattle.core_program.specs.Statements as statements;
 ghost use Rattle.eval_ops.specs.Choices.{Rises, found_by};
 

@@ -1,11 +1,9 @@
 //! A run's state with the log so far, and the single acts on it.
 
-ghost use Rattle.std.specs.Prelude.{◌≡◌, ◌<◌, ◌+◌, ◌-◌, ◌++◌, ◌∷◌, [], true, Err, IfErr, OnOk};
-ghost use Rattle.core_program.specs.State.{is_in_reach};
-ghost use Rattle.core_program.specs.Acts as acts;
+ghost use Rattle.std.specs.Prelude.{◌++◌, ◌+◌, ◌-◌, ◌<◌, ◌∷◌, ◌≡◌, [], Err, IfErr, OnOk, true};
+ghost use Rattle.core_program.specs.{Actions.performs, Cells.read_value, Cells.write, State.is_in_reach};
 ghost use Rattle.core_program.specs.Acts.{HasCell, Spend, WriteCell, on_cell, perform, put_value};
-ghost use Rattle.core_program.specs.Actions.{performs};
-ghost use Rattle.core_program.specs.Cells.{read_value, write};
+ghost use Rattle.core_program.specs.Acts as acts;
 ghost use Rattle.eval_ops.specs.Machines.{DoesAct, DoesAll, IsReady, machine_state, moment_of};
 
 use crate::halt::Halt;

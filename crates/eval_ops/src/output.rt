@@ -1,10 +1,10 @@
 //! Actions on the output: what is written of a value, byte by byte, and the ends of lines and pages (6.9.3 to 6.9.5).
 
-ghost use Rattle.std.specs.Prelude.{◌≡◌, ℕ, Option, Some, map, take, if◌then◌else◌};
+ghost use Rattle.std.specs.Prelude.{if◌then◌else◌, ◌≡◌, ℕ, Option, Some, map, take};
 ghost use Rattle.core_program.specs.Actions.{performs};
 ghost use Rattle.core_program.specs.Output as output;
-ghost use Rattle.eval_ops.specs.Output.{give_one, text_by};
 ghost use Rattle.eval_ops.specs.Machines.{DoesAll, Gives, IsReady, machine_state, moment_of};
+ghost use Rattle.eval_ops.specs.Output.{give_one, text_by};
 
 use crate::halt::Halt;
 use crate::machine::{Machine, note};

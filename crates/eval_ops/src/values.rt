@@ -1,6 +1,6 @@
 //! Operators, tests and required functions on the values of scalar types.
 
-ghost use Rattle.std.specs.Prelude.{◌≡◌, pos, ◌+ℤ◌, ◌-ℤ◌};
+ghost use Rattle.std.specs.Prelude.{◌+ℤ◌, ◌-ℤ◌, ◌≡◌, pos};
 ghost use Rattle.cell_value.specs.Arithmetic.{in_range_of, integer};
 ghost use Rattle.core_program.specs.Values as values;
 

@@ -1,18 +1,12 @@
 -- How moves of a tree follow one another.
-use Rattle.std.proofs.Common.{◌≡◌, ℕ, zero, suc, List, ◌++◌, Option, Some, None, refl, sym, ap, ◌∙◌, append_assoc, append-nil, Bool, true, false, if◌then◌else◌}
-use Rattle.cell_value.specs.declared.values.Value.{Value}
-use Rattle.cell_value.specs.declared.entries.Touch.{Touch}
-use Rattle.cell_value.specs.declared.ways_out.WayOut.TheVariants as way
-use Rattle.cell_value.specs.declared.ways_out.Which.{Which}
-use Rattle.core_program.specs.ProgramRows.{ProgramRows}
-use Rattle.core_program.specs.State.{State}
-use Rattle.core_program.specs.Acts.{Trouble, Act, Answer, Spend, ActResult, Went, Stops, perform, limit_passed}
-use Rattle.core_program.specs.Actions.{Action, Give, Fail, NoMeaning, Perform, Performed, Finished, Stopped, NotMeant, before, follow, performs}
-use Rattle.core_program.specs.Tree.{Out, Part, ActTree, Ret, Halt, Meaningless, Do, Sub, Enter, Line, way_of, bind, doing}
-use Rattle.core_program.specs.Layer.{layer}
-use Rattle.core_program.specs.Run.{Ended, Halted}
-use Rattle.eval_ops.specs.Machines.{Moment, ActDone, ActRefused, ActionFinished, ActionStopped}
-use Rattle.evaluator.specs.Stops.{Stop, AtLine, AtCall, AtEnd, at_call, on_act, next_stop, Comes, NextStopIs}
+use Rattle.std.proofs.Common.{if◌then◌else◌, ◌++◌, ◌∙◌, ◌≡◌, ℕ, Bool, List, None, Option, Some, ap, append-nil, append_assoc, false, refl, suc, sym, true, zero}
+use Rattle.cell_value.specs.declared.{entries.Touch.Touch, values.Value.Value, ways_out.WayOut.WayOut, ways_out.Which.Which}
+use Rattle.core_program.specs.{Layer.layer, ProgramRows.ProgramRows, Run.Ended, Run.Halted, State.State}
+use Rattle.core_program.specs.Actions.{Action, Fail, Finished, Give, NoMeaning, NotMeant, Perform, Performed, Stopped, before, follow, performs}
+use Rattle.core_program.specs.Acts.{Act, ActResult, Answer, Spend, Stops, Trouble, Went, limit_passed, perform}
+use Rattle.core_program.specs.Tree.{ActTree, Do, Enter, Halt, Line, Meaningless, Out, Part, Ret, Sub, bind, doing, way_of}
+use Rattle.eval_ops.specs.Machines.{ActDone, ActRefused, ActionFinished, ActionStopped, Moment}
+use Rattle.evaluator.specs.Stops.{AtCall, AtEnd, AtLine, Comes, NextStopIs, Stop, at_call, next_stop, on_act}
 
 pub bind_ret : (t : ActTree) → bind t Ret ≡ t
 bind_ret (Ret out) = refl
@@ -80,7 +74,7 @@ module _ {p : ProgramRows} where
   call_here f cells args k m h = record { moves = suc zero; is = ap (λ o. Some (at_call o f args k, m)) h }
 
   pub limit_here : (f cells : ℕ) (args : List Value) (k : Out → ActTree) (which : Which) (m : Moment) → limit_passed m.state cells ≡ Some which
-      → NextStopIs p (Enter f cells args k) m (AtEnd (Halted (way.Limited which))) m
+      → NextStopIs p (Enter f cells args k) m (AtEnd (Halted (WayOut.Limited which))) m
   limit_here f cells args k which m h = record { moves = suc zero; is = ap (λ o. Some (at_call o f args k, m)) h }
 
   pub end_here : (out : Out) (m : Moment) → NextStopIs p (Ret out) m (AtEnd (Ended out)) m

@@ -1,16 +1,11 @@
 -- A record that is left was the last that was established.
-use Rattle.std.proofs.Common.{◌≡◌, ℕ, List, [], ◌∷◌, ◌++◌, refl, ap, sym, ◌∙◌, reverse}
+use Rattle.std.proofs.Common.{◌++◌, ◌∙◌, ◌∷◌, ◌≡◌, [], ℕ, List, ap, refl, reverse, sym}
 use Rattle.std.proofs.lemmas.List.{reverse-append}
 use Rattle.cell_value.specs.declared.values.Value.{Value}
 use Rattle.core_program.specs.ProgramRows.{ProgramRows}
-use Rattle.core_program.specs.Tree.{Nothing, Scalar, Cells, Address, Jump}
-use Rattle.evaluator.specs.declared.tasks.Home.{Home}
-use Rattle.evaluator.specs.declared.tasks.Way.{Way}
-use Rattle.evaluator.specs.declared.tasks.Way.TheVariants as way
-use Rattle.evaluator.specs.declared.tasks.Task.{Task}
-use Rattle.evaluator.specs.declared.tasks.Task.TheVariants as tasks
-use Rattle.evaluator.specs.Records.{without_first, without_last}
-use Rattle.evaluator.specs.Rest.{below_top, came, resume, top_list}
+use Rattle.core_program.specs.Tree.{Address, Cells, Jump, Nothing, Scalar}
+use Rattle.evaluator.specs.{Records.without_first, Records.without_last, Rest.below_top, Rest.came, Rest.resume, Rest.top_list}
+use Rattle.evaluator.specs.declared.tasks.{Home.Home, Task.Task, Way.Way}
 
 twice : (xs : List ℕ) → reverse (reverse xs) ≡ xs
 twice [] = refl
@@ -21,9 +16,9 @@ added_left records addr = ap (λ xs. reverse (without_first xs)) (reverse-append
 
 -- what came goes on as it came, without the record that is left
 pub way_left : (p : ProgramRows) (home : Home) (records : List ℕ) (w : Way) (ts : List Task) (vs : List Value) (ls : List (List Value))
-    → records ≡ without_last home.records → came p home w (tasks.Leave ∷ ts) vs ls ≡ came p (record home { records = records }) w ts vs ls
-way_left p home records way.Nothing ts vs ls e = ap (λ rs. resume p (record home { records = rs }) ts vs ls Nothing) (sym e)
-way_left p home records (way.Scalar v) ts vs ls e = ap (λ rs. resume p (record home { records = rs }) ts vs ls (Scalar v)) (sym e)
-way_left p home records way.Cells ts vs ls e = ap (λ rs. resume p (record home { records = rs }) ts vs (below_top ls) (Cells (top_list ls))) (sym e)
-way_left p home records (way.Address addr) ts vs ls e = ap (λ rs. resume p (record home { records = rs }) ts vs ls (Address addr)) (sym e)
-way_left p home records (way.Jump label base) ts vs ls e = ap (λ rs. resume p (record home { records = rs }) ts vs ls (Jump label base)) (sym e)
+    → records ≡ without_last home.records → came p home w (Task.Leave ∷ ts) vs ls ≡ came p (record home { records = records }) w ts vs ls
+way_left p home records Way.Nothing ts vs ls e = ap (λ rs. resume p (record home { records = rs }) ts vs ls Nothing) (sym e)
+way_left p home records (Way.Scalar v) ts vs ls e = ap (λ rs. resume p (record home { records = rs }) ts vs ls (Scalar v)) (sym e)
+way_left p home records Way.Cells ts vs ls e = ap (λ rs. resume p (record home { records = rs }) ts vs (below_top ls) (Cells (top_list ls))) (sym e)
+way_left p home records (Way.Address addr) ts vs ls e = ap (λ rs. resume p (record home { records = rs }) ts vs ls (Address addr)) (sym e)
+way_left p home records (Way.Jump label base) ts vs ls e = ap (λ rs. resume p (record home { records = rs }) ts vs ls (Jump label base)) (sym e)

@@ -1,65 +1,21 @@
 -- Statements by their rows.
-use Rattle.std.proofs.Common.{◌≡◌, ℕ, ℤ, Bool, Option, Some, None, option_map, refl, ap, ◌∙◌}
-use Rattle.cell_value.specs.declared.values.Value.{Value}
-use Rattle.cell_value.specs.declared.values.Value.TheVariants as value
-use Rattle.core_program.specs.declared.rows.Row.{Row}
-use Rattle.core_program.specs.declared.rows.Row.TheVariants as rows
-use Rattle.core_program.specs.declared.rows.ItemRow.TheVariants as item
-use Rattle.core_program.specs.declared.rows.StatementRow.{StatementRow}
-use Rattle.core_program.specs.declared.rows.StatementRow.TheVariants.{
-  Empty,
-  Assign,
-  Call,
-  CallFormal,
-  Goto,
-  Labelled,
-  Compound,
-  If,
-  IfElse,
-  Case,
-  Repeat,
-  While,
-  For,
-  Turns,
-  With,
-  New,
-  Dispose,
-  Read,
-  Write,
-  Page,
-  Pack,
-}
-use Rattle.core_program.specs.ProgramRows.{ProgramRows, row_at}
-use Rattle.cell_value.specs.declared.ways_out.Kind.TheVariants as kind
-use Rattle.core_program.specs.Acts.{Fault}
-use Rattle.core_program.specs.Tree.{Here, ActTree, Halt, Ret, Sub, Line}
+use Rattle.std.proofs.Common.{◌∙◌, ◌≡◌, ℕ, ℤ, Bool, None, Option, Some, ap, option_map, refl}
+use Rattle.cell_value.specs.declared.{values.Value.Value, ways_out.Kind.Kind}
+use Rattle.core_program.specs.{Accesses.eval, Accesses.locate, Accesses.no_row, Acts.Fault, ProgramRows.ProgramRows, ProgramRows.row_at}
+use Rattle.core_program.specs.{Statements.statement_in, declared.rows.ItemRow.ItemRow, declared.rows.Row.Row, declared.rows.StatementRow.StatementRow}
+use Rattle.core_program.specs.Statements.{begins, bounds, first_turn, inside, line_of, of_records, of_sequence, of_statement, of_turn, on_statement, statement}
+use Rattle.core_program.specs.Tree.{ActTree, Halt, Here, Line, Ret, Sub}
 use Rattle.core_program.specs.Tree as parts
-use Rattle.core_program.specs.Accesses.{no_row, eval, locate}
-use Rattle.core_program.specs.Statements.{
-  line_of,
-  of_statement,
-  statement,
-  statement_in,
-  begins,
-  bounds,
-  first_turn,
-  of_sequence,
-  of_turn,
-  of_records,
-  inside,
-  on_statement,
-}
-use Rattle.eval_ops.specs.Counting.{turns_in, turns_row, span_in, both_there}
-use Rattle.eval_ops.specs.Items.{element_in}
-use Rattle.evaluator.specs.Rest.{carried, carry_with, after_turn, with_numbers}
-use Rattle.eval_ops.specs.declared.counting.Counting.{Counting}
-use Rattle.eval_ops.specs.declared.counting.ForProgress.{ForProgress}
-use Rattle.evaluator.specs.declared.tasks.Home.{Home}
+use Rattle.core_program.specs.declared.rows.StatementRow.TheVariants.{Assign, Call, CallFormal, Case, Compound, Dispose, Empty, For, Goto, If, IfElse, Labelled}
+use Rattle.core_program.specs.declared.rows.StatementRow.TheVariants.{New, Pack, Page, Read, Repeat, Turns, While, With, Write}
+use Rattle.eval_ops.specs.{Counting.both_there, Counting.span_in, Counting.turns_in, Counting.turns_row, Items.element_in}
+use Rattle.eval_ops.specs.declared.counting.{Counting.Counting, ForProgress.ForProgress}
+use Rattle.evaluator.specs.{Rest.after_turn, Rest.carried, Rest.carry_with, Rest.with_numbers, declared.tasks.Home.Home}
 
 -- ---- a statement begins
 
-pub no_statement : (p : ProgramRows) (n : ℕ) (h : Here) (r : Row) → ((s : StatementRow) → r ≡ rows.Statement s → ⊥) → statement_in p n h r ≡ no_row
-no_statement p n h (rows.Statement s) f = absurd (f s refl)
+pub no_statement : (p : ProgramRows) (n : ℕ) (h : Here) (r : Row) → ((s : StatementRow) → r ≡ Row.Statement s → ⊥) → statement_in p n h r ≡ no_row
+no_statement p n h (Row.Statement s) f = absurd (f s refl)
 no_statement p n h r f = refl
 
 -- one that is neither compound nor empty tells its line
@@ -84,8 +40,8 @@ untold p n h s o e = ap (begins p n h s) e
 
 -- ---- its line is told
 
-pub no_carried : (p : ProgramRows) (home : Home) (n : ℕ) (r : Row) → ((s : StatementRow) → r ≡ rows.Statement s → ⊥) → carried p home n r ≡ no_row
-no_carried p home n (rows.Statement s) f = absurd (f s refl)
+pub no_carried : (p : ProgramRows) (home : Home) (n : ℕ) (r : Row) → ((s : StatementRow) → r ≡ Row.Statement s → ⊥) → carried p home n r ≡ no_row
+no_carried p home n (Row.Statement s) f = absurd (f s refl)
 no_carried p home n r f = refl
 
 -- a statement that has no line
@@ -135,7 +91,7 @@ from_record h body (Some (access, next)) = locate access h (λ addr. Sub (parts.
 from_record h body None = no_row
 
 pub records_by : (h : Here) (body : ℕ) (r : Row) → of_records h body r ≡ from_record h body (element_in r)
-records_by h body (rows.Item (item.Element access next)) = refl
+records_by h body (Row.Item (ItemRow.Element access next)) = refl
 records_by h body r = refl
 
 -- ---- sequences and turns
@@ -145,15 +101,15 @@ in_sequence p h first (Some (s, next)) = Sub (parts.Exec s h) (on_statement p h 
 in_sequence p h first None = no_row
 
 pub sequence_by : (p : ProgramRows) (h : Here) (first : ℕ) (r : Row) → of_sequence p h first r ≡ in_sequence p h first (element_in r)
-sequence_by p h first (rows.Item (item.Element s next)) = refl
+sequence_by p h first (Row.Item (ItemRow.Element s next)) = refl
 sequence_by p h first r = refl
 
-pub no_turn : (n : ℕ) (h : Here) (r : Row) → ((s : StatementRow) → r ≡ rows.Statement s → ⊥) → of_turn n h r ≡ no_row
-no_turn n h (rows.Statement s) f = absurd (f s refl)
+pub no_turn : (n : ℕ) (h : Here) (r : Row) → ((s : StatementRow) → r ≡ Row.Statement s → ⊥) → of_turn n h r ≡ no_row
+no_turn n h (Row.Statement s) f = absurd (f s refl)
 no_turn n h r f = refl
 
 pub other_turn : (n : ℕ) (h : Here) (s : StatementRow) → ((a b c : ℕ) → s ≡ While a b c → ⊥) → ((a b c : ℕ) → s ≡ Repeat a b c → ⊥)
-    → of_turn n h (rows.Statement s) ≡ no_row
+    → of_turn n h (Row.Statement s) ≡ no_row
 other_turn n h (While a b c) f g = absurd (f a b c refl)
 other_turn n h (Repeat a b c) f g = absurd (g a b c refl)
 other_turn n h s f g = refl
@@ -171,38 +127,38 @@ with_span otherwise (Some s) go = go s
 -- a for statement whose bounds are no numbers
 abbrev pub without_numbers : Here → Option Counting → ActTree
 without_numbers h None = no_row
-without_numbers h (Some c) = Halt h.line (Fault kind.Undefined)
+without_numbers h (Some c) = Halt h.line (Fault Kind.Undefined)
 
 pub bounds_by : (p : ProgramRows) (h : Here) (i n : ℕ) (r : Row) → bounds p h i n r ≡ with_turns (turns_in r) (λ c.
     eval i h (λ v. eval c.last h (λ w. first_turn p h n (row_at p n) v w)))
-bounds_by p h i n (rows.Statement (Turns direction last place of' body)) = refl
+bounds_by p h i n (Row.Statement (Turns direction last place of' body)) = refl
 bounds_by p h i n r = refl
 
 pub first_by : (p : ProgramRows) (h : Here) (n : ℕ) (r : Row) (v w : Value)
     → first_turn p h n r v w ≡ with_turns (turns_in r) (λ c. first_turn p h n (turns_row c) v w)
-first_by p h n (rows.Statement (Turns direction last place of' body)) v w = refl
+first_by p h n (Row.Statement (Turns direction last place of' body)) v w = refl
 first_by p h n r v w = refl
 
 pub first_of_numbers : (p : ProgramRows) (h : Here) (n : ℕ) (c : Counting) (v w : Value)
     → first_turn p h n (turns_row c) v w ≡ with_span (without_numbers h (Some c)) (span_in v w)
-    (λ s. first_turn p h n (turns_row c) (value.Number s.value) (value.Number s.last))
-first_of_numbers p h n c (value.Number i) (value.Number j) = refl
+    (λ s. first_turn p h n (turns_row c) (Value.Number s.value) (Value.Number s.last))
+first_of_numbers p h n c (Value.Number i) (Value.Number j) = refl
 first_of_numbers p h n c v w = refl
 
 pub numbers_by : (v w : Value) (go : ℤ → ℤ → ActTree) → with_numbers v w go ≡ with_span no_row (span_in v w) (λ s. go s.value s.last)
-numbers_by (value.Number i) (value.Number j) go = refl
+numbers_by (Value.Number i) (Value.Number j) go = refl
 numbers_by v w go = refl
 
 pub counted_by : (home : Home) (n line : ℕ) (i last : ℤ) (r : Row)
     → after_turn home n line i last r ≡ with_turns (turns_in r) (λ c. after_turn home n line i last (turns_row c))
-counted_by home n line i last (rows.Statement (Turns direction last' place of' body)) = refl
+counted_by home n line i last (Row.Statement (Turns direction last' place of' body)) = refl
 counted_by home n line i last r = refl
 
 turns_same_some : (r : Row) (c c' : Counting) → Some c ≡ Some c' → r ≡ turns_row c → r ≡ turns_row c'
 turns_same_some r c c' e h = h ∙ ap turns_row (let q : c ≡ c' = cc in q)
 
 turns_row_is : (r : Row) (c : Counting) → turns_in r ≡ Some c → r ≡ turns_row c
-turns_row_is (rows.Statement (Turns direction last place of' body)) c e = turns_same_some _ _ c e refl
+turns_row_is (Row.Statement (Turns direction last place of' body)) c e = turns_same_some _ _ c e refl
 turns_row_is r c e = absurd (let q : ⊥ = cc in q)
 
 first_of_both : (a : Option Counting) (b : Option ForProgress) (c : Counting) (s : ForProgress) → both_there a b ≡ Some (c, s) → a ≡ Some c
@@ -224,15 +180,15 @@ span_both t c (Some s) go = refl
 
 pub first_both : (p : ProgramRows) (h : Here) (n : ℕ) (r : Row) (v w : Value) → first_turn p h n r v w
     ≡ with_both (without_numbers h (turns_in r)) (both_there (turns_in r) (span_in v w))
-    (λ c s. first_turn p h n (turns_row c) (value.Number s.value) (value.Number s.last))
+    (λ c s. first_turn p h n (turns_row c) (Value.Number s.value) (Value.Number s.last))
 first_both p h n r v w = first_by p h n r v w ∙ by (turns_in r)
   where
     by : (a : Option Counting) → with_turns a (λ c. first_turn p h n (turns_row c) v w)
         ≡ with_both (without_numbers h a) (both_there a (span_in v w))
-        (λ c s. first_turn p h n (turns_row c) (value.Number s.value) (value.Number s.last))
+        (λ c s. first_turn p h n (turns_row c) (Value.Number s.value) (Value.Number s.last))
     by None = refl
     by (Some c) = first_of_numbers p h n c v w
-        ∙ span_both (without_numbers h (Some c)) c (span_in v w) (λ c s. first_turn p h n (turns_row c) (value.Number s.value) (value.Number s.last))
+        ∙ span_both (without_numbers h (Some c)) c (span_in v w) (λ c s. first_turn p h n (turns_row c) (Value.Number s.value) (Value.Number s.last))
 
 pub counted_both : (home : Home) (n line : ℕ) (r : Row) (v w : Value) → with_numbers v w (λ i last. after_turn home n line i last r)
     ≡ with_both no_row (both_there (turns_in r) (span_in v w)) (λ c s. after_turn home n line s.value s.last (turns_row c))

@@ -1,14 +1,11 @@
 -- No action gives steps back.
-use Rattle.std.proofs.Common.{ℕ, ◌+◌, ◌<◌, ◌≤◌, Result, Err, List, Option, Some, None, Ok, subst, arith}
+use Rattle.std.proofs.Common.{◌+◌, ◌<◌, ◌≤◌, ℕ, Err, List, None, Ok, Option, Result, Some, arith, subst}
 use Rattle.cell_value.specs.declared.entries.Touch.{Touch}
-use Rattle.core_program.specs.State.{State}
-use Rattle.core_program.specs.Acts.{Act, Answer, ActResult, Went, Stops, perform}
-use Rattle.core_program.specs.Actions.{Action, Give, Fail, NoMeaning, Perform, Performed, Finished, Stopped, NotMeant, before, follow, performs}
-use Rattle.core_program.proofs.ActsTakeSteps.{Acted, acted, cost}
-use Rattle.eval_ops.specs.declared.halt.Halt.{Halt}
-use Rattle.eval_ops.specs.Machines.{Moment, DoesAll}
-use Rattle.evaluator.specs.declared.tasks.Pause.{Pause}
-use Rattle.evaluator.specs.Weight.{Falls}
+use Rattle.core_program.{proofs.ActsTakeSteps.Acted, proofs.ActsTakeSteps.acted, proofs.ActsTakeSteps.cost, specs.State.State}
+use Rattle.core_program.specs.Actions.{Action, Fail, Finished, Give, NoMeaning, NotMeant, Perform, Performed, Stopped, before, follow, performs}
+use Rattle.core_program.specs.Acts.{Act, ActResult, Answer, Stops, Went, perform}
+use Rattle.eval_ops.specs.{Machines.DoesAll, Machines.Moment, declared.halt.Halt.Halt}
+use Rattle.evaluator.specs.{Weight.Falls, declared.tasks.Pause.Pause}
 
 abbrev TookAll : {A : Type 0} → ℕ → Performed A → Type 0
 TookAll n (Finished x w τ) = τ.steps ≤ n

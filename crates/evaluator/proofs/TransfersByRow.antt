@@ -1,32 +1,19 @@
 -- What is read and written, by its rows.
-use Rattle.std.proofs.Common.{◌≡◌, ◌+◌, ◌≤◌, ℕ, Ok, Option, Some, None, option_map, refl, ◌∙◌}
-use Rattle.core_program.specs.declared.rows.AccessRow.{AccessRow}
-use Rattle.core_program.specs.declared.rows.ItemRow.{ItemRow}
-use Rattle.core_program.specs.declared.rows.ItemRow.TheVariants as item
-use Rattle.core_program.specs.declared.rows.Row.{Row}
-use Rattle.core_program.specs.declared.rows.Row.TheVariants as rows
-use Rattle.core_program.specs.declared.rows.TypeRow.{TypeRow}
-use Rattle.core_program.specs.declared.rows.TypeRow.TheVariants.{Ordinal, Subrange, Array}
-use Rattle.core_program.specs.ProgramRows.{ProgramRows, row_at, type_at, size_of}
-use Rattle.core_program.specs.declared.components.Components.{Components}
-use Rattle.core_program.specs.declared.scan.Scan.{Scan}
-use Rattle.core_program.specs.declared.scan.Scan.TheVariants.{Blanks, Digits}
-use Rattle.core_program.specs.declared.scan.Scanned.{Scanned}
+use Rattle.std.proofs.Common.{◌+◌, ◌∙◌, ◌≡◌, ◌≤◌, ℕ, None, Ok, Option, Some, option_map, refl}
+use Rattle.core_program.specs.{Actions.performs, Acts.TakeIf, Packing.with_array, Tree.ActTree, Tree.Here}
 use Rattle.core_program.specs.Accesses.{no_row, type_accessed, with_bounds, with_components, with_size}
-use Rattle.core_program.specs.Actions.{performs}
-use Rattle.core_program.specs.Acts.{TakeIf}
 use Rattle.core_program.specs.Input.{further, is_digit, leading, leads_on, scan_on}
-use Rattle.core_program.specs.Packing.{with_array}
+use Rattle.core_program.specs.ProgramRows.{ProgramRows, row_at, size_of, type_at}
 use Rattle.core_program.specs.Transfers.{of_printed, of_received, received, with_host}
-use Rattle.core_program.specs.Tree.{Here, ActTree}
-use Rattle.eval_ops.specs.Machines.{DoesAll, Moment}
-use Rattle.eval_ops.specs.Arrays.{array_in, components_in, components_of, size_in}
-use Rattle.eval_ops.specs.Items.{element_in}
-use Rattle.evaluator.specs.TransferFamilies.{host_in}
+use Rattle.core_program.specs.declared.{components.Components.Components, rows.AccessRow.AccessRow, rows.ItemRow.ItemRow, rows.Row.Row}
+use Rattle.core_program.specs.declared.rows.TypeRow.{TypeRow, TheVariants.Array, TheVariants.Ordinal, TheVariants.Subrange}
+use Rattle.core_program.specs.declared.scan.{Scan.Scan, Scan.TheVariants.Blanks, Scan.TheVariants.Digits, Scanned.Scanned}
+use Rattle.eval_ops.specs.{Arrays.array_in, Arrays.components_in, Arrays.components_of, Arrays.size_in, Items.element_in, Machines.DoesAll, Machines.Moment}
 use Rattle.evaluator.proofs.StepsFall.{first_falls}
+use Rattle.evaluator.specs.TransferFamilies.{host_in}
 
-pub no_printed : (p : ProgramRows) (h : Here) (r : Row) → ((i : ItemRow) → r ≡ rows.Item i → ⊥) → of_printed p h r ≡ no_row
-no_printed p h (rows.Item i) f = absurd (f i refl)
+pub no_printed : (p : ProgramRows) (h : Here) (r : Row) → ((i : ItemRow) → r ≡ Row.Item i → ⊥) → of_printed p h r ≡ no_row
+no_printed p h (Row.Item i) f = absurd (f i refl)
 no_printed p h r f = refl
 
 abbrev pub with_element : ProgramRows → Here → Option (ℕ × ℕ) → ActTree
@@ -34,12 +21,12 @@ with_element p h (Some (access, next)) = received p h access next (row_at p acce
 with_element p h None = no_row
 
 pub received_by : (p : ProgramRows) (h : Here) (r : Row) → of_received p h r ≡ with_element p h (element_in r)
-received_by p h (rows.Item (item.Element access next)) = refl
+received_by p h (Row.Item (ItemRow.Element access next)) = refl
 received_by p h r = refl
 
-pub no_received : (p : ProgramRows) (h : Here) (access next : ℕ) (r : Row) → ((a : AccessRow) → r ≡ rows.Access a → ⊥)
+pub no_received : (p : ProgramRows) (h : Here) (access next : ℕ) (r : Row) → ((a : AccessRow) → r ≡ Row.Access a → ⊥)
     → received p h access next r ≡ no_row
-no_received p h access next (rows.Access a) f = absurd (f a refl)
+no_received p h access next (Row.Access a) f = absurd (f a refl)
 no_received p h access next r f = refl
 
 -- a turn of the reading of an integer takes a step
@@ -92,6 +79,6 @@ found_by cells (Some c) go = refl
 found_by cells None go = refl
 
 pub array_by : (p : ProgramRows) (r : Row) (go : ℕ → Components → ActTree) → with_array p r go ≡ with_found (array_in p r) go
-array_by p (rows.Access a) go = components_by p (type_at p (type_accessed a)) (go (size_of p (type_accessed a)))
+array_by p (Row.Access a) go = components_by p (type_at p (type_accessed a)) (go (size_of p (type_accessed a)))
     ∙ found_by (size_of p (type_accessed a)) (components_in p (type_at p (type_accessed a))) go
 array_by p r go = refl

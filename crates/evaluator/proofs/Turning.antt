@@ -1,32 +1,20 @@
 -- What the turns of a body are made of.
-use Rattle.std.proofs.Common.{◌≡◌, ◌==◌, Bool, true, false, ℕ, ◌+◌, ◌<◌, ◌≤◌, List, [], ◌∷◌, ◌++◌}
-use Rattle.std.proofs.Common.{Result, Ok, Err, Option, Some, None, reverse, sym, ap, subst, ◌∙◌}
-use Rattle.std.proofs.Common.{if◌then◌else◌, nat_lt}
-use Rattle.std.proofs.lemmas.Bool.{lt-ltb, le-ltb}
-use Rattle.std.proofs.lemmas.List.{reverse-append, append-nil}
-use Rattle.core_program.specs.ProgramRows.{ProgramRows, routine_at}
-use Rattle.core_program.specs.Acts.{Trouble, Spend, perform}
-use Rattle.core_program.specs.Actions.{Action, act, performs}
-use Rattle.core_program.specs.Tree.{Out, Part, Locate, Here, ActTree, Sub, Enter, Line, way_of, bind, doing}
-use Rattle.core_program.specs.Accesses.{spend, on_address, locate_before, no_row, until_end}
-use Rattle.core_program.specs.Layer.{layer}
-use Rattle.core_program.proofs.ActsTakeSteps.{Acted, acted}
-use Rattle.core_program.specs.Run.{Halted}
-use Rattle.eval_ops.specs.declared.halt.Halt.{Halt}
-use Rattle.eval_ops.specs.declared.halt.Halt.TheVariants.{Fault, OutOfSteps, Limited, Memory}
-use Rattle.eval_ops.specs.Machines.{Moment, ActionStopped, DoesAct, DoesAll, Gives}
-use Rattle.eval_ops.proofs.ActionsCompose.{does_act}
-use Rattle.evaluator.specs.Stops.{AtCall, AtEnd, Comes, NextStopIs}
-use Rattle.evaluator.specs.Rest.{below_top, lists_of, resume, tasks_of, top_list, values_of}
+use Rattle.std.proofs.Common.{if◌then◌else◌, ◌++◌, ◌+◌, ◌<◌, ◌==◌, ◌∙◌, ◌∷◌, ◌≡◌, ◌≤◌, [], ℕ, Bool, Err, List, None, Ok, Option, Result, Some, ap, false}
+use Rattle.std.proofs.Common.{nat_lt, reverse, subst, sym, true}
+use Rattle.std.proofs.lemmas.{Bool.le-ltb, Bool.lt-ltb, List.append-nil, List.reverse-append}
 use Rattle.cell_value.specs.declared.values.Value.{Value}
-use Rattle.core_program.specs.declared.program.Routine.{Routine}
-use Rattle.core_program.specs.Acts.{limit_passed}
+use Rattle.core_program.proofs.ActsTakeSteps.{Acted, acted}
+use Rattle.core_program.specs.{Actions.Action, Actions.act, Actions.performs, Acts.Spend, Acts.Trouble, Acts.limit_passed, Acts.perform, Layer.layer}
+use Rattle.core_program.specs.{ProgramRows.ProgramRows, ProgramRows.routine_at, Run.Halted, declared.program.Routine.Routine}
+use Rattle.core_program.specs.Accesses.{locate_before, no_row, on_address, spend, until_end}
+use Rattle.core_program.specs.Tree.{ActTree, Enter, Here, Line, Locate, Out, Part, Sub, bind, doing, way_of}
+use Rattle.eval_ops.proofs.ActionsCompose.{does_act}
+use Rattle.eval_ops.specs.Machines.{ActionStopped, DoesAct, DoesAll, Gives, Moment}
+use Rattle.eval_ops.specs.declared.halt.Halt.{Halt, TheVariants.Fault, TheVariants.Limited, TheVariants.Memory, TheVariants.OutOfSteps}
+use Rattle.evaluator.proofs.Moves.{begins, bind_doing, call_here, comes_same, comes_then, finished, line_stopped, stopped, stops_then}
+use Rattle.evaluator.specs.{Stops.AtCall, Stops.AtEnd, Stops.Comes, Stops.NextStopIs, Weight.Falls, declared.body.Body.Body, declared.tasks.Pause.Pause}
+use Rattle.evaluator.specs.Rest.{below_top, lists_of, resume, tasks_of, top_list, values_of}
 use Rattle.evaluator.specs.Turns.{EntersRoutine, StopsForGood, Turns, configuration, pause_of}
-use Rattle.evaluator.specs.declared.tasks.Pause.TheVariants as pauses
-use Rattle.evaluator.specs.Weight.{Falls}
-use Rattle.evaluator.specs.declared.body.Body.{Body}
-use Rattle.evaluator.specs.declared.tasks.Pause.{Pause}
-use Rattle.evaluator.proofs.Moves.{bind_doing, call_here, comes_same, comes_then, stops_then, begins, finished, stopped, line_stopped}
 
 -- what was put on top comes first
 pub reverse_pushed : {A : Type 0} (xs ys : List A) (x : A) → ys ≡ xs ++ x ∷ [] → reverse ys ≡ x ∷ reverse xs
@@ -141,7 +129,7 @@ not_after_it a b t K l = ap (λ x. bind (if x then t else no_row) K) (le-ltb a b
 -- a call is to be entered, whose link and cells are the last list that waits
 pub call_pauses : {p : ProgramRows} {m : Moment} {K : Out → ActTree} {args : List Value} {ls : List (List Value)} (f cells : ℕ) (a : Body)
     → limit_passed m.state cells ≡ None → lists_of a ≡ args ∷ ls → K ≡ resume p a.home (tasks_of a) (values_of a) ls
-    → NextStopIs p (Enter f cells args K) m (pause_of p a (pauses.Enter f)) m
+    → NextStopIs p (Enter f cells args K) m (pause_of p a (Pause.Enter f)) m
 call_pauses {p = p} {m = m} {K = K} {args = args} {ls = ls} f cells a h l w =
     subst (λ l. NextStopIs p (Enter f cells args K) m (AtCall f (top_list l) (resume p a.home (tasks_of a) (values_of a) (below_top l))) m) (sym l)
     (subst (λ k. NextStopIs p (Enter f cells args K) m (AtCall f args k) m) w (call_here f cells args K m h))
@@ -150,9 +138,9 @@ call_pauses {p = p} {m = m} {K = K} {args = args} {ls = ls} f cells a h l w =
 pub entered_turns : (p : ProgramRows) (t : ActTree) (m : Moment) (f : ℕ) (r : Result (Option Pause) Halt) (a : Body) → EntersRoutine p (configuration t m) f r a
     → (x : Routine) → routine_at p f ≡ Some x → limit_passed m.state x.cells ≡ None → Turns p (configuration t m) r a m
 entered_turns p t m f (Ok None) a h x e l = absurd h
-entered_turns p t m f (Ok (Some (pauses.Line n))) a h x e l = absurd h
-entered_turns p t m f (Ok (Some (pauses.Enter g))) a h x e l = (h.0, (x, ap (routine_at p) h.1 ∙ e, l))
-entered_turns p t m f (Ok (Some pauses.Ended)) a h x e l = absurd h
+entered_turns p t m f (Ok (Some (Pause.Line n))) a h x e l = absurd h
+entered_turns p t m f (Ok (Some (Pause.Enter g))) a h x e l = (h.0, (x, ap (routine_at p) h.1 ∙ e, l))
+entered_turns p t m f (Ok (Some Pause.Ended)) a h x e l = absurd h
 entered_turns p t m f (Err (Fault kind)) a h x e l = absurd h
 entered_turns p t m f (Err OutOfSteps) a h x e l = absurd h
 entered_turns p t m f (Err (Limited which)) a h x e l = absurd h

@@ -1,10 +1,7 @@
 -- Families of expressions: what each of a family does. What is of no family has no row.
-use Rattle.core_program.specs.declared.rows.ExpressionRow.{ExpressionRow}
+use Rattle.core_program.specs.{Accesses.no_row, Expressions.of_expression, ProgramRows.ProgramRows, Tree.ActTree}
+use Rattle.core_program.specs.{Tree.Here, declared.rows.ExpressionRow.ExpressionRow}
 use Rattle.core_program.specs.declared.rows.ExpressionRow.TheVariants as expressions
-use Rattle.core_program.specs.ProgramRows.{ProgramRows}
-use Rattle.core_program.specs.Tree.{Here, ActTree}
-use Rattle.core_program.specs.Accesses.{no_row}
-use Rattle.core_program.specs.Expressions.{of_expression}
 
 -- an expression that is neither `eof` nor `eoln`
 abbrev pub of_operation : ProgramRows → Here → ExpressionRow → ActTree

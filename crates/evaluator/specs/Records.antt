@@ -1,5 +1,5 @@
 -- Where a body is at work: its frame, and the records that with statements have established, the outermost first.
-use Rattle.std.specs.Prelude.{◌≡◌, ℕ, List, [], ◌∷◌, reverse}
+use Rattle.std.specs.Prelude.{◌∷◌, ◌≡◌, [], ℕ, List, reverse}
 use Rattle.evaluator.specs.declared.tasks.Home.{Home}
 
 abbrev pub without_first : List ℕ → List ℕ

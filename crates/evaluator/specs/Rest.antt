@@ -1,88 +1,34 @@
 -- What a body has still to do, by its tasks.
-use Rattle.std.specs.Prelude.{ℕ, ℤ, List, [], ◌∷◌, ◌++◌, Bool, true, false, not, Option, Some, None, reverse}
-use Rattle.std.specs.Prelude.{if◌then◌else◌}
+use Rattle.std.specs.Prelude.{if◌then◌else◌, ◌++◌, ◌∷◌, [], ℕ, ℤ, Bool, List, None, Option, Some, false, not, reverse}
+use Rattle.std.specs.Prelude.{true}
 use Rattle.cell_value.specs.declared.values.Value.{Value}
-use Rattle.cell_value.specs.declared.values.Value.TheVariants as value
-use Rattle.core_program.specs.declared.program.Routine.{Routine}
-use Rattle.core_program.specs.declared.rows.Row.{Row}
-use Rattle.core_program.specs.declared.rows.Row.TheVariants as rows
-use Rattle.core_program.specs.declared.rows.StatementRow.{StatementRow}
-use Rattle.core_program.specs.declared.rows.StatementRow.TheVariants as statements
-use Rattle.core_program.specs.ProgramRows.{ProgramRows, row_at, type_at, routine_at}
-use Rattle.core_program.specs.Actions.{Action, Give, ◌>>=◌}
-use Rattle.core_program.specs.Tree.{Out, Nothing, Scalar, Cells, Address, Jump, Here}
-use Rattle.core_program.specs.Tree.{ActTree, Ret, Sub, Enter, doing, bind}
-use Rattle.core_program.specs.Tree as parts
-use Rattle.core_program.specs.Values.{truth, is_true, with_sign_of, function_of, members_added, texts_compared}
-use Rattle.core_program.specs.Variants.{assign_to, tag_accessed}
-use Rattle.core_program.specs.Cells.{write, writes, component, frame_out, routine_out}
-use Rattle.core_program.specs.Heap.{pointed_at, dispose}
-use Rattle.core_program.specs.Accesses.{
-  no_row,
-  spend,
-  on_scalar,
-  on_cells,
-  on_address,
-  eval,
-  eval_cells,
-  locate,
-  scalar,
-  address,
-  with_components,
-  with_size,
-  with_formal,
-  locate_field,
-  value_at,
-}
-use Rattle.core_program.specs.Expressions.{operation_result, with_frame_size, enter, on_actual, gather}
-use Rattle.core_program.specs.Statements.{
-  on_normal,
-  on_statement,
-  on_labelled,
-  nothing,
-  finally,
-  on_value,
-  chosen_by,
-  has_turn,
-  first_turn,
-  turn_after,
-  of_statement,
-  line_of,
-  inside,
-}
+use Rattle.core_program.specs.{Actions.◌>>=◌, Actions.Action, Actions.Give, Heap.dispose, Heap.pointed_at}
+use Rattle.core_program.specs.{Packing.moves, Run.return_of, Tree.doing, Variants.assign_to, Variants.tag_accessed}
+use Rattle.core_program.specs.Accesses.{address, eval, eval_cells, locate, locate_field, no_row, on_address, on_cells}
+use Rattle.core_program.specs.Accesses.{on_scalar, scalar, spend, value_at, with_components, with_formal, with_size}
+use Rattle.core_program.specs.Cells.{component, frame_out, routine_out, write, writes}
+use Rattle.core_program.specs.Expressions.{enter, gather, on_actual, operation_result, with_frame_size}
 use Rattle.core_program.specs.Output.{end_line, scalar_text, string_text}
-use Rattle.core_program.specs.Packing.{moves}
+use Rattle.core_program.specs.ProgramRows.{ProgramRows, routine_at, row_at, type_at}
+use Rattle.core_program.specs.Statements.{chosen_by, finally, first_turn, has_turn, inside, line_of, nothing}
+use Rattle.core_program.specs.Statements.{of_statement, on_labelled, on_normal, on_statement, on_value, turn_after}
 use Rattle.core_program.specs.Transfers.{into, on_text, print}
-use Rattle.core_program.specs.Run.{return_of}
-use Rattle.evaluator.specs.Records.{without_last}
+use Rattle.core_program.specs.Tree.{ActTree, Address, Cells, Enter, Here, Jump, Nothing, Out, Ret, Scalar, Sub, bind}
+use Rattle.core_program.specs.Tree as parts
+use Rattle.core_program.specs.Values.{function_of, is_true, members_added, texts_compared, truth, with_sign_of}
+use Rattle.core_program.specs.declared.{program.Routine.Routine, rows.Row.Row, rows.StatementRow.StatementRow}
 use Rattle.eval_ops.specs.Operators.{dyadic_of}
-use Rattle.evaluator.specs.declared.body.Body.{Body}
-use Rattle.evaluator.specs.declared.tasks.Home.{Home}
-use Rattle.evaluator.specs.declared.tasks.Part.{Part}
-use Rattle.evaluator.specs.declared.tasks.Part.TheVariants as part
-use Rattle.evaluator.specs.declared.tasks.Way.{Way}
-use Rattle.evaluator.specs.declared.tasks.Way.TheVariants as way
-use Rattle.evaluator.specs.declared.tasks.Now.{Now}
-use Rattle.evaluator.specs.declared.tasks.Now.TheVariants.{Begin, Carry, Came}
-use Rattle.evaluator.specs.declared.tasks.OperandTask.{OperandTask}
-use Rattle.evaluator.specs.declared.tasks.OperandTask.TheVariants as operands
-use Rattle.evaluator.specs.declared.tasks.Located.{Located}
-use Rattle.evaluator.specs.declared.tasks.Located.TheVariants as locateds
-use Rattle.evaluator.specs.declared.tasks.ChoiceTask.{ChoiceTask}
-use Rattle.evaluator.specs.declared.tasks.ChoiceTask.TheVariants as choices
-use Rattle.evaluator.specs.declared.tasks.Next.{Next}
-use Rattle.evaluator.specs.declared.tasks.Next.TheVariants as nexts
-use Rattle.evaluator.specs.declared.tasks.TransferTask.{TransferTask}
-use Rattle.evaluator.specs.declared.tasks.TransferTask.TheVariants as transfers
-use Rattle.evaluator.specs.declared.tasks.Task.{Task}
-use Rattle.evaluator.specs.declared.tasks.Task.TheVariants as tasks
+use Rattle.evaluator.specs.{Records.without_last, declared.body.Body.Body, declared.tasks.TransferTask.TransferTask}
+use Rattle.evaluator.specs.declared.tasks.{ChoiceTask.ChoiceTask, Home.Home, Located.Located, Next.Next}
+use Rattle.evaluator.specs.declared.tasks.{OperandTask.OperandTask, Part.Part, Task.Task, Way.Way}
+use Rattle.evaluator.specs.declared.tasks.Now.{Now, TheVariants.Begin, TheVariants.Came, TheVariants.Carry}
 
 abbrev pub here : Home → (line : ℕ) → Here
 here home line = record { line = line; base = home.base; records = home.records }
 
 -- the value, or the list, that was the last to wait, and those below it
 abbrev pub top : List Value → Value
-top [] = value.Undefined
+top [] = Value.Undefined
 top (v ∷ vs) = v
 
 abbrev pub top_list : List (List Value) → List Value
@@ -96,17 +42,17 @@ below_top (x ∷ xs) = xs
 -- ---- what each task does with what came, where `x` is the value that waited
 
 abbrev pub after_operand : ProgramRows → Home → OperandTask → (x : Value) → Value → ActTree
-after_operand p home (operands.Sign minus line) x v = operation_result (here home line) (with_sign_of minus v)
-after_operand p home operands.Not x v = scalar (truth (not (is_true v)))
-after_operand p home (operands.Right dyadic right line) x v =
+after_operand p home (OperandTask.Sign minus line) x v = operation_result (here home line) (with_sign_of minus v)
+after_operand p home OperandTask.Not x v = scalar (truth (not (is_true v)))
+after_operand p home (OperandTask.Right dyadic right line) x v =
     eval right (here home line) (λ y. operation_result (here home line) (dyadic_of dyadic v y))
-after_operand p home (operands.Both dyadic line) x v = operation_result (here home line) (dyadic_of dyadic x v)
-after_operand p home (operands.Member next line) x v = gather (here home line) next (members_added x v v)
-after_operand p home (operands.First last next line) x v =
+after_operand p home (OperandTask.Both dyadic line) x v = operation_result (here home line) (dyadic_of dyadic x v)
+after_operand p home (OperandTask.Member next line) x v = gather (here home line) next (members_added x v v)
+after_operand p home (OperandTask.First last next line) x v =
     eval last (here home line) (λ w. gather (here home line) next (members_added x v w))
-after_operand p home (operands.Function f least greatest line) x v =
+after_operand p home (OperandTask.Function f least greatest line) x v =
     operation_result (here home line) (function_of f least greatest v)
-after_operand p home (operands.Component array addr line) x v = with_components p (type_at p array) (λ a.
+after_operand p home (OperandTask.Component array addr line) x v = with_components p (type_at p array) (λ a.
     doing line (component a addr v) address)
 
 -- the actual parameters from an item on
@@ -118,13 +64,13 @@ abbrev pub declared : (routine levels base : ℕ) → Action (ℕ × ℕ)
 declared routine levels base = frame_out levels base >>= λ frame. Give (routine, frame)
 
 abbrev pub located : ProgramRows → Home → Located → List Value → (addr : ℕ) → ActTree
-located p home (locateds.Value of' line) l addr = value_at p line addr (type_at p of')
-located p home (locateds.Index index array line) l addr = spend (here home line) (eval index (here home line) (λ v.
+located p home (Located.Value of' line) l addr = value_at p line addr (type_at p of')
+located p home (Located.Index index array line) l addr = spend (here home line) (eval index (here home line) (λ v.
     with_components p (type_at p array) (λ a. doing line (component a addr v) address)))
-located p home (locateds.Field field target line) l addr =
+located p home (Located.Field field target line) l addr =
     spend (here home line) (locate_field p target line addr field)
-located p home (locateds.Pointed line) l addr = spend (here home line) (doing line (pointed_at addr) address)
-located p home (locateds.Passed next line) l addr = pass home next line (l ++ value.Place addr ∷ [])
+located p home (Located.Pointed line) l addr = spend (here home line) (doing line (pointed_at addr) address)
+located p home (Located.Passed next line) l addr = pass home next line (l ++ Value.Place addr ∷ [])
 
 abbrev pub exec : Home → (row line : ℕ) → ActTree
 exec home row line = Sub (parts.Exec row (here home line)) Ret
@@ -137,44 +83,44 @@ abbrev pub until : Home → (row line : ℕ) → Value → ActTree
 until home row line v = if is_true v then nothing else turn home row line
 
 abbrev pub after_choice : ProgramRows → Home → ChoiceTask → (x : Value) → Value → ActTree
-after_choice p home (choices.If then' line) x v = if is_true v then exec home then' line else nothing
-after_choice p home (choices.IfElse then' otherwise line) x v =
+after_choice p home (ChoiceTask.If then' line) x v = if is_true v then exec home then' line else nothing
+after_choice p home (ChoiceTask.IfElse then' otherwise line) x v =
     if is_true v then exec home then' line else exec home otherwise line
-after_choice p home (choices.Case list line) x v = chosen_by p (here home line) list v
-after_choice p home (choices.While row body line) x v =
+after_choice p home (ChoiceTask.Case list line) x v = chosen_by p (here home line) list v
+after_choice p home (ChoiceTask.While row body line) x v =
     if is_true v then Sub (parts.Exec body (here home line)) (on_normal (turn home row line)) else nothing
-after_choice p home (choices.Until row line) x v = until home row line v
-after_choice p home (choices.First last turns line) x v =
+after_choice p home (ChoiceTask.Until row line) x v = until home row line v
+after_choice p home (ChoiceTask.First last turns line) x v =
     eval last (here home line) (λ j. first_turn p (here home line) turns (row_at p turns) v j)
-after_choice p home (choices.Last turns line) x v = first_turn p (here home line) turns (row_at p turns) x v
+after_choice p home (ChoiceTask.Last turns line) x v = first_turn p (here home line) turns (row_at p turns) x v
 
 -- after the turn of a for statement with a value up to which it had come
 abbrev pub after_turn : Home → (row line : ℕ) → (i last : ℤ) → Row → ActTree
-after_turn home row line i last (rows.Statement (statements.Turns direction last' place of' body)) =
+after_turn home row line i last (Row.Statement (StatementRow.Turns direction last' place of' body)) =
     if has_turn direction i last then turn_after row (here home line) direction place i last else no_row
 after_turn home row line i last r = no_row
 
 -- goes on with the two numbers that waited
 abbrev pub with_numbers : (i last : Value) → (ℤ → ℤ → ActTree) → ActTree
-with_numbers (value.Number i) (value.Number last) go = go i last
+with_numbers (Value.Number i) (Value.Number last) go = go i last
 with_numbers i last go = no_row
 
 -- after a statement that ended normally
 abbrev pub after_next : ProgramRows → Home → Next → List Value → ActTree
-after_next p home (nexts.Sequence first at line) vs = Sub (parts.Sequence first at (here home line)) Ret
-after_next p home (nexts.Labelled row label line) vs = nothing
-after_next p home (nexts.Again row line) vs = turn home row line
-after_next p home (nexts.Condition row condition line) vs = eval condition (here home line) (until home row line)
-after_next p home (nexts.Counted row line) vs = with_numbers (top (below_top vs)) (top vs) (λ i last.
+after_next p home (Next.Sequence first at line) vs = Sub (parts.Sequence first at (here home line)) Ret
+after_next p home (Next.Labelled row label line) vs = nothing
+after_next p home (Next.Again row line) vs = turn home row line
+after_next p home (Next.Condition row condition line) vs = eval condition (here home line) (until home row line)
+after_next p home (Next.Counted row line) vs = with_numbers (top (below_top vs)) (top vs) (λ i last.
     after_turn home row line i last (row_at p row))
-after_next p home nexts.Forget vs = nothing
-after_next p home (nexts.PassLine line) vs = Sub (parts.RestOfLine (here home line)) Ret
-after_next p home (nexts.EndLine line) vs = finally (here home line) end_line
+after_next p home Next.Forget vs = nothing
+after_next p home (Next.PassLine line) vs = Sub (parts.RestOfLine (here home line)) Ret
+after_next p home (Next.EndLine line) vs = finally (here home line) end_line
 
 -- after a statement, which may have ended by a jump
 abbrev pub after_statement : ProgramRows → Home → Next → List Value → Out → ActTree
-after_statement p home (nexts.Sequence first at line) vs = on_statement p (here home line) first at
-after_statement p home (nexts.Labelled row label line) vs = on_labelled row label (here home line)
+after_statement p home (Next.Sequence first at line) vs = on_statement p (here home line) first at
+after_statement p home (Next.Labelled row label line) vs = on_labelled row label (here home line)
 after_statement p home t vs = on_normal (after_next p home t vs)
 
 -- a value that was read goes into a variable, and then comes the next actual
@@ -185,17 +131,17 @@ stored p home access of' next line v addr =
 
 -- after a part of an actual of a read or a write statement
 abbrev pub after_transfer : ProgramRows → Home → TransferTask → List Value → List (List Value) → Out → ActTree
-after_transfer p home (transfers.Integer access of' next line) vs ls =
+after_transfer p home (TransferTask.Integer access of' next line) vs ls =
     on_scalar (into p (here home line) access of' next)
-after_transfer p home (transfers.Into access of' next line) vs ls =
+after_transfer p home (TransferTask.Into access of' next line) vs ls =
     on_address (stored p home access of' next line (top vs))
-after_transfer p home (transfers.Written of' next line) vs ls = on_text p of' (λ text.
+after_transfer p home (TransferTask.Written of' next line) vs ls = on_text p of' (λ text.
     print (here home line) next text None)
-after_transfer p home (transfers.Wide of' width next line) vs ls = on_text p of' (λ text.
+after_transfer p home (TransferTask.Wide of' width next line) vs ls = on_text p of' (λ text.
     eval width (here home line) (λ w. print (here home line) next text (Some w)))
-after_transfer p home (transfers.Width host next line) vs ls = on_scalar (λ w.
+after_transfer p home (TransferTask.Width host next line) vs ls = on_scalar (λ w.
     print (here home line) next (scalar_text host (top vs)) (Some w))
-after_transfer p home (transfers.TextWidth next line) vs ls = on_scalar (λ w.
+after_transfer p home (TransferTask.TextWidth next line) vs ls = on_scalar (λ w.
     print (here home line) next (string_text (top_list ls)) (Some w))
 
 -- the cells of arrays are moved, once both are located and the index is known
@@ -228,7 +174,7 @@ after_call false out = Ret out
 abbrev pub call_begun : ProgramRows → Home → (procedure : Bool) → (routine levels line : ℕ) → List Value → ActTree
 call_begun p home procedure routine levels line args = with_frame_size (routine_at p routine) (λ cells.
     doing line (frame_out levels home.base) (λ frame.
-    Enter routine cells (value.Frame frame ∷ args) (after_call procedure)))
+    Enter routine cells (Value.Frame frame ∷ args) (after_call procedure)))
 
 -- the call of a routine parameter, once its actual parameters are known
 abbrev pub called_formal : ProgramRows → Home → (procedure : Bool) → (formal levels line : ℕ) → List Value → ActTree
@@ -238,62 +184,62 @@ called_formal p home procedure formal levels line args = with_formal (row_at p f
 
 -- what a task does with how the part before it ended
 abbrev pub after_part : ProgramRows → Home → Task → List Value → List (List Value) → Out → ActTree
-after_part p home (tasks.Operand t) vs ls = on_scalar (after_operand p home t (top vs))
-after_part p home (tasks.Located t) vs ls = on_address (located p home t (top_list ls))
-after_part p home (tasks.Actual of' next line) vs ls = on_actual p (here home line) (type_at p of') (λ ws.
+after_part p home (Task.Operand t) vs ls = on_scalar (after_operand p home t (top vs))
+after_part p home (Task.Located t) vs ls = on_address (located p home t (top_list ls))
+after_part p home (Task.Actual of' next line) vs ls = on_actual p (here home line) (type_at p of') (λ ws.
     pass home next line (top_list ls ++ ws))
-after_part p home (tasks.Call procedure routine levels line) vs ls =
+after_part p home (Task.Call procedure routine levels line) vs ls =
     on_cells (call_begun p home procedure routine levels line)
-after_part p home (tasks.CallFormal procedure formal levels line) vs ls =
+after_part p home (Task.CallFormal procedure formal levels line) vs ls =
     on_cells (called_formal p home procedure formal levels line)
-after_part p home (tasks.Range next line) vs ls = on_scalar (λ w.
+after_part p home (Task.Range next line) vs ls = on_scalar (λ w.
     gather (here home line) next (members_added (top (below_top vs)) (top vs) w))
-after_part p home (tasks.TextRight order right line) vs ls = on_cells (λ xs.
+after_part p home (Task.TextRight order right line) vs ls = on_cells (λ xs.
     eval_cells right (here home line) (λ ys. operation_result (here home line) (texts_compared order xs ys)))
-after_part p home (tasks.Texts order line) vs ls = on_cells (λ ys.
+after_part p home (Task.Texts order line) vs ls = on_cells (λ ys.
     operation_result (here home line) (texts_compared order (top_list ls) ys))
-after_part p home (tasks.Choice t) vs ls = on_scalar (after_choice p home t (top vs))
-after_part p home (tasks.Target target of' line) vs ls = on_value p (here home line) target of'
-after_part p home (tasks.Put target of' line) vs ls = on_address (λ addr.
+after_part p home (Task.Choice t) vs ls = on_scalar (after_choice p home t (top vs))
+after_part p home (Task.Target target of' line) vs ls = on_value p (here home line) target of'
+after_part p home (Task.Put target of' line) vs ls = on_address (λ addr.
     finally (here home line) (assign_to p (tag_accessed p (row_at p target)) (type_at p of') addr (top vs)))
-after_part p home (tasks.PutCells line) vs ls = on_address (λ addr.
+after_part p home (Task.PutCells line) vs ls = on_address (λ addr.
     finally (here home line) (writes addr (top_list ls)))
-after_part p home (tasks.Record next body line) vs ls = on_address (λ addr.
+after_part p home (Task.Record next body line) vs ls = on_address (λ addr.
     Sub (parts.Establish next body (inside (here home line) addr)) Ret)
-after_part p home (tasks.Point line) vs ls = on_address (λ addr. finally (here home line) (write addr (top vs)))
-after_part p home (tasks.Dispose of' line) vs ls = on_scalar (λ v.
+after_part p home (Task.Point line) vs ls = on_address (λ addr. finally (here home line) (write addr (top vs)))
+after_part p home (Task.Dispose of' line) vs ls = on_scalar (λ v.
     with_size (type_at p of') (λ cells. finally (here home line) (dispose cells v)))
-after_part p home (tasks.Next t) vs ls = after_statement p home t vs
-after_part p home tasks.Leave vs ls = Ret
-after_part p home (tasks.Transfer t) vs ls = after_transfer p home t vs ls
-after_part p home (tasks.PackFirst packing unpacked index packed line) vs ls =
+after_part p home (Task.Next t) vs ls = after_statement p home t vs
+after_part p home Task.Leave vs ls = Ret
+after_part p home (Task.Transfer t) vs ls = after_transfer p home t vs ls
+after_part p home (Task.PackFirst packing unpacked index packed line) vs ls =
     on_address (first_located p home packing unpacked index packed line)
-after_part p home (tasks.PackSecond packing unpacked index packed first line) vs ls =
+after_part p home (Task.PackSecond packing unpacked index packed first line) vs ls =
     on_address (both_located p home packing unpacked index packed first line)
-after_part p home (tasks.PackIndex packing unpacked packed wide close line) vs ls =
+after_part p home (Task.PackIndex packing unpacked packed wide close line) vs ls =
     on_scalar (arrays_moved p home packing unpacked packed wide close line)
 
 -- the values that wait below those that a task holds
 abbrev pub values_below : Task → List Value → List Value
-values_below (tasks.Operand (operands.Both dyadic line)) vs = below_top vs
-values_below (tasks.Operand (operands.Member next line)) vs = below_top vs
-values_below (tasks.Operand (operands.First last next line)) vs = below_top vs
-values_below (tasks.Range next line) vs = below_top (below_top vs)
-values_below (tasks.Choice (choices.Last turns line)) vs = below_top vs
-values_below (tasks.Put target of' line) vs = below_top vs
-values_below (tasks.Point line) vs = below_top vs
-values_below (tasks.Next (nexts.Counted row line)) vs = below_top (below_top vs)
-values_below (tasks.Transfer (transfers.Into access of' next line)) vs = below_top vs
-values_below (tasks.Transfer (transfers.Width host next line)) vs = below_top vs
+values_below (Task.Operand (OperandTask.Both dyadic line)) vs = below_top vs
+values_below (Task.Operand (OperandTask.Member next line)) vs = below_top vs
+values_below (Task.Operand (OperandTask.First last next line)) vs = below_top vs
+values_below (Task.Range next line) vs = below_top (below_top vs)
+values_below (Task.Choice (ChoiceTask.Last turns line)) vs = below_top vs
+values_below (Task.Put target of' line) vs = below_top vs
+values_below (Task.Point line) vs = below_top vs
+values_below (Task.Next (Next.Counted row line)) vs = below_top (below_top vs)
+values_below (Task.Transfer (TransferTask.Into access of' next line)) vs = below_top vs
+values_below (Task.Transfer (TransferTask.Width host next line)) vs = below_top vs
 values_below t vs = vs
 
 -- the lists that wait below the one that a task holds
 abbrev pub lists_below : Task → List (List Value) → List (List Value)
-lists_below (tasks.Located (locateds.Passed next line)) ls = below_top ls
-lists_below (tasks.Actual of' next line) ls = below_top ls
-lists_below (tasks.PutCells line) ls = below_top ls
-lists_below (tasks.Texts order line) ls = below_top ls
-lists_below (tasks.Transfer (transfers.TextWidth next line)) ls = below_top ls
+lists_below (Task.Located (Located.Passed next line)) ls = below_top ls
+lists_below (Task.Actual of' next line) ls = below_top ls
+lists_below (Task.PutCells line) ls = below_top ls
+lists_below (Task.Texts order line) ls = below_top ls
+lists_below (Task.Transfer (TransferTask.TextWidth next line)) ls = below_top ls
 lists_below t ls = ls
 
 -- without the innermost record that a with statement has established, and without any
@@ -305,7 +251,7 @@ bare home = record home { records = [] }
 
 -- where what is below a task is at work
 abbrev pub home_below : Task → Home → Home
-home_below tasks.Leave home = with_left home
+home_below Task.Leave home = with_left home
 home_below t home = home
 
 -- how the body's routine returns, once its statement part has ended
@@ -327,37 +273,37 @@ carry_with p home row s None = no_row
 
 -- a statement whose line is told
 abbrev pub carried : ProgramRows → Home → (row : ℕ) → Row → ActTree
-carried p home row (rows.Statement s) = carry_with p home row s (line_of s)
+carried p home row (Row.Statement s) = carry_with p home row s (line_of s)
 carried p home row r = no_row
 
 -- a part has ended
 abbrev pub came : ProgramRows → Home → Way → List Task → List Value → List (List Value) → ActTree
-came p home way.Nothing ts vs ls = resume p home ts vs ls Nothing
-came p home (way.Scalar v) ts vs ls = resume p home ts vs ls (Scalar v)
-came p home way.Cells ts vs ls = resume p home ts vs (below_top ls) (Cells (top_list ls))
-came p home (way.Address addr) ts vs ls = resume p home ts vs ls (Address addr)
-came p home (way.Jump label base) ts vs ls = resume p home ts vs ls (Jump label base)
+came p home Way.Nothing ts vs ls = resume p home ts vs ls Nothing
+came p home (Way.Scalar v) ts vs ls = resume p home ts vs ls (Scalar v)
+came p home Way.Cells ts vs ls = resume p home ts vs (below_top ls) (Cells (top_list ls))
+came p home (Way.Address addr) ts vs ls = resume p home ts vs ls (Address addr)
+came p home (Way.Jump label base) ts vs ls = resume p home ts vs ls (Jump label base)
 
 -- a part begins
 abbrev pub begun : ProgramRows → Home → Part → List Task → List Value → List (List Value) → ActTree
-begun p home (part.Eval row line) ts vs ls = Sub (parts.Eval row (here home line)) (resume p home ts vs ls)
-begun p home (part.Locate row target line) ts vs ls =
+begun p home (Part.Eval row line) ts vs ls = Sub (parts.Eval row (here home line)) (resume p home ts vs ls)
+begun p home (Part.Locate row target line) ts vs ls =
     Sub (parts.Locate row target (here home line)) (resume p home ts vs ls)
-begun p home (part.Pass at line) ts vs ls =
+begun p home (Part.Pass at line) ts vs ls =
     Sub (parts.Pass at (top_list ls) (here home line)) (resume p home ts vs (below_top ls))
-begun p home (part.Gather at line) ts vs ls =
+begun p home (Part.Gather at line) ts vs ls =
     Sub (parts.Gather at (top vs) (here home line)) (resume p home ts (below_top vs) ls)
-begun p home (part.Establish at body line) ts vs ls =
+begun p home (Part.Establish at body line) ts vs ls =
     Sub (parts.Establish at body (here home line)) (resume p home ts vs ls)
-begun p home (part.Exec row line) ts vs ls = Sub (parts.Exec row (here home line)) (resume p home ts vs ls)
-begun p home (part.Sequence first at line) ts vs ls =
+begun p home (Part.Exec row line) ts vs ls = Sub (parts.Exec row (here home line)) (resume p home ts vs ls)
+begun p home (Part.Sequence first at line) ts vs ls =
     Sub (parts.Sequence first at (here home line)) (resume p home ts vs ls)
-begun p home (part.Turn row line) ts vs ls = Sub (parts.Turn row (here home line)) (resume p home ts vs ls)
-begun p home part.Block ts vs ls = Sub (parts.Body home.routine home.base) (resume p (bare home) ts vs ls)
-begun p home (part.Receive at line) ts vs ls = Sub (parts.Receive at (here home line)) (resume p home ts vs ls)
-begun p home (part.Scanning scan line) ts vs ls = Sub (parts.Scanning scan (here home line)) (resume p home ts vs ls)
-begun p home (part.RestOfLine line) ts vs ls = Sub (parts.RestOfLine (here home line)) (resume p home ts vs ls)
-begun p home (part.Print at line) ts vs ls = Sub (parts.Print at (here home line)) (resume p home ts vs ls)
+begun p home (Part.Turn row line) ts vs ls = Sub (parts.Turn row (here home line)) (resume p home ts vs ls)
+begun p home Part.Block ts vs ls = Sub (parts.Body home.routine home.base) (resume p (bare home) ts vs ls)
+begun p home (Part.Receive at line) ts vs ls = Sub (parts.Receive at (here home line)) (resume p home ts vs ls)
+begun p home (Part.Scanning scan line) ts vs ls = Sub (parts.Scanning scan (here home line)) (resume p home ts vs ls)
+begun p home (Part.RestOfLine line) ts vs ls = Sub (parts.RestOfLine (here home line)) (resume p home ts vs ls)
+begun p home (Part.Print at line) ts vs ls = Sub (parts.Print at (here home line)) (resume p home ts vs ls)
 
 abbrev pub left_now : ProgramRows → Home → Now → List Task → List Value → List (List Value) → ActTree
 left_now p home (Begin part) ts vs ls = begun p home part ts vs ls

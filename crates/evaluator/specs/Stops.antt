@@ -1,14 +1,10 @@
 -- A tree's stops: what a body does between two stops.
-use Rattle.std.specs.Prelude.{◌≡◌, ℕ, zero, suc, List, ◌++◌, Option, Some, None}
-use Rattle.cell_value.specs.declared.values.Value.{Value}
-use Rattle.cell_value.specs.declared.entries.Touch.{Touch}
-use Rattle.cell_value.specs.declared.ways_out.WayOut.TheVariants as way
-use Rattle.cell_value.specs.declared.ways_out.Which.{Which}
-use Rattle.core_program.specs.ProgramRows.{ProgramRows}
-use Rattle.core_program.specs.Acts.{Spend, ActResult, Went, Stops, perform, limit_passed}
-use Rattle.core_program.specs.Tree.{Out, ActTree, Ret, Halt, Meaningless, Do, Sub, Enter, Line, way_of, bind}
-use Rattle.core_program.specs.Layer.{layer}
-use Rattle.core_program.specs.Run.{End, Ended, Halted}
+use Rattle.std.specs.Prelude.{◌++◌, ◌≡◌, ℕ, List, None, Option, Some, suc, zero}
+use Rattle.cell_value.specs.declared.{entries.Touch.Touch, values.Value.Value}
+use Rattle.cell_value.specs.declared.ways_out.{WayOut.WayOut, Which.Which}
+use Rattle.core_program.specs.{Layer.layer, ProgramRows.ProgramRows, Run.End, Run.Ended, Run.Halted}
+use Rattle.core_program.specs.Acts.{ActResult, Spend, Stops, Went, limit_passed, perform}
+use Rattle.core_program.specs.Tree.{ActTree, Do, Enter, Halt, Line, Meaningless, Out, Ret, Sub, bind, way_of}
 use Rattle.eval_ops.specs.Machines.{Moment}
 
 -- what a body stops at, and what it has still to do then
@@ -28,7 +24,7 @@ on_act line log (Stops why touches σ) go =
 -- a call that would pass a limit ends the body
 abbrev pub at_call : Option Which → (routine : ℕ) → List Value → (Out → ActTree) → Stop
 at_call None routine args rest = AtCall routine args rest
-at_call (Some which) routine args rest = AtEnd (Halted (way.Limited which))
+at_call (Some which) routine args rest = AtEnd (Halted (WayOut.Limited which))
 
 -- the next stop of a tree, in at most n moves
 abbrev pub next_stop : ProgramRows → ℕ → ActTree → Moment → Option (Stop × Moment)

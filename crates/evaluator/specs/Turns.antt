@@ -1,24 +1,14 @@
 -- What a turn of a body does.
-use Rattle.std.specs.Prelude.{◌≡◌, Result, Ok, Err, Option, Some, None, ℕ}
-use Rattle.cell_value.specs.declared.ways_out.WayOut.TheVariants as way
-use Rattle.core_program.specs.ProgramRows.{ProgramRows, routine_at}
-use Rattle.core_program.specs.declared.program.Routine.{Routine}
-use Rattle.core_program.specs.State.{State}
-use Rattle.core_program.specs.Acts.{limit_passed}
-use Rattle.core_program.specs.Tree.{Out, Nothing, Scalar, Jump, ActTree}
-use Rattle.core_program.specs.Run.{Ended, Halted}
-use Rattle.core_program.specs.Replay.{end_of}
-use Rattle.eval_ops.specs.Machines.{Moment}
-use Rattle.eval_ops.specs.declared.halt.Halt.{Halt}
-use Rattle.eval_ops.specs.declared.halt.Halt.TheVariants as halts
-use Rattle.evaluator.specs.Stops.{Stop, AtLine, AtCall, AtEnd, Comes, NextStopIs}
+use Rattle.std.specs.Prelude.{◌≡◌, ℕ, Err, None, Ok, Option, Result, Some}
+use Rattle.cell_value.specs.declared.ways_out.WayOut.{WayOut}
+use Rattle.core_program.specs.{Acts.limit_passed, ProgramRows.ProgramRows, ProgramRows.routine_at, Replay.end_of}
+use Rattle.core_program.specs.{Run.Ended, Run.Halted, State.State, declared.program.Routine.Routine}
+use Rattle.core_program.specs.Tree.{ActTree, Jump, Nothing, Out, Scalar}
+use Rattle.eval_ops.specs.{Machines.Moment, declared.halt.Halt.Halt}
 use Rattle.evaluator.specs.Rest.{below_top, lists_of, rest_of, resume, tasks_of, top_list, values_of, waiting}
+use Rattle.evaluator.specs.Stops.{AtCall, AtEnd, AtLine, Comes, NextStopIs, Stop}
 use Rattle.evaluator.specs.declared.body.Body.{Body}
-use Rattle.evaluator.specs.declared.tasks.Now.{Now}
-use Rattle.evaluator.specs.declared.tasks.Now.TheVariants.{Came}
-use Rattle.evaluator.specs.declared.tasks.Way.TheVariants as came
-use Rattle.evaluator.specs.declared.tasks.Pause.{Pause}
-use Rattle.evaluator.specs.declared.tasks.Pause.TheVariants as pauses
+use Rattle.evaluator.specs.declared.tasks.{Now.Now, Now.TheVariants.Came, Pause.Pause, Way.Way}
 use Rattle.evaluator.specs.declared.tasks.Stop as stop
 use Rattle.evaluator.specs.declared.tasks.Stop.TheVariants as stops
 
@@ -30,17 +20,17 @@ stop_of p a (stops.Ended way answer) = AtEnd (end_of way answer)
 
 -- how a body ended whose tasks are done, by what came last
 abbrev pub ended_by : Now → Out
-ended_by (Came (came.Jump label base)) = Jump label base
-ended_by (Came (came.Scalar v)) = Scalar v
+ended_by (Came (Way.Jump label base)) = Jump label base
+ended_by (Came (Way.Scalar v)) = Scalar v
 ended_by now = Nothing
 
 -- the stop of the definitions at which a turn pauses: the cells of a call are the last list that waits, and what came
 -- tells how a body ended
 abbrev pub pause_of : ProgramRows → Body → Pause → Stop
-pause_of p a (pauses.Line line) = AtLine line (rest_of p a)
-pause_of p a (pauses.Enter f) =
+pause_of p a (Pause.Line line) = AtLine line (rest_of p a)
+pause_of p a (Pause.Enter f) =
     AtCall f (top_list (lists_of a)) (resume p a.home (tasks_of a) (values_of a) (below_top (lists_of a)))
-pause_of p a pauses.Ended = AtEnd (Ended (ended_by a.now))
+pause_of p a Pause.Ended = AtEnd (Ended (ended_by a.now))
 
 -- a point of a run, as a configuration of structural operational semantics: what is still to be done, and the moment
 pub record Configuration : Type 0 where
@@ -52,10 +42,10 @@ configuration t m = record { tree = t; moment = m }
 
 -- it stops for good there, unless memory ran out
 abbrev pub StopsForGood : ProgramRows → Configuration → (line : ℕ) → Halt → Moment → Type 0
-StopsForGood p c line (halts.Fault kind) m = NextStopIs p c.tree c.moment (AtEnd (Halted (way.Faulted kind line))) m
-StopsForGood p c line halts.OutOfSteps m = NextStopIs p c.tree c.moment (AtEnd (Halted way.OutOfSteps)) m
-StopsForGood p c line (halts.Limited which) m = NextStopIs p c.tree c.moment (AtEnd (Halted (way.Limited which))) m
-StopsForGood p c line halts.Memory m = Unit {0}
+StopsForGood p c line (Halt.Fault kind) m = NextStopIs p c.tree c.moment (AtEnd (Halted (WayOut.Faulted kind line))) m
+StopsForGood p c line Halt.OutOfSteps m = NextStopIs p c.tree c.moment (AtEnd (Halted WayOut.OutOfSteps)) m
+StopsForGood p c line (Halt.Limited which) m = NextStopIs p c.tree c.moment (AtEnd (Halted (WayOut.Limited which))) m
+StopsForGood p c line Halt.Memory m = Unit {0}
 
 -- the routine is one of the program, and no limit forbids a call of it
 abbrev pub MayEnter : ProgramRows → (routine : ℕ) → State → Type 0
@@ -68,7 +58,7 @@ MayGoOn p s σ = Unit {0}
 
 -- a call at which a turn pauses may be entered
 abbrev pub PausesInRoom : ProgramRows → Pause → State → Type 0
-PausesInRoom p (pauses.Enter f) σ = MayEnter p f σ
+PausesInRoom p (Pause.Enter f) σ = MayEnter p f σ
 PausesInRoom p pause σ = Unit {0}
 
 -- it comes from there to a stop, or to what the body has now to do
@@ -79,7 +69,7 @@ Turns p c (Err e) a m = StopsForGood p c a.line e m
 
 -- a call of a routine is to be entered there, unless memory ran out
 abbrev pub EntersRoutine : ProgramRows → Configuration → (routine : ℕ) → Result (Option Pause) Halt → Body → Type 0
-EntersRoutine p c routine (Ok (Some (pauses.Enter f))) a =
-    NextStopIs p c.tree c.moment (pause_of p a (pauses.Enter f)) c.moment × (f ≡ routine)
-EntersRoutine p c routine (Err halts.Memory) a = Unit {0}
+EntersRoutine p c routine (Ok (Some (Pause.Enter f))) a =
+    NextStopIs p c.tree c.moment (pause_of p a (Pause.Enter f)) c.moment × (f ≡ routine)
+EntersRoutine p c routine (Err Halt.Memory) a = Unit {0}
 EntersRoutine p c routine r a = ⊥

@@ -1,19 +1,16 @@
 //! Accesses.
 
-ghost use Rattle.std.specs.Prelude.{◌≡◌, ℕ, ◌+◌, slice_get};
-ghost use Rattle.core_program.specs.ProgramRows.{ProgramRows};
-ghost use Rattle.eval_ops.specs.Machines.{IsReady, Moment, moment_of};
-ghost use Rattle.core_program.specs.Tree.{Locate, Sub, ActTree, bind, doing};
+ghost use Rattle.std.specs.Prelude.{◌+◌, ◌≡◌, ℕ, slice_get};
+ghost use Rattle.core_program.specs.{Accesses.with_components, Accesses.with_record, Cells.cell_out};
+ghost use Rattle.core_program.specs.{Cells.reference_out, Heap.pointed_at as pointed_at_in, ProgramRows.ProgramRows};
+ghost use Rattle.core_program.specs.Accesses.{address, cells_at, locate_before, locate_field as field_in, of_access};
+ghost use Rattle.core_program.specs.Accesses.{on_address, scalar, spend as spend_in, value_at, with_bounds};
 ghost use Rattle.core_program.specs.Cells as action;
-ghost use Rattle.core_program.specs.Cells.{cell_out, reference_out};
-ghost use Rattle.core_program.specs.Heap.{pointed_at as pointed_at_in};
-ghost use Rattle.core_program.specs.Accesses.{address, cells_at, of_access, on_address, scalar, value_at};
-ghost use Rattle.core_program.specs.Accesses.{locate_field as field_in, with_record};
-ghost use Rattle.core_program.specs.Accesses.{locate_before, with_bounds, with_components, spend as spend_in};
+ghost use Rattle.core_program.specs.Tree.{ActTree, Locate, Sub, bind, doing};
+ghost use Rattle.eval_ops.specs.Machines.{IsReady, Moment, moment_of};
+ghost use Rattle.evaluator.specs.{Turns.Turns, Turns.configuration, Weight.task_weight, Weight.tasks_weight};
 ghost use Rattle.evaluator.specs.Rest.{from, from_under, here, waiting};
-ghost use Rattle.evaluator.specs.Turns.{Turns, configuration};
-ghost use Rattle.evaluator.specs.Weight.{Falls, body_weight, come, measure_of, left_with, part_weight, task_weight};
-ghost use Rattle.evaluator.specs.Weight.{now_weight, tasks_weight};
+ghost use Rattle.evaluator.specs.Weight.{Falls, body_weight, come, left_with, measure_of, now_weight, part_weight};
 
 use crate::actuals::add_cell;
 use crate::body::{Body, Turned};

@@ -1,18 +1,15 @@
 //! Actual parameters.
 
-ghost use Rattle.std.specs.Prelude.{◌≡◌, ◌+◌, ◌++◌, ◌∷◌, [], ℕ, None, OnOk, IfErr};
+ghost use Rattle.std.specs.Prelude.{◌++◌, ◌+◌, ◌∷◌, ◌≡◌, [], ℕ, IfErr, None, OnOk};
 ghost use Rattle.cell_value.specs.declared.values.Value.{Value as CellValue};
-ghost use Rattle.eval_ops.specs.Machines.{DoesAll, IsReady, Moment, machine_state, moment_of};
-ghost use Rattle.core_program.specs.Actions.{Action, performs};
-ghost use Rattle.core_program.specs.Tree.{bind, doing};
-ghost use Rattle.core_program.specs.Accesses.{with_formal};
+ghost use Rattle.core_program.specs.{Accesses.with_formal, Actions.Action, Actions.performs, Tree.bind, Tree.doing};
 ghost use Rattle.core_program.specs.Cells as action;
 ghost use Rattle.core_program.specs.Expressions as expressions;
+ghost use Rattle.eval_ops.specs.Machines.{DoesAll, IsReady, Moment, machine_state, moment_of};
+ghost use Rattle.evaluator.specs.{Rest.top_list, Rest.values_of, Turns.Turns, Turns.configuration};
 ghost use Rattle.evaluator.specs.Rest.{below_top, declared, from, from_under, here, lists_of, pass, resume, tasks_of};
-ghost use Rattle.evaluator.specs.Rest.{top_list, values_of};
-ghost use Rattle.evaluator.specs.Turns.{Turns, configuration};
-ghost use Rattle.evaluator.specs.Weight.{Falls, body_weight, come, measure_of, left_with, part_weight, task_weight};
-ghost use Rattle.evaluator.specs.Weight.{now_weight, tasks_weight};
+ghost use Rattle.evaluator.specs.Weight.{Falls, body_weight, come, left_with, measure_of, now_weight, part_weight};
+ghost use Rattle.evaluator.specs.Weight.{task_weight, tasks_weight};
 
 use crate::body::{Body, Turned};
 use crate::tasks::{Located, Now, Part, Task, Way};

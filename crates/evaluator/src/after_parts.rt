@@ -1,13 +1,12 @@
 //! Statements: what goes on after a part of one.
 
-ghost use Rattle.std.specs.Prelude.{◌≡◌, ◌+◌, if◌then◌else◌};
-ghost use Rattle.core_program.specs.ProgramRows.{ProgramRows};
-ghost use Rattle.core_program.specs.Tree.{bind};
+ghost use Rattle.std.specs.Prelude.{if◌then◌else◌, ◌+◌, ◌≡◌};
+ghost use Rattle.core_program.specs.{ProgramRows.ProgramRows, Tree.bind};
 ghost use Rattle.core_program.specs.Statements as statements;
 ghost use Rattle.eval_ops.specs.Machines.{IsReady, Moment, moment_of};
 ghost use Rattle.evaluator.specs.Rest.{from, from_under, here, waiting};
 ghost use Rattle.evaluator.specs.Turns.{Turns, configuration};
-ghost use Rattle.evaluator.specs.Weight.{Falls, body_weight, come, measure_of, left_with, task_weight, tasks_weight};
+ghost use Rattle.evaluator.specs.Weight.{Falls, body_weight, come, left_with, measure_of, task_weight, tasks_weight};
 
 use crate::body::{Body, Turned};
 use crate::counting::{first_turn, turn_ended};

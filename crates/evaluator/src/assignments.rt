@@ -1,10 +1,9 @@
 //! Assignments.
 
-ghost use Rattle.std.specs.Prelude.{◌≡◌, ◌+◌};
+ghost use Rattle.std.specs.Prelude.{◌+◌, ◌≡◌};
 ghost use Rattle.eval_ops.specs.Machines.{IsReady, Moment, moment_of};
-ghost use Rattle.evaluator.specs.Rest.{from_under};
-ghost use Rattle.evaluator.specs.Turns.{Turns, configuration};
-ghost use Rattle.evaluator.specs.Weight.{Falls, body_weight, come, measure_of, left_with, task_weight, tasks_weight};
+ghost use Rattle.evaluator.specs.{Rest.from_under, Turns.Turns, Turns.configuration};
+ghost use Rattle.evaluator.specs.Weight.{Falls, body_weight, come, left_with, measure_of, task_weight, tasks_weight};
 
 use crate::body::{Body, Turned};
 use crate::tasks::{Now, Part, Task, Way};

@@ -1,19 +1,14 @@
 //! A body, and the single steps on it.
 
-ghost use Rattle.std.specs.Prelude.{◌≡◌, ◌+◌, ◌∷◌, Ok, Err, None, Some, ℕ, if◌then◌else◌, max};
+ghost use Rattle.std.specs.Prelude.{if◌then◌else◌, ◌+◌, ◌∷◌, ◌≡◌, ℕ, Err, None, Ok, Some, max};
 ghost use Rattle.cell_value.specs.declared.values.Value.{Value as CellValue};
-ghost use Rattle.core_program.specs.declared.program.Routine.{Routine as RoutineRow};
-ghost use Rattle.core_program.specs.ProgramRows.{ProgramRows, routine_at};
-ghost use Rattle.core_program.specs.Actions.{Action, performs};
-ghost use Rattle.core_program.specs.Tree.{Out, bind, doing, Cells as CellsOut};
-ghost use Rattle.core_program.specs.Accesses.{address, no_row, scalar};
-ghost use Rattle.core_program.specs.Statements.{nothing};
-ghost use Rattle.core_program.specs.Run.{Ended, whole};
+ghost use Rattle.core_program.specs.{Accesses.address, Accesses.no_row, Accesses.scalar, Actions.Action};
+ghost use Rattle.core_program.specs.{Actions.performs, ProgramRows.ProgramRows, ProgramRows.routine_at, Replay.end_of};
+ghost use Rattle.core_program.specs.{Run.Ended, Run.whole, Statements.nothing, Tree.Cells as CellsOut, Tree.Out};
+ghost use Rattle.core_program.specs.{Tree.bind, Tree.doing, declared.program.Routine.Routine as RoutineRow};
 ghost use Rattle.eval_ops.specs.Machines.{DoesAll, Moment};
-ghost use Rattle.evaluator.specs.Rest.{left_now, below_top, from, from_under, home_below, lists_of, lists_below};
-ghost use Rattle.evaluator.specs.Rest.{rest_of, resume};
-ghost use Rattle.evaluator.specs.Rest.{tasks_of, top, top_list, values_below, values_of, waiting};
-ghost use Rattle.core_program.specs.Replay.{end_of};
+ghost use Rattle.evaluator.specs.Rest.{below_top, from, from_under, home_below, left_now, lists_below, lists_of};
+ghost use Rattle.evaluator.specs.Rest.{rest_of, resume, tasks_of, top, top_list, values_below, values_of, waiting};
 ghost use Rattle.evaluator.specs.Turns.{Turns, configuration};
 ghost use Rattle.evaluator.specs.Weight.{Falls, body_weight, come, left_with, now_weight, task_weight, tasks_weight};
 

@@ -1,20 +1,15 @@
 //! Calls.
 
-ghost use Rattle.std.specs.Prelude.{◌≡◌, ◌+◌, ◌∷◌, [], ℕ, None, Some, IfOk, IfErr};
+ghost use Rattle.std.specs.Prelude.{◌+◌, ◌∷◌, ◌≡◌, [], ℕ, IfErr, IfOk, None, Some};
 ghost use Rattle.cell_value.specs.declared.values.Value.{Value as CellValue};
-ghost use Rattle.core_program.specs.declared.program.Routine.{Routine as RoutineRow};
+ghost use Rattle.core_program.specs.{Actions.Action, Actions.performs, Acts.limit_passed, Expressions.enter as entered};
+ghost use Rattle.core_program.specs.{Tree.Enter, Tree.bind, Tree.doing, declared.program.Routine.Routine as RoutineRow};
 ghost use Rattle.core_program.specs.ProgramRows.{ProgramRows, routine_at};
 ghost use Rattle.eval_ops.specs.Machines.{DoesAll, IsReady, Moment, moment_of};
-ghost use Rattle.core_program.specs.Actions.{Action, performs};
-ghost use Rattle.core_program.specs.Acts.{limit_passed};
-ghost use Rattle.core_program.specs.Expressions.{enter as entered};
-ghost use Rattle.core_program.specs.Tree.{Enter, bind, doing};
-ghost use Rattle.evaluator.specs.Rest.{left_now, below_top, from_under, lists_of, resume, after_call, tasks_of};
-ghost use Rattle.evaluator.specs.Rest.{top_list};
-ghost use Rattle.evaluator.specs.Rest.{values_of};
+ghost use Rattle.evaluator.specs.{Rest.top_list, Rest.values_of, Weight.tasks_weight};
+ghost use Rattle.evaluator.specs.Rest.{after_call, below_top, from_under, left_now, lists_of, resume, tasks_of};
 ghost use Rattle.evaluator.specs.Turns.{EntersRoutine, Turns, configuration};
-ghost use Rattle.evaluator.specs.Weight.{Falls, body_weight, come, measure_of, left_with, part_weight, task_weight};
-ghost use Rattle.evaluator.specs.Weight.{tasks_weight};
+ghost use Rattle.evaluator.specs.Weight.{Falls, body_weight, come, left_with, measure_of, part_weight, task_weight};
 
 use crate::actuals::{append, append_all};
 use crate::body::{Body, Turned};

@@ -1,15 +1,15 @@
 //! The turns of for statements.
 
-ghost use Rattle.std.specs.Prelude.{◌≡◌, ◌+◌, true};
+ghost use Rattle.std.specs.Prelude.{◌+◌, ◌≡◌, true};
 ghost use Rattle.cell_value.specs.declared.values.Value.TheVariants as CellValue;
 ghost use Rattle.core_program.specs.ProgramRows.{ProgramRows, row_at};
-ghost use Rattle.core_program.specs.Tree.{Count, Exec, Sub, bind};
 ghost use Rattle.core_program.specs.Statements as statements;
+ghost use Rattle.core_program.specs.Tree.{Count, Exec, Sub, bind};
+ghost use Rattle.eval_ops.specs.Counting.{turns_row};
 ghost use Rattle.eval_ops.specs.Machines.{Gives, IsReady, Moment, moment_of};
 ghost use Rattle.evaluator.specs.Rest.{after_turn, here, waiting, with_numbers};
-ghost use Rattle.eval_ops.specs.Counting.{turns_row};
 ghost use Rattle.evaluator.specs.Turns.{Turns, configuration};
-ghost use Rattle.evaluator.specs.Weight.{Falls, body_weight, come, measure_of, left_with, tasks_weight};
+ghost use Rattle.evaluator.specs.Weight.{Falls, body_weight, come, left_with, measure_of, tasks_weight};
 
 use crate::body::{Body, Turned};
 use crate::tasks::{Next, Now, Part, Task};

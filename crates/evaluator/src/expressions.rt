@@ -1,16 +1,12 @@
 //! Expressions.
 
-ghost use Rattle.std.specs.Prelude.{◌≡◌, ◌+◌, ◌*◌};
-ghost use Rattle.core_program.specs.ProgramRows.{ProgramRows};
-ghost use Rattle.eval_ops.specs.Machines.{IsReady, Moment, moment_of};
-ghost use Rattle.core_program.specs.Tree.{bind};
-ghost use Rattle.core_program.specs.Expressions.{of_expression};
-ghost use Rattle.eval_ops.specs.Operators.{dyadic_of};
+ghost use Rattle.std.specs.Prelude.{◌*◌, ◌+◌, ◌≡◌};
+ghost use Rattle.core_program.specs.{Expressions.of_expression, ProgramRows.ProgramRows, Tree.bind};
+ghost use Rattle.eval_ops.specs.{Machines.IsReady, Machines.Moment, Machines.moment_of, Operators.dyadic_of};
+ghost use Rattle.evaluator.specs.{Turns.Turns, Turns.configuration, Weight.tasks_weight};
 ghost use Rattle.evaluator.specs.ExpressionFamilies.{of_designator, of_monadic, of_operation, of_other};
 ghost use Rattle.evaluator.specs.Rest.{from, from_under, here, waiting};
-ghost use Rattle.evaluator.specs.Turns.{Turns, configuration};
-ghost use Rattle.evaluator.specs.Weight.{Falls, body_weight, come, measure_of, left_with, task_weight, now_weight};
-ghost use Rattle.evaluator.specs.Weight.{tasks_weight};
+ghost use Rattle.evaluator.specs.Weight.{Falls, body_weight, come, left_with, measure_of, now_weight, task_weight};
 
 use crate::accesses::locate_component;
 use crate::body::{Body, Turned};

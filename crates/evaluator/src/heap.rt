@@ -1,16 +1,13 @@
 //! The statements on variables of the heap (6.6.5.3).
 
-ghost use Rattle.std.specs.Prelude.{◌≡◌, ◌+◌, ℕ};
-ghost use Rattle.core_program.specs.Accesses.{with_size};
-ghost use Rattle.core_program.specs.ProgramRows.{ProgramRows, type_at};
-ghost use Rattle.core_program.specs.Tree.{bind, doing};
+ghost use Rattle.std.specs.Prelude.{◌+◌, ◌≡◌, ℕ};
+ghost use Rattle.core_program.specs.{Accesses.with_size, Statements.point, Tree.bind, Tree.doing};
 ghost use Rattle.core_program.specs.Heap as action;
-ghost use Rattle.core_program.specs.Statements.{point};
+ghost use Rattle.core_program.specs.ProgramRows.{ProgramRows, type_at};
 ghost use Rattle.eval_ops.specs.Machines.{IsReady, moment_of};
-ghost use Rattle.evaluator.specs.StatementFamilies.{of_heap};
+ghost use Rattle.evaluator.specs.{StatementFamilies.of_heap, Turns.Turns, Turns.configuration};
 ghost use Rattle.evaluator.specs.Rest.{from_under, here, waiting};
-ghost use Rattle.evaluator.specs.Turns.{Turns, configuration};
-ghost use Rattle.evaluator.specs.Weight.{Falls, come, measure_of, left_with, task_weight, tasks_weight};
+ghost use Rattle.evaluator.specs.Weight.{Falls, come, left_with, measure_of, task_weight, tasks_weight};
 
 use crate::body::{Body, Turned};
 use crate::tasks::{Now, Part, Task, Way};

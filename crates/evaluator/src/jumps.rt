@@ -1,10 +1,8 @@
 //! Jumps.
 
-ghost use Rattle.std.specs.Prelude.{◌≡◌, ◌==◌, ◌&&◌, ◌+◌, None, Some};
+ghost use Rattle.std.specs.Prelude.{◌&&◌, ◌+◌, ◌==◌, ◌≡◌, None, Some};
 ghost use Rattle.eval_ops.specs.Machines.{Moment};
-ghost use Rattle.evaluator.specs.Records.{SameFrame};
-ghost use Rattle.evaluator.specs.Rest.{from_under};
-ghost use Rattle.evaluator.specs.Turns.{Turns, configuration};
+ghost use Rattle.evaluator.specs.{Records.SameFrame, Rest.from_under, Turns.Turns, Turns.configuration};
 ghost use Rattle.evaluator.specs.Weight.{Falls, body_weight, come, task_weight, tasks_weight};
 
 use crate::body::{Body, Turned};

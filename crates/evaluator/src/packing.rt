@@ -1,14 +1,12 @@
 //! Pack and unpack statements (6.6.5.4).
 
-ghost use Rattle.std.specs.Prelude.{◌≡◌, ◌+◌, if◌then◌else◌};
-ghost use Rattle.core_program.specs.ProgramRows.{ProgramRows, row_at};
+ghost use Rattle.std.specs.Prelude.{if◌then◌else◌, ◌+◌, ◌≡◌};
+ghost use Rattle.core_program.specs.{ProgramRows.ProgramRows, ProgramRows.row_at, Tree.bind, Tree.doing};
 ghost use Rattle.core_program.specs.Packing as arrays;
 ghost use Rattle.core_program.specs.Statements as meaning;
-ghost use Rattle.core_program.specs.Tree.{bind, doing};
 ghost use Rattle.eval_ops.specs.Machines.{IsReady, Moment, moment_of};
-ghost use Rattle.evaluator.specs.Rest.{from_under, here, waiting};
-ghost use Rattle.evaluator.specs.Turns.{Turns, configuration};
-ghost use Rattle.evaluator.specs.Weight.{Falls, body_weight, come, measure_of, left_with, tasks_weight};
+ghost use Rattle.evaluator.specs.{Rest.from_under, Rest.here, Rest.waiting, Turns.Turns, Turns.configuration};
+ghost use Rattle.evaluator.specs.Weight.{Falls, body_weight, come, left_with, measure_of, tasks_weight};
 
 use crate::body::{Body, Turned};
 use crate::tasks::{Now, Part, Task, Way};

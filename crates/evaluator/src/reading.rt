@@ -1,16 +1,15 @@
 //! Read statements: their actuals, one after the other, and the rest of the line (6.9.1, 6.9.2).
 
-ghost use Rattle.std.specs.Prelude.{◌≡◌, ◌+◌, ◌==◌};
-ghost use Rattle.core_program.specs.ProgramRows.{ProgramRows, row_at, type_at};
+ghost use Rattle.std.specs.Prelude.{◌+◌, ◌==◌, ◌≡◌};
 ghost use Rattle.core_program.specs.Input as input;
 ghost use Rattle.core_program.specs.Output as output;
+ghost use Rattle.core_program.specs.ProgramRows.{ProgramRows, row_at, type_at};
 ghost use Rattle.core_program.specs.Transfers as transfers;
 ghost use Rattle.core_program.specs.Tree.{bind, doing};
 ghost use Rattle.eval_ops.specs.Machines.{IsReady, Moment, moment_of};
+ghost use Rattle.evaluator.specs.{Turns.Turns, Turns.configuration, Weight.tasks_weight};
 ghost use Rattle.evaluator.specs.Rest.{from, from_under, here, waiting};
-ghost use Rattle.evaluator.specs.Turns.{Turns, configuration};
-ghost use Rattle.evaluator.specs.Weight.{Falls, body_weight, come, measure_of, left_with, part_weight, tasks_weight};
-ghost use Rattle.evaluator.specs.Weight.{task_weight};
+ghost use Rattle.evaluator.specs.Weight.{Falls, body_weight, come, left_with, measure_of, part_weight, task_weight};
 
 use crate::body::{Body, Turned};
 use crate::tasks::{Now, Part, Task, TransferTask, Way};

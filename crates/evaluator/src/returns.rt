@@ -1,17 +1,13 @@
 //! How a routine returns.
 
-ghost use Rattle.std.specs.Prelude.{◌≡◌, [], Ok, Err, None, Some, IfOk};
+ghost use Rattle.std.specs.Prelude.{◌≡◌, [], Err, IfOk, None, Ok, Some};
 ghost use Rattle.cell_value.specs.declared.values.Value.{Value as CellValue};
-ghost use Rattle.core_program.specs.ProgramRows.{ProgramRows, routine_at};
-ghost use Rattle.core_program.specs.Actions.{Action, performs};
-ghost use Rattle.core_program.specs.Tree.{doing};
-ghost use Rattle.core_program.specs.Accesses.{scalar};
-ghost use Rattle.core_program.specs.Run.{type_in_heading};
+ghost use Rattle.core_program.specs.{Accesses.scalar, Actions.Action, Actions.performs, ProgramRows.ProgramRows};
+ghost use Rattle.core_program.specs.{ProgramRows.routine_at, Run.type_in_heading, Tree.doing};
 ghost use Rattle.core_program.specs.Run as action;
 ghost use Rattle.core_program.specs.State as state;
 ghost use Rattle.eval_ops.specs.Machines.{DoesAll, IsReady, Moment, moment_of};
-ghost use Rattle.evaluator.specs.Rest.{from, returns};
-ghost use Rattle.evaluator.specs.Turns.{Turns, configuration};
+ghost use Rattle.evaluator.specs.{Rest.from, Rest.returns, Turns.Turns, Turns.configuration};
 
 use crate::body::{Body, Turned};
 use crate::tasks::{Now, Pause, Way};

@@ -1,14 +1,12 @@
 //! Sets and strings.
 
-ghost use Rattle.std.specs.Prelude.{◌≡◌, ◌+◌, slice_get};
-ghost use Rattle.core_program.specs.ProgramRows.{ProgramRows};
-ghost use Rattle.eval_ops.specs.Machines.{Moment};
-ghost use Rattle.core_program.specs.Tree.{Ret, Scalar, Sub, bind};
-ghost use Rattle.core_program.specs.Tree as parts;
+ghost use Rattle.std.specs.Prelude.{◌+◌, ◌≡◌, slice_get};
+ghost use Rattle.core_program.specs.{ProgramRows.ProgramRows, Tree.Ret, Tree.Scalar, Tree.Sub, Tree.bind};
 ghost use Rattle.core_program.specs.Expressions as expressions;
+ghost use Rattle.core_program.specs.Tree as parts;
+ghost use Rattle.eval_ops.specs.Machines.{Moment};
+ghost use Rattle.evaluator.specs.{Rest.waiting, Turns.Turns, Turns.configuration};
 ghost use Rattle.evaluator.specs.Rest.{below_top, from, from_under, here, lists_of, resume, tasks_of, top, values_of};
-ghost use Rattle.evaluator.specs.Rest.{waiting};
-ghost use Rattle.evaluator.specs.Turns.{Turns, configuration};
 ghost use Rattle.evaluator.specs.Weight.{Falls, body_weight, come, part_weight, task_weight, tasks_weight};
 
 use crate::body::{Body, Turned};

@@ -1,16 +1,14 @@
 //! Statements: what begins.
 
-ghost use Rattle.std.specs.Prelude.{◌≡◌, ◌+◌, ℕ};
-ghost use Rattle.core_program.specs.ProgramRows.{ProgramRows, row_at};
-ghost use Rattle.core_program.specs.Acts.{Spend};
-ghost use Rattle.core_program.specs.Tree.{Do, Jump, Line, Ret, bind, doing};
-ghost use Rattle.core_program.specs.Cells.{frame_out};
+ghost use Rattle.std.specs.Prelude.{◌+◌, ◌≡◌, ℕ};
+ghost use Rattle.core_program.specs.{Acts.Spend, Cells.frame_out, ProgramRows.ProgramRows, ProgramRows.row_at};
 ghost use Rattle.core_program.specs.Statements as statements;
+ghost use Rattle.core_program.specs.Tree.{Do, Jump, Line, Ret, bind, doing};
 ghost use Rattle.eval_ops.specs.Machines.{IsReady, Moment, moment_of};
-ghost use Rattle.evaluator.specs.StatementFamilies.{of_conditional, of_procedure, of_repetitive};
 ghost use Rattle.evaluator.specs.Rest.{carry_with, from, from_under, here, waiting};
+ghost use Rattle.evaluator.specs.StatementFamilies.{of_conditional, of_procedure, of_repetitive};
 ghost use Rattle.evaluator.specs.Turns.{Turns, configuration};
-ghost use Rattle.evaluator.specs.Weight.{Falls, body_weight, come, measure_of, left_with, now_weight, operand_most};
+ghost use Rattle.evaluator.specs.Weight.{Falls, body_weight, come, left_with, measure_of, now_weight, operand_most};
 ghost use Rattle.evaluator.specs.Weight.{part_weight, task_weight, tasks_weight};
 
 use crate::body::{Body, Turned};

@@ -1,17 +1,14 @@
 //! Read, write, page, pack and unpack statements: what begins.
 
-ghost use Rattle.std.specs.Prelude.{◌≡◌, ◌+◌, ℕ, if◌then◌else◌};
-ghost use Rattle.core_program.specs.ProgramRows.{ProgramRows};
-ghost use Rattle.core_program.specs.Output.{end_line};
+ghost use Rattle.std.specs.Prelude.{if◌then◌else◌, ◌+◌, ◌≡◌, ℕ};
+ghost use Rattle.core_program.specs.{Output.end_line, ProgramRows.ProgramRows, Tree.Ret, Tree.Sub, Tree.bind};
 ghost use Rattle.core_program.specs.Packing as arrays;
 ghost use Rattle.core_program.specs.Statements as meaning;
 ghost use Rattle.core_program.specs.Tree as parts;
-ghost use Rattle.core_program.specs.Tree.{Ret, Sub, bind};
 ghost use Rattle.eval_ops.specs.Machines.{IsReady, Moment, moment_of};
-ghost use Rattle.evaluator.specs.Rest.{here, waiting};
+ghost use Rattle.evaluator.specs.{Rest.here, Rest.waiting, TransferFamilies.of_transfer};
 ghost use Rattle.evaluator.specs.Turns.{Turns, configuration};
-ghost use Rattle.evaluator.specs.Weight.{Falls, body_weight, come, measure_of, left_with, tasks_weight};
-ghost use Rattle.evaluator.specs.TransferFamilies.{of_transfer};
+ghost use Rattle.evaluator.specs.Weight.{Falls, body_weight, come, left_with, measure_of, tasks_weight};
 
 use crate::body::{Body, Turned};
 use crate::tasks::{Next, Now, Part, Task};

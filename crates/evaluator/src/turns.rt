@@ -1,16 +1,11 @@
 //! The run of a body from stop to stop.
 
-ghost use Rattle.std.specs.Prelude.{◌≡◌, ◌+◌, Ok, Err, None, Some, IfOk};
-ghost use Rattle.core_program.specs.ProgramRows.{ProgramRows};
-ghost use Rattle.core_program.specs.Run.{Ended};
-ghost use Rattle.core_program.specs.State.{State};
+ghost use Rattle.std.specs.Prelude.{◌+◌, ◌≡◌, Err, IfOk, None, Ok, Some};
+ghost use Rattle.core_program.specs.{ProgramRows.ProgramRows, Replay.end_of, Run.Ended, State.State};
 ghost use Rattle.eval_ops.specs.Machines.{IsReady, machine_state, moment_of};
-ghost use Rattle.evaluator.specs.Records.{SameFrame};
-ghost use Rattle.evaluator.specs.Stops.{NextStopIs};
-ghost use Rattle.evaluator.specs.Rest.{from, from_under, rest_of};
-ghost use Rattle.core_program.specs.Replay.{end_of};
-ghost use Rattle.evaluator.specs.Turns.{configuration, MayGoOn, PausesInRoom, Turns, ended_by, pause_of, stop_of};
-ghost use Rattle.evaluator.specs.Weight.{Falls, come, measure_of, left_with, part_weight, task_weight, tasks_weight};
+ghost use Rattle.evaluator.specs.{Records.SameFrame, Rest.from, Rest.from_under, Rest.rest_of, Stops.NextStopIs};
+ghost use Rattle.evaluator.specs.Turns.{MayGoOn, PausesInRoom, Turns, configuration, ended_by, pause_of, stop_of};
+ghost use Rattle.evaluator.specs.Weight.{Falls, come, left_with, measure_of, part_weight, task_weight, tasks_weight};
 
 use crate::accesses::{continue_access, locate};
 use crate::actuals::{add_actual, add_actual_cells, pass_actuals};

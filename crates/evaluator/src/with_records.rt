@@ -1,11 +1,9 @@
 //! With statements.
 
-ghost use Rattle.std.specs.Prelude.{◌≡◌, ◌+◌};
+ghost use Rattle.std.specs.Prelude.{◌+◌, ◌≡◌};
 ghost use Rattle.core_program.specs.ProgramRows.{ProgramRows};
 ghost use Rattle.eval_ops.specs.Machines.{Moment};
-ghost use Rattle.evaluator.specs.Records.{SameFrame};
-ghost use Rattle.evaluator.specs.Rest.{from, from_under};
-ghost use Rattle.evaluator.specs.Turns.{Turns, configuration};
+ghost use Rattle.evaluator.specs.{Records.SameFrame, Rest.from, Rest.from_under, Turns.Turns, Turns.configuration};
 ghost use Rattle.evaluator.specs.Weight.{Falls, body_weight, come, part_weight, task_weight, tasks_weight};
 
 use crate::body::{Body, Turned};

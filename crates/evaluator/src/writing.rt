@@ -1,18 +1,15 @@
 //! Write statements: their actuals, one after the other (6.9.3).
 
-ghost use Rattle.std.specs.Prelude.{◌≡◌, ◌+◌};
-ghost use Rattle.core_program.specs.ProgramRows.{ProgramRows, type_at};
-ghost use Rattle.core_program.specs.Actions.{Action, performs};
+ghost use Rattle.std.specs.Prelude.{◌+◌, ◌≡◌};
+ghost use Rattle.core_program.specs.{Actions.Action, Actions.performs, Tree.ActTree, Tree.bind, Tree.doing};
 ghost use Rattle.core_program.specs.Output as output;
+ghost use Rattle.core_program.specs.ProgramRows.{ProgramRows, type_at};
 ghost use Rattle.core_program.specs.Transfers as transfers;
-ghost use Rattle.core_program.specs.Tree.{ActTree, bind, doing};
 ghost use Rattle.eval_ops.specs.Machines.{DoesAll, IsReady, Moment, moment_of};
+ghost use Rattle.evaluator.specs.{Rest.values_of, Rest.waiting, TransferFamilies.host_in, Turns.Turns};
+ghost use Rattle.evaluator.specs.{Turns.configuration, Weight.task_weight, Weight.tasks_weight};
 ghost use Rattle.evaluator.specs.Rest.{below_top, from, from_under, here, lists_of, resume, tasks_of, top_list};
-ghost use Rattle.evaluator.specs.Rest.{values_of, waiting};
-ghost use Rattle.evaluator.specs.TransferFamilies.{host_in};
-ghost use Rattle.evaluator.specs.Turns.{Turns, configuration};
-ghost use Rattle.evaluator.specs.Weight.{Falls, body_weight, come, measure_of, left_with, now_weight, part_weight};
-ghost use Rattle.evaluator.specs.Weight.{task_weight, tasks_weight};
+ghost use Rattle.evaluator.specs.Weight.{Falls, body_weight, come, left_with, measure_of, now_weight, part_weight};
 
 use crate::body::{Body, Turned};
 use crate::reading::locate_read;

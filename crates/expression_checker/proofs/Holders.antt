@@ -1,5 +1,5 @@
 -- One row further in a chain of holders.
-use Rattle.std.proofs.Common.{◌≡◌, ℕ, suc, ◌+◌, ◌-◌, ◌<◌, false, ap, arith}
+use Rattle.std.proofs.Common.{◌+◌, ◌-◌, ◌<◌, ◌≡◌, ℕ, ap, arith, false, suc}
 use Rattle.check_steps.specs.Known.{Known, row_at}
 use Rattle.expression_checker.specs.Names.{holder_in, is_packed_from, is_packed_record, packed_or}
 

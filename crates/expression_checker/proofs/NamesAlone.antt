@@ -1,12 +1,10 @@
 -- A name alone as a factor.
-use Rattle.std.proofs.Common.{◌≡◌, ℕ, suc, length, false, nat_eq, refl, ap, ◌∙◌, arith}
+use Rattle.std.proofs.Common.{◌∙◌, ◌≡◌, ℕ, ap, arith, false, length, nat_eq, refl, suc}
 use Rattle.std.proofs.lemmas.Bool.Decides.{nat_tests}
-use Rattle.pas_tree.specs.declared.expressions.Factor.TheVariants as made
-use Rattle.pas_tree.specs.declared.expressions.Factor.TheViews.{roll-Factor}
 use denote.Hole.Carrier.{roll}
-use Rattle.pas_tree.specs.declared.expressions.Factor.TheBlock.{hidden-the_row-Selector-0}
-use Rattle.pas_tree.specs.declared.expressions.Access.{Access, Row_of-Selector, end_of-Selector, more_of-Selector}
-use Rattle.pas_tree.specs.declared.expressions.Access.{items-the_row-Selector, items_hidden-the_row-Selector-0}
+use Rattle.pas_tree.specs.declared.expressions.{Access.more_of-Selector, Factor.TheBlock.hidden-the_row-Selector-0, Factor.TheViews.roll-Factor}
+use Rattle.pas_tree.specs.declared.expressions.Access.{Access, Row_of-Selector, end_of-Selector, items-the_row-Selector, items_hidden-the_row-Selector-0}
+use Rattle.pas_tree.specs.declared.expressions.Factor.TheVariants as made
 use Rattle.expression_checker.specs.Actuals.{factor_name, is_name, name_if}
 
 no_suc : (n : ℕ) → false ≡ nat_eq (suc n) 0

@@ -1,28 +1,22 @@
 -- The equations of operators and names by the fields of their trees.
-use Rattle.std.proofs.Common.{◌≡◌, ℕ, Option, Some, None, length, refl, sym, ap, ◌∙◌}
-use Rattle.std.specs.Prelude.{nat_eq}
+use Rattle.std.proofs.Common.{◌∙◌, ◌≡◌, ℕ, None, Option, Some, ap, length, nat_eq, refl, sym}
 use denote.Hole.Carrier.{roll}
-use Rattle.pas_tree.specs.declared.expressions.Factor.TheVariants as made
-use Rattle.pas_tree.specs.declared.expressions.Factor.TheViews.{roll-Factor}
-use Rattle.pas_tree.specs.declared.expressions.Factor.TheBlock.{hidden-the_row-NextFactor-4, hidden-the_row-NextTerm-2, hidden-the_row-Selector-0}
-use Rattle.pas_tree.specs.declared.expressions.Access.{Access, Row_of-Selector, end_of-Selector, more_of-Selector}
-use Rattle.pas_tree.specs.declared.expressions.Access.{items-the_row-Selector, items_hidden-the_row-Selector-0}
-use Rattle.pas_tree.specs.declared.expressions.Expression.{Expression, out-Expression, is-Expression', back-Expression-relation}
-use Rattle.pas_tree.specs.declared.expressions.Relation.{Relation, out-Relation, is-Relation'}
-use Rattle.pas_tree.specs.declared.expressions.Simple.{Simple, out-Simple, is-Simple', Row_of-NextTerm, end_of-NextTerm, more_of-NextTerm}
-use Rattle.pas_tree.specs.declared.expressions.Simple.{items-the_row-NextTerm, items_hidden-the_row-NextTerm-2}
-use Rattle.pas_tree.specs.declared.expressions.NextTerm.{NextTerm, out-NextTerm, is-NextTerm'}
-use Rattle.pas_tree.specs.declared.expressions.Term.{Term, out-Term, is-Term', Row_of-NextFactor, end_of-NextFactor, more_of-NextFactor}
-use Rattle.pas_tree.specs.declared.expressions.NextFactor.{NextFactor}
-use Rattle.pas_tree.specs.declared.expressions.Term.{items-the_row-NextFactor, items_hidden-the_row-NextFactor-4}
-use Rattle.check_steps.specs.Steps.{Step, give, ◌>>=◌, each}
-use Rattle.check_steps.proofs.Runs.{bind-assoc}
 use Rattle.pas_tree.specs.OperatorPlaces.{adding_token, multiplying_token, relational_token}
-use Rattle.expression_checker.specs.declared.typed.Typed.{Typed}
-use Rattle.expression_checker.specs.Expressions.{expression, factor, factors, next_factor, next_term, related, relation_held, root_name}
-use Rattle.expression_checker.specs.Expressions.{selected, selector, simple, term, terms}
-use Rattle.expression_checker.specs.Operations.{adding_operator, multiplying_operator, operated, relational_operator, signed}
+use Rattle.pas_tree.specs.declared.expressions.{Access.more_of-Selector, Factor.TheViews.roll-Factor, NextFactor.NextFactor, NextTerm.NextTerm}
+use Rattle.pas_tree.specs.declared.expressions.{NextTerm.is-NextTerm', NextTerm.out-NextTerm, Relation.Relation, Relation.is-Relation', Relation.out-Relation}
+use Rattle.pas_tree.specs.declared.expressions.Access.{Access, Row_of-Selector, end_of-Selector, items-the_row-Selector, items_hidden-the_row-Selector-0}
+use Rattle.pas_tree.specs.declared.expressions.Expression.{Expression, back-Expression-relation, is-Expression', out-Expression}
+use Rattle.pas_tree.specs.declared.expressions.Factor.TheBlock.{hidden-the_row-NextFactor-4, hidden-the_row-NextTerm-2, hidden-the_row-Selector-0}
+use Rattle.pas_tree.specs.declared.expressions.Factor.TheVariants as made
+use Rattle.pas_tree.specs.declared.expressions.Simple.{Row_of-NextTerm, Simple, end_of-NextTerm, is-Simple', items-the_row-NextTerm}
+use Rattle.pas_tree.specs.declared.expressions.Simple.{items_hidden-the_row-NextTerm-2, more_of-NextTerm, out-Simple}
+use Rattle.pas_tree.specs.declared.expressions.Term.{Row_of-NextFactor, Term, end_of-NextFactor, is-Term', items-the_row-NextFactor}
+use Rattle.pas_tree.specs.declared.expressions.Term.{items_hidden-the_row-NextFactor-4, more_of-NextFactor, out-Term}
+use Rattle.check_steps.{proofs.Runs.bind-assoc, specs.Steps.◌>>=◌, specs.Steps.Step, specs.Steps.each, specs.Steps.give}
 use Rattle.expression_checker.proofs.NamesAlone.{name_items}
+use Rattle.expression_checker.specs.{Expressions.simple, Expressions.term, Expressions.terms, declared.typed.Typed.Typed}
+use Rattle.expression_checker.specs.Expressions.{expression, factor, factors, next_factor, next_term, related, relation_held, root_name, selected, selector}
+use Rattle.expression_checker.specs.Operations.{adding_operator, multiplying_operator, operated, relational_operator, signed}
 
 factors_each : (frame n : _) (r : Row_of-NextFactor n) (f : Typed) → factors frame f r ≡ each (next_factor frame) f (items-the_row-NextFactor n r)
 unfolding next_factor

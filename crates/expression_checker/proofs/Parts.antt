@@ -1,26 +1,21 @@
 -- The equations of actuals, indices and members by the fields of their trees.
-use Rattle.std.proofs.Common.{◌≡◌, ℕ, Option, Some, None, refl, ap, ◌∙◌}
-use Rattle.pas_tree.specs.declared.expressions.Factor.TheBlock.{hidden-the_row-NextExpression-1, hidden-the_row-NextMember-3}
-use Rattle.pas_tree.specs.declared.expressions.Index.{Index, out-Index, is-Index'}
-use Rattle.pas_tree.specs.declared.expressions.Arguments.{Arguments, out-Arguments, is-Arguments', Row_of-NextExpression, end_of-NextExpression}
-use Rattle.pas_tree.specs.declared.expressions.Arguments.{more_of-NextExpression, items-the_row-NextExpression, items_hidden-the_row-NextExpression-1}
-use Rattle.pas_tree.specs.declared.expressions.NextExpression.{NextExpression, out-NextExpression, is-NextExpression'}
-use Rattle.pas_tree.specs.declared.expressions.SomeMembers.{SomeMembers, out-SomeMembers, is-SomeMembers', Row_of-NextMember, end_of-NextMember}
-use Rattle.pas_tree.specs.declared.expressions.SomeMembers.{more_of-NextMember, items-the_row-NextMember, items_hidden-the_row-NextMember-3}
-use Rattle.pas_tree.specs.declared.expressions.NextMember.{NextMember, out-NextMember, is-NextMember'}
-use Rattle.pas_tree.specs.declared.expressions.Member.{Member, out-Member, is-Member', back-Member-last}
-use Rattle.pas_tree.specs.declared.expressions.RangeEnd.{RangeEnd, out-RangeEnd, is-RangeEnd'}
-use Rattle.check_steps.specs.Steps.{Step, ◌>>=◌, each}
+use Rattle.std.proofs.Common.{◌∙◌, ◌≡◌, ℕ, None, Option, Some, ap, refl}
 use Rattle.pas_tree.specs.ExpressionPlaces.{first_of_expression}
-use Rattle.expression_checker.specs.declared.actuals.Passing.{Passing}
-use Rattle.expression_checker.specs.declared.members.MemberStart.{MemberStart}
-use Rattle.expression_checker.specs.declared.members.Gathered.{Gathered}
-use Rattle.expression_checker.specs.declared.typed.Typed.{Typed}
-use Rattle.expression_checker.specs.Callees.{applied, called_function}
-use Rattle.expression_checker.specs.Expressions.{actual, call, expression, index_at, member, more_arguments, more_indexes, more_members}
-use Rattle.expression_checker.specs.Expressions.{next_argument, next_index, next_member, passing_to, range, range_held, some_members}
+use Rattle.pas_tree.specs.declared.expressions.{Index.Index, Index.is-Index', Index.out-Index, RangeEnd.RangeEnd, RangeEnd.is-RangeEnd', RangeEnd.out-RangeEnd}
+use Rattle.pas_tree.specs.declared.expressions.Arguments.{Arguments, Row_of-NextExpression, end_of-NextExpression, is-Arguments', items-the_row-NextExpression}
+use Rattle.pas_tree.specs.declared.expressions.Arguments.{items_hidden-the_row-NextExpression-1, more_of-NextExpression, out-Arguments}
+use Rattle.pas_tree.specs.declared.expressions.Factor.TheBlock.{hidden-the_row-NextExpression-1, hidden-the_row-NextMember-3}
+use Rattle.pas_tree.specs.declared.expressions.Member.{Member, back-Member-last, is-Member', out-Member}
+use Rattle.pas_tree.specs.declared.expressions.NextExpression.{NextExpression, is-NextExpression', out-NextExpression}
+use Rattle.pas_tree.specs.declared.expressions.NextMember.{NextMember, is-NextMember', out-NextMember}
+use Rattle.pas_tree.specs.declared.expressions.SomeMembers.{Row_of-NextMember, SomeMembers, end_of-NextMember, is-SomeMembers', items-the_row-NextMember}
+use Rattle.pas_tree.specs.declared.expressions.SomeMembers.{items_hidden-the_row-NextMember-3, more_of-NextMember, out-SomeMembers}
+use Rattle.check_steps.specs.Steps.{◌>>=◌, Step, each}
+use Rattle.expression_checker.specs.{Callees.applied, Callees.called_function, Selectors.indexed}
+use Rattle.expression_checker.specs.Expressions.{actual, call, expression, index_at, member, more_arguments, more_indexes, more_members, next_argument}
+use Rattle.expression_checker.specs.Expressions.{next_index, next_member, passing_to, range, range_held, some_members}
 use Rattle.expression_checker.specs.Members.{member_range, nothing_gathered, one_member, set_constructor}
-use Rattle.expression_checker.specs.Selectors.{indexed}
+use Rattle.expression_checker.specs.declared.{actuals.Passing.Passing, members.Gathered.Gathered, members.MemberStart.MemberStart, typed.Typed.Typed}
 
 -- ---- actuals
 

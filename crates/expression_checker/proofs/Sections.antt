@@ -1,5 +1,5 @@
 -- One section further in a list of formal parameters.
-use Rattle.std.proofs.Common.{◌≡◌, ℕ, suc, ◌+◌, ◌-◌, ◌<◌, false, ap, arith}
+use Rattle.std.proofs.Common.{◌+◌, ◌-◌, ◌<◌, ◌≡◌, ℕ, ap, arith, false, suc}
 use Rattle.check_steps.specs.Known.{Known}
 use Rattle.kind_checker.specs.Headings.{section_at}
 use Rattle.expression_checker.specs.Callees.{taken_or, takes_from}

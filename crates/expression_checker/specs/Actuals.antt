@@ -1,84 +1,60 @@
 -- Actual parameters against formal ones (6.6.3, 6.7.3).
-use Rattle.std.specs.Prelude.{ℕ, ◌+◌, Bool, true, false, Option, Some, None, is_none, nat_eq, nat_lt}
-use Rattle.std.specs.Prelude.{◌&&◌, ◌||◌, if◌then◌else◌, length}
-use Rattle.pas_tree.specs.declared.expressions.Factor.{Factor, Access'}
+use Rattle.std.specs.Prelude.{if◌then◌else◌, ◌&&◌, ◌+◌, ◌||◌, ℕ, Bool, None, Option, Some, false, is_none, length}
+use Rattle.std.specs.Prelude.{nat_eq, nat_lt, true}
+use Rattle.pas_tree.specs.declared.expressions.{Factor.Access', Factor.Factor, Term.Term, Term.out-Term}
 use Rattle.pas_tree.specs.declared.expressions.Access.{Access, Row_of-Selector, end_of-Selector, more_of-Selector}
 use Rattle.pas_tree.specs.declared.expressions.Expression.{Expression, out-Expression}
 use Rattle.pas_tree.specs.declared.expressions.Simple.{Simple, out-Simple}
-use Rattle.pas_tree.specs.declared.expressions.Term.{Term, out-Term}
-use Rattle.core_program.specs.declared.rows.ItemRow.{ItemRow}
-use Rattle.core_program.specs.declared.rows.ItemRow.TheVariants as item
-use Rattle.core_program.specs.declared.rows.Mode.TheVariants as mode
-use Rattle.core_program.specs.declared.rows.NameRow.TheVariants as named
+use Rattle.core_program.specs.declared.rows.{ItemRow.ItemRow, Mode.Mode, NameRow.NameRow, Row.Row}
 use Rattle.core_program.specs.declared.rows.OrdinalFunction.{OrdinalFunction}
-use Rattle.core_program.specs.declared.rows.OrdinalFunction.TheVariants as function
-use Rattle.core_program.specs.declared.rows.Row.{Row}
-use Rattle.core_program.specs.declared.rows.Row.TheVariants as row
-use Rattle.core_program.specs.declared.rows.TextFile.{TextFile}
-use Rattle.core_program.specs.declared.rows.TextFile.TheVariants.{Input, Output}
-use Rattle.check_steps.specs.declared.regions.Found.{Found}
+use Rattle.core_program.specs.declared.rows.TextFile.{TextFile, TheVariants.Input, TheVariants.Output}
+use Rattle.check_steps.specs.{Items.add_item, Names.usable, Names.use_at, declared.regions.Found.Found}
 use Rattle.check_steps.specs.Known.{Known, find, name_at, row_at}
-use Rattle.check_steps.specs.Items.{add_item}
-use Rattle.check_steps.specs.Names.{usable, use_at}
-use Rattle.check_steps.specs.Steps.{Step, give, ◌>>=◌, look, late}
-use Rattle.kind_checker.specs.declared.headings.FormalSection.{FormalSection}
-use Rattle.kind_checker.specs.declared.headings.FormalSection.TheVariants as section
-use Rattle.kind_checker.specs.declared.shapes.ExpressionType.{ExpressionType}
-use Rattle.kind_checker.specs.declared.shapes.ExpressionType.TheVariants as expression
-use Rattle.kind_checker.specs.declared.shapes.Shape.{Shape}
-use Rattle.kind_checker.specs.Headings.{congruous, section_at}
+use Rattle.check_steps.specs.Steps.{◌>>=◌, Step, give, late, look}
+use Rattle.kind_checker.specs.{Headings.congruous, Headings.section_at, declared.headings.FormalSection.FormalSection}
 use Rattle.kind_checker.specs.Operators.{is_operand, is_ordinal, is_unknown_shape}
 use Rattle.kind_checker.specs.Shapes.{is_assignable, is_same_type, shape_of}
-use Rattle.expression_checker.specs.declared.actuals.Argument.{Argument}
+use Rattle.kind_checker.specs.declared.shapes.{ExpressionType.ExpressionType, Shape.Shape}
+use Rattle.expression_checker.specs.{Callees.callee_of, Threats.threat_alone, Typed.unknown_at}
+use Rattle.expression_checker.specs.declared.actuals.{Argument.Argument, Lone.Lone, Passing.Passing}
 use Rattle.expression_checker.specs.declared.actuals.ExpectedFormal.{ExpectedFormal}
 use Rattle.expression_checker.specs.declared.actuals.ExpectedFormal.TheVariants as formal
-use Rattle.expression_checker.specs.declared.actuals.Lone.{Lone}
-use Rattle.expression_checker.specs.declared.actuals.Lone.TheVariants as lone
-use Rattle.expression_checker.specs.declared.actuals.Passing.{Passing}
-use Rattle.expression_checker.specs.declared.callees.Callee.{Callee}
-use Rattle.expression_checker.specs.declared.callees.Callee.TheVariants as callee
-use Rattle.expression_checker.specs.declared.callees.ExpectedFormals.{ExpectedFormals}
-use Rattle.expression_checker.specs.declared.callees.ExpectedFormals.TheVariants as formals
-use Rattle.expression_checker.specs.declared.typed.Location.{Location}
-use Rattle.expression_checker.specs.declared.typed.Location.TheVariants as location
-use Rattle.expression_checker.specs.declared.typed.Typed.{Typed}
-use Rattle.expression_checker.specs.Callees.{callee_of}
-use Rattle.expression_checker.specs.Threats.{threat_alone}
-use Rattle.expression_checker.specs.Typed.{unknown_at}
+use Rattle.expression_checker.specs.declared.callees.{Callee.Callee, ExpectedFormals.ExpectedFormals}
+use Rattle.expression_checker.specs.declared.typed.{Location.Location, Typed.Typed}
 
 -- ---- the formal parameter of the next actual
 
 abbrev pub formal_in : Option (FormalSection × ℕ) → ExpectedFormal
 formal_in None = formal.Unknown
-formal_in (Some (section.Names mode.Place of' count, next)) = formal.Variable of'
-formal_in (Some (section.Names m of' count, next)) = formal.Value of'
-formal_in (Some (section.Heading heading, next)) = formal.Routine heading
+formal_in (Some (FormalSection.Names Mode.Place of' count, next)) = formal.Variable of'
+formal_in (Some (FormalSection.Names m of' count, next)) = formal.Value of'
+formal_in (Some (FormalSection.Heading heading, next)) = formal.Routine heading
 
 abbrev pub formal_at : Known → ExpectedFormals → ExpectedFormal
-formal_at k formals.Unknown = formal.Unknown
-formal_at k (formals.Declared section passed) = formal_in (section_at k section)
-formal_at k formals.File = formal.File
-formal_at k (formals.Operand f) = formal.Operand f
+formal_at k ExpectedFormals.Unknown = formal.Unknown
+formal_at k (ExpectedFormals.Declared section passed) = formal_in (section_at k section)
+formal_at k ExpectedFormals.File = formal.File
+formal_at k (ExpectedFormals.Operand f) = formal.Operand f
 
 abbrev pub after_section : Option (FormalSection × ℕ) → ℕ → ℕ → ExpectedFormals
-after_section None section passed = formals.Unknown
-after_section (Some (section.Names m of' count, next)) at passed =
-    if nat_lt (passed + 1) count then formals.Declared at (passed + 1) else formals.Declared next 0
-after_section (Some (section.Heading heading, next)) at passed = formals.Declared next 0
+after_section None section passed = ExpectedFormals.Unknown
+after_section (Some (FormalSection.Names m of' count, next)) at passed =
+    if nat_lt (passed + 1) count then ExpectedFormals.Declared at (passed + 1) else ExpectedFormals.Declared next 0
+after_section (Some (FormalSection.Heading heading, next)) at passed = ExpectedFormals.Declared next 0
 
 -- the formal parameters after one that is passed
 abbrev pub formals_after : Known → ExpectedFormals → ExpectedFormals
-formals_after k (formals.Declared section passed) = after_section (section_at k section) section passed
-formals_after k f = formals.Unknown
+formals_after k (ExpectedFormals.Declared section passed) = after_section (section_at k section) section passed
+formals_after k f = ExpectedFormals.Unknown
 
 -- ---- a value or a variable as an actual
 
 abbrev pub is_of_type : Known → ℕ → ExpressionType → Bool
-is_of_type k t (expression.Of u) = is_same_type k t u
+is_of_type k t (ExpressionType.Of u) = is_same_type k t u
 is_of_type k t of' = false
 
 abbrev pub is_free : Location → Bool
-is_free location.Variable = true
+is_free Location.Variable = true
 is_free l = false
 
 -- An access of the same type, no component of a packed variable and no tag field. An actual of unknown type breaks no
@@ -88,9 +64,9 @@ is_variable_actual k t v = is_unknown_shape (shape_of k v.of) || (is_free v.loca
 
 -- abs, sqr, odd and chr take an integer; ord, succ and pred an ordinal
 abbrev pub is_argument : OrdinalFunction → Shape → Bool
-is_argument function.Ord s = is_ordinal s
-is_argument function.Succ s = is_ordinal s
-is_argument function.Pred s = is_ordinal s
+is_argument OrdinalFunction.Ord s = is_ordinal s
+is_argument OrdinalFunction.Succ s = is_ordinal s
+is_argument OrdinalFunction.Pred s = is_ordinal s
 is_argument f s = is_operand 0 s
 
 -- What an actual is to be. A name alone of a routine, and of a text file, is looked at elsewhere.
@@ -115,8 +91,8 @@ rule_of formal.File = 32
 rule_of (formal.Operand f) = 32
 
 abbrev pub item_of : ExpectedFormal → Typed → Option ItemRow
-item_of (formal.Value of') v = Some (item.Value v.row of' 0)
-item_of (formal.Variable of') v = Some (item.Place v.row 0)
+item_of (formal.Value of') v = Some (ItemRow.Value v.row of' 0)
+item_of (formal.Variable of') v = Some (ItemRow.Place v.row 0)
 item_of f v = None
 
 -- A required function that takes its type from its actual takes it from this.
@@ -163,7 +139,7 @@ abbrev pub name_alone : Expression → Option ℕ
 name_alone e = name_of_if (is_none (out-Expression e).relation) (simple_name (out-Expression e).left)
 
 abbrev pub file_in : Row → Option TextFile
-file_in (row.Name (named.TextFile file)) = Some file
+file_in (Row.Name (NameRow.TextFile file)) = Some file
 file_in r = None
 
 abbrev pub file_of : Known → Option Found → Option TextFile
@@ -171,25 +147,25 @@ file_of k None = None
 file_of k (Some f) = file_in (row_at k f.definition.token)
 
 abbrev pub lone_file : ℕ → Option TextFile → Lone
-lone_file name (Some file) = lone.File name file
-lone_file name None = lone.None
+lone_file name (Some file) = Lone.File name file
+lone_file name None = Lone.None
 
 -- What is passed by a name alone: to a routine parameter the name of a routine, whatever it stands for; and a text
 -- file, where one may stand.
 abbrev pub lone_of : Known → ℕ → ExpectedFormal → Option ℕ → Lone
-lone_of k frame (formal.Routine heading) (Some name) = lone.Routine name heading
+lone_of k frame (formal.Routine heading) (Some name) = Lone.Routine name heading
 lone_of k frame formal.File (Some name) = lone_file name (file_of k (usable name (find k frame (name_at k name))))
-lone_of k frame f name = lone.None
+lone_of k frame f name = Lone.None
 
 abbrev pub is_congruous : Known → ℕ → Callee → Bool
-is_congruous k heading callee.Unknown = true
-is_congruous k heading (callee.Routine number levels other) = congruous k heading other
-is_congruous k heading (callee.Formal name levels other) = congruous k heading other
+is_congruous k heading Callee.Unknown = true
+is_congruous k heading (Callee.Routine number levels other) = congruous k heading other
+is_congruous k heading (Callee.Formal name levels other) = congruous k heading other
 is_congruous k heading c = false
 
 abbrev pub routine_item : Callee → Option ItemRow
-routine_item (callee.Routine number levels heading) = Some (item.Routine number levels 0)
-routine_item (callee.Formal name levels heading) = Some (item.RoutineFormal name levels 0)
+routine_item (Callee.Routine number levels heading) = Some (ItemRow.Routine number levels 0)
+routine_item (Callee.Formal name levels heading) = Some (ItemRow.RoutineFormal name levels 0)
 routine_item c = None
 
 -- rule 29: a routine actual is not the name of a routine that is not required, of that kind, with congruous formals and
@@ -214,9 +190,9 @@ file_argued name file = do
 
 -- an actual by what is passed by a name alone, and else by walking it
 abbrev pub argued_as : ℕ → ExpectedFormal → Lone → ℕ → Step Typed → Step Argument
-argued_as frame f lone.None first walk = walk >>= λ v. argued f first v
-argued_as frame f (lone.Routine name heading) first walk = routine_argued frame name heading
-argued_as frame f (lone.File name file) first walk = file_argued name file
+argued_as frame f Lone.None first walk = walk >>= λ v. argued f first v
+argued_as frame f (Lone.Routine name heading) first walk = routine_argued frame name heading
+argued_as frame f (Lone.File name file) first walk = file_argued name file
 
 -- A variable as a whole that is passed to a variable parameter is threatened.
 abbrev pub threat_by : ℕ → ExpectedFormal → Option ℕ → Step (Unit {0})

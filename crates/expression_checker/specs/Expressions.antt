@@ -1,48 +1,37 @@
 -- Expressions (6.7): an equation for each construct.
-use Rattle.std.specs.Prelude.{ℕ, ◌+◌, Bool, true, false, None, length}
-use Rattle.pas_tree.specs.declared.constants.Constant.TheVariants as constant
-use Rattle.pas_tree.specs.declared.expressions.Factor.{Factor, Number, Text, Nil, Access', Call', Paren', Set', Not'}
-use Rattle.pas_tree.specs.declared.expressions.Access.{Access, Row_of-Selector, end_of-Selector, more_of-Selector}
-use Rattle.pas_tree.specs.declared.expressions.Selector.{Selector, Index, Field, Dereference}
-use Rattle.pas_tree.specs.declared.expressions.Index.{Index as IndexTree, Index'}
-use Rattle.pas_tree.specs.declared.expressions.Arguments.{Arguments, Arguments', Row_of-NextExpression, out-Arguments}
-use Rattle.pas_tree.specs.declared.expressions.Arguments.{end_of-NextExpression, more_of-NextExpression}
-use Rattle.pas_tree.specs.declared.expressions.NextExpression.{NextExpression, NextExpression'}
-use Rattle.pas_tree.specs.declared.expressions.Expression.{Expression, Expression', Held-Expression-relation}
-use Rattle.pas_tree.specs.declared.expressions.Expression.{Expression-relation-None', Expression-relation-Some'}
-use Rattle.pas_tree.specs.declared.expressions.Relation.{Relation, Relation'}
-use Rattle.pas_tree.specs.declared.expressions.Simple.{Simple, Simple', Row_of-NextTerm, end_of-NextTerm}
-use Rattle.pas_tree.specs.declared.expressions.Simple.{more_of-NextTerm}
-use Rattle.pas_tree.specs.declared.expressions.NextTerm.{NextTerm, NextTerm'}
-use Rattle.pas_tree.specs.declared.expressions.Term.{Term, Term', Row_of-NextFactor, end_of-NextFactor}
-use Rattle.pas_tree.specs.declared.expressions.Term.{more_of-NextFactor}
-use Rattle.pas_tree.specs.declared.expressions.NextFactor.{NextFactor}
-use Rattle.pas_tree.specs.declared.expressions.Members.{Members, Empty, Some as SomeOf}
-use Rattle.pas_tree.specs.declared.expressions.SomeMembers.{SomeMembers, SomeMembers', Row_of-NextMember}
-use Rattle.pas_tree.specs.declared.expressions.SomeMembers.{end_of-NextMember, more_of-NextMember}
-use Rattle.pas_tree.specs.declared.expressions.NextMember.{NextMember, NextMember'}
-use Rattle.pas_tree.specs.declared.expressions.Member.{Member, Member', Held-Member-last, Member-last-None'}
-use Rattle.pas_tree.specs.declared.expressions.Member.{Member-last-Some'}
-use Rattle.pas_tree.specs.declared.expressions.RangeEnd.{RangeEnd, RangeEnd'}
-use Rattle.check_steps.specs.Names.{use_at}
-use Rattle.check_steps.specs.Steps.{Step, give, ◌>>=◌, look, each}
-use Rattle.pas_tree.specs.ExpressionPlaces.{first_of_expression}
+use Rattle.std.specs.Prelude.{◌+◌, ℕ, Bool, None, false, length, true}
+use Rattle.pas_tree.specs.{ExpressionPlaces.first_of_expression, declared.constants.Constant.Constant}
 use Rattle.pas_tree.specs.OperatorPlaces.{adding_token, multiplying_token, relational_token}
-use Rattle.expression_checker.specs.declared.actuals.Passing.{Passing}
-use Rattle.expression_checker.specs.declared.callees.Called.{Called}
-use Rattle.expression_checker.specs.declared.members.MemberStart.{MemberStart}
-use Rattle.expression_checker.specs.declared.members.Gathered.{Gathered}
-use Rattle.expression_checker.specs.declared.names.Meaning.{Meaning}
-use Rattle.expression_checker.specs.declared.names.Meaning.TheVariants as meaning
-use Rattle.expression_checker.specs.declared.typed.Typed.{Typed}
+use Rattle.pas_tree.specs.declared.expressions.{Index.Index as IndexTree, Index.Index', Member.Member-last-Some'}
+use Rattle.pas_tree.specs.declared.expressions.{NextFactor.NextFactor, NextTerm.NextTerm, NextTerm.NextTerm'}
+use Rattle.pas_tree.specs.declared.expressions.{RangeEnd.RangeEnd, RangeEnd.RangeEnd', Relation.Relation}
+use Rattle.pas_tree.specs.declared.expressions.{Relation.Relation', Simple.more_of-NextTerm, Term.more_of-NextFactor}
+use Rattle.pas_tree.specs.declared.expressions.Access.{Access, Row_of-Selector, end_of-Selector, more_of-Selector}
+use Rattle.pas_tree.specs.declared.expressions.Arguments.{Arguments, Arguments', Row_of-NextExpression}
+use Rattle.pas_tree.specs.declared.expressions.Arguments.{end_of-NextExpression, more_of-NextExpression, out-Arguments}
+use Rattle.pas_tree.specs.declared.expressions.Expression.{Expression, Expression', Expression-relation-None'}
+use Rattle.pas_tree.specs.declared.expressions.Expression.{Expression-relation-Some', Held-Expression-relation}
+use Rattle.pas_tree.specs.declared.expressions.Factor.{Access', Call', Factor, Nil, Not', Number, Paren', Set', Text}
+use Rattle.pas_tree.specs.declared.expressions.Member.{Held-Member-last, Member, Member', Member-last-None'}
+use Rattle.pas_tree.specs.declared.expressions.Members.{Empty, Members, Some as SomeOf}
+use Rattle.pas_tree.specs.declared.expressions.NextExpression.{NextExpression, NextExpression'}
+use Rattle.pas_tree.specs.declared.expressions.NextMember.{NextMember, NextMember'}
+use Rattle.pas_tree.specs.declared.expressions.Selector.{Dereference, Field, Index, Selector}
+use Rattle.pas_tree.specs.declared.expressions.Simple.{Row_of-NextTerm, Simple, Simple', end_of-NextTerm}
+use Rattle.pas_tree.specs.declared.expressions.SomeMembers.{Row_of-NextMember, SomeMembers, SomeMembers'}
+use Rattle.pas_tree.specs.declared.expressions.SomeMembers.{end_of-NextMember, more_of-NextMember}
+use Rattle.pas_tree.specs.declared.expressions.Term.{Row_of-NextFactor, Term, Term', end_of-NextFactor}
+use Rattle.check_steps.specs.Names.{use_at}
+use Rattle.check_steps.specs.Steps.{◌>>=◌, Step, each, give, look}
+use Rattle.expression_checker.specs.{Callees.applied, Callees.called_function, Names.accessed_as, Names.meaning_of}
+use Rattle.expression_checker.specs.{Names.variable, Operations.relational_operator, Operations.signed}
 use Rattle.expression_checker.specs.Actuals.{actual_by, is_name, name_alone}
-use Rattle.expression_checker.specs.Callees.{applied, called_function}
 use Rattle.expression_checker.specs.Members.{member_range, nothing_gathered, one_member, set_constructor}
-use Rattle.expression_checker.specs.Names.{accessed_as, meaning_of, variable}
 use Rattle.expression_checker.specs.Operations.{adding_operator, multiplying_operator, negated, operated}
-use Rattle.expression_checker.specs.Operations.{relational_operator, signed}
 use Rattle.expression_checker.specs.Selectors.{dereferenced, indexed, selected_field}
 use Rattle.expression_checker.specs.Typed.{bracketed, constant_at, literal, nil_at, unknown_at}
+use Rattle.expression_checker.specs.declared.{actuals.Passing.Passing, callees.Called.Called, members.Gathered.Gathered}
+use Rattle.expression_checker.specs.declared.{members.MemberStart.MemberStart, names.Meaning.Meaning, typed.Typed.Typed}
 
 -- ---- names as factors
 
@@ -53,8 +42,8 @@ designator frame name = do
   applied name c.callee (unknown_at name) 0
 
 abbrev pub named_as : ℕ → ℕ → Meaning → Step Typed
-named_as frame name (meaning.Constant v) = constant_at name v
-named_as frame name meaning.Other = designator frame name
+named_as frame name (Meaning.Constant v) = constant_at name v
+named_as frame name Meaning.Other = designator frame name
 named_as frame name m = accessed_as name m
 
 -- a name alone: a constant, a variable, or a function without actuals
@@ -124,8 +113,8 @@ abbrev mutual
     factors frame h rest
 
   pub factor : ℕ → Factor → Step Typed
-  factor frame (Number token) = literal token (constant.Number None token)
-  factor frame (Text token) = literal token (constant.Text token)
+  factor frame (Number token) = literal token (Constant.Number None token)
+  factor frame (Text token) = literal token (Constant.Text token)
   factor frame (Nil token) = nil_at token
   factor frame (Access' name _ selectors) = do
     one ← root_name frame (is_name selectors) name

@@ -1,26 +1,17 @@
 -- Members of set constructors, once their parts are checked (6.7.1).
-use Rattle.std.specs.Prelude.{ℕ, Bool, true, false, Option, Some, None, nat_eq, ◌&&◌, ◌||◌, if◌then◌else◌}
-use Rattle.core_program.specs.declared.rows.ItemRow.TheVariants as item
-use Rattle.core_program.specs.declared.rows.Row.TheVariants as row
-use Rattle.core_program.specs.declared.rows.ExpressionRow.TheVariants as written
-use Rattle.check_steps.specs.Steps.{Step, give, ◌>>=◌, look, late, put}
-use Rattle.kind_checker.specs.declared.shapes.ExpressionType.{ExpressionType}
-use Rattle.kind_checker.specs.declared.shapes.ExpressionType.TheVariants as expression
-use Rattle.kind_checker.specs.declared.shapes.Packing.TheVariants.{Either}
-use Rattle.kind_checker.specs.declared.shapes.Shape.{Shape}
-use Rattle.kind_checker.specs.declared.shapes.Shape.TheVariants as shape
-use Rattle.kind_checker.specs.Operators.{is_unknown_shape}
-use Rattle.kind_checker.specs.Shapes.{shape_of}
-use Rattle.expression_checker.specs.declared.members.MemberStart.{MemberStart}
-use Rattle.expression_checker.specs.declared.members.Gathered.{Gathered}
-use Rattle.expression_checker.specs.declared.typed.Typed.{Typed}
+use Rattle.std.specs.Prelude.{if◌then◌else◌, ◌&&◌, ◌||◌, ℕ, Bool, None, Option, Some, false, nat_eq, true}
+use Rattle.core_program.specs.declared.rows.{ExpressionRow.ExpressionRow, ItemRow.ItemRow, Row.Row}
 use Rattle.check_steps.specs.Items.{add_item}
-use Rattle.expression_checker.specs.Typed.{typed_value}
+use Rattle.check_steps.specs.Steps.{◌>>=◌, Step, give, late, look, put}
+use Rattle.kind_checker.specs.{Operators.is_unknown_shape, Shapes.shape_of}
+use Rattle.kind_checker.specs.declared.shapes.{ExpressionType.ExpressionType, Packing.TheVariants.Either, Shape.Shape}
+use Rattle.expression_checker.specs.{Typed.typed_value, declared.typed.Typed.Typed}
+use Rattle.expression_checker.specs.declared.members.{Gathered.Gathered, MemberStart.MemberStart}
 
 -- ordinal, and of the host of those before
 abbrev pub is_member : Option ℕ → Shape → Bool
-is_member None (shape.Ordinal h) = true
-is_member (Some host) (shape.Ordinal h) = nat_eq host h
+is_member None (Shape.Ordinal h) = true
+is_member (Some host) (Shape.Ordinal h) = nat_eq host h
 is_member host s = false
 
 -- A member of unknown type breaks no further rule.
@@ -29,7 +20,7 @@ fits_members host s = is_unknown_shape s || is_member host s
 
 -- the host of the members, with one more
 abbrev pub host_with : Option ℕ → Shape → Option ℕ
-host_with None (shape.Ordinal h) = Some h
+host_with None (Shape.Ordinal h) = Some h
 host_with host s = host
 
 -- before the first member, with a number at which no item stands
@@ -45,7 +36,7 @@ unfoldable pub one_member : Gathered → MemberStart → Step Gathered
 one_member g b = do
   s ← look (λ k. shape_of k b.value.of)
   _ ← late 31 b.first (fits_members g.host s)
-  last ← add_item g.last b.slot (item.Member b.value.row 0)
+  last ← add_item g.last b.slot (ItemRow.Member b.value.row 0)
   give (gathered_with g last s)
 
 -- the same of a range, whose last value may be the wrong one
@@ -54,15 +45,15 @@ member_range g b v = do
   s ← look (λ k. shape_of k b.value.of)
   t ← look (λ k. shape_of k v.of)
   _ ← late 31 b.first (fits_members g.host s && fits_members (host_with g.host s) t)
-  last ← add_item g.last b.slot (item.Members b.value.row v.row 0)
+  last ← add_item g.last b.slot (ItemRow.Members b.value.row v.row 0)
   give (gathered_with (gathered_with g last s) last t)
 
 -- A constructor with a member that is wrong or unknown is of unknown type.
 abbrev pub gathered_type : Gathered → ExpressionType
-gathered_type g = if g.known then expression.Set g.host Either else expression.Unknown
+gathered_type g = if g.known then ExpressionType.Set g.host Either else ExpressionType.Unknown
 
 -- a set constructor, at its closing bracket, with the list of its members
 unfoldable pub set_constructor : Gathered → ℕ → ℕ → Step Typed
 set_constructor g members close = do
-  _ ← put close (row.Expression (written.Set members))
+  _ ← put close (Row.Expression (ExpressionRow.Set members))
   give (typed_value close (gathered_type g))

@@ -1,26 +1,12 @@
 -- What a name stands for in an expression.
-use Rattle.std.specs.Prelude.{ℕ, zero, suc, ◌-◌, Bool, true, false, Option, Some, None, length, if◌then◌else◌}
-use Rattle.core_program.specs.declared.rows.Row.{Row}
-use Rattle.core_program.specs.declared.rows.Row.TheVariants as row
+use Rattle.std.specs.Prelude.{if◌then◌else◌, ◌-◌, ℕ, Bool, None, Option, Some, false, length, suc, true, zero}
+use Rattle.core_program.specs.declared.rows.{Mode.Mode, NameRow.NameRow, PartRow.PartRow, Row.Row, TypeRow.TypeRow}
 use Rattle.core_program.specs.declared.rows.AccessRow.{AccessRow}
-use Rattle.core_program.specs.declared.rows.AccessRow.TheVariants as accessed
-use Rattle.core_program.specs.declared.rows.Mode.{Mode}
-use Rattle.core_program.specs.declared.rows.Mode.TheVariants as mode
-use Rattle.core_program.specs.declared.rows.NameRow.TheVariants as named
-use Rattle.core_program.specs.declared.rows.PartRow.TheVariants as part
-use Rattle.core_program.specs.declared.rows.TypeRow.TheVariants as kind
-use Rattle.check_steps.specs.declared.regions.Found.{Found}
-use Rattle.check_steps.specs.Known.{Known, frame_at, row_at}
-use Rattle.check_steps.specs.Names.{use_at}
-use Rattle.check_steps.specs.Steps.{Step, give, ◌>>=◌, look, late, put}
-use Rattle.kind_checker.specs.declared.constants.ConstantValue.TheVariants as value
-use Rattle.kind_checker.specs.declared.shapes.ExpressionType.TheVariants as expression
-use Rattle.expression_checker.specs.declared.names.Meaning.{Meaning}
-use Rattle.expression_checker.specs.declared.names.Meaning.TheVariants as meaning
-use Rattle.expression_checker.specs.declared.typed.Location.{Location}
-use Rattle.expression_checker.specs.declared.typed.Location.TheVariants as location
-use Rattle.expression_checker.specs.declared.typed.Typed.{Typed}
+use Rattle.check_steps.specs.{Known.Known, Known.frame_at, Known.row_at, Names.use_at, declared.regions.Found.Found}
+use Rattle.check_steps.specs.Steps.{◌>>=◌, Step, give, late, look, put}
+use Rattle.kind_checker.specs.declared.{constants.ConstantValue.ConstantValue, shapes.ExpressionType.ExpressionType}
 use Rattle.expression_checker.specs.Typed.{unknown_at}
+use Rattle.expression_checker.specs.declared.{names.Meaning.Meaning, typed.Location.Location, typed.Typed.Typed}
 
 -- ---- variables
 
@@ -29,19 +15,19 @@ abbrev pub levels_to : Known → ℕ → ℕ → ℕ
 levels_to k frame level = (frame_at k frame).level - level
 
 abbrev pub variable_row : Mode → ℕ → ℕ → ℕ → AccessRow
-variable_row mode.Place place levels of' = accessed.Reference place levels of'
-variable_row m place levels of' = accessed.Variable place levels of'
+variable_row Mode.Place place levels of' = AccessRow.Reference place levels of'
+variable_row m place levels of' = AccessRow.Variable place levels of'
 
 -- ---- fields of the records of with statements
 
 -- what holds a variant, or a variant part
 abbrev pub holder_in : Row → Option ℕ
-holder_in (row.Part (part.Variant variants position)) = Some variants
-holder_in (row.Part (part.Variants hidden offset cells values holder)) = Some holder
+holder_in (Row.Part (PartRow.Variant variants position)) = Some variants
+holder_in (Row.Part (PartRow.Variants hidden offset cells values holder)) = Some holder
 holder_in r = None
 
 abbrev pub is_packed_record : Row → Bool
-is_packed_record (row.Type (kind.Record packed region cells variants)) = packed
+is_packed_record (Row.Type (TypeRow.Record packed region cells variants)) = packed
 is_packed_record r = false
 
 abbrev pub packed_or : Option ℕ → Bool → (ℕ → Bool) → Bool
@@ -57,7 +43,7 @@ abbrev pub is_packed : Known → ℕ → Bool
 is_packed k holder = is_packed_from (length k.words) k holder
 
 abbrev pub component_if : Bool → Location
-component_if within = if within then location.Component else location.Variable
+component_if within = if within then Location.Component else Location.Variable
 
 -- the position of a frame's with statement among those around
 abbrev pub with_position : Known → ℕ → ℕ
@@ -68,35 +54,35 @@ with_position k frame = (frame_at k frame).withs - 1
 -- a field, or a tag, of the record of a with statement
 abbrev pub field_meaning : Known → Found → ℕ → Location → Meaning
 field_meaning k f of' l =
-    meaning.Variable (accessed.Within (with_position k f.frame) f.definition.token of') of' l
+    Meaning.Variable (AccessRow.Within (with_position k f.frame) f.definition.token of') of' l
 
 -- what a name stands for by its row, seen from a frame
 abbrev pub meaning_in : Known → ℕ → Found → Row → Meaning
-meaning_in k frame f (row.Name (named.Constant of' v)) = meaning.Constant (Some (value.Ordinal of' v))
-meaning_in k frame f (row.Name (named.Text token)) = meaning.Constant (Some (value.Text token))
-meaning_in k frame f row.Nothing = meaning.Constant None
-meaning_in k frame f (row.Name (named.Variable m of' place level)) =
-    meaning.Variable (variable_row m place (levels_to k frame level) of') of' location.Variable
-meaning_in k frame f (row.Name (named.Field of' offset holder)) =
+meaning_in k frame f (Row.Name (NameRow.Constant of' v)) = Meaning.Constant (Some (ConstantValue.Ordinal of' v))
+meaning_in k frame f (Row.Name (NameRow.Text token)) = Meaning.Constant (Some (ConstantValue.Text token))
+meaning_in k frame f Row.Nothing = Meaning.Constant None
+meaning_in k frame f (Row.Name (NameRow.Variable m of' place level)) =
+    Meaning.Variable (variable_row m place (levels_to k frame level) of') of' Location.Variable
+meaning_in k frame f (Row.Name (NameRow.Field of' offset holder)) =
     field_meaning k f of' (component_if (is_packed k holder))
-meaning_in k frame f (row.Name (named.Tag of' offset holder variants)) = field_meaning k f of' location.Component
-meaning_in k frame f r = meaning.Other
+meaning_in k frame f (Row.Name (NameRow.Tag of' offset holder variants)) = field_meaning k f of' Location.Component
+meaning_in k frame f r = Meaning.Other
 
 abbrev pub meaning_of : Known → ℕ → Option Found → Meaning
-meaning_of k frame None = meaning.Unknown
+meaning_of k frame None = Meaning.Unknown
 meaning_of k frame (Some f) = meaning_in k frame f (row_at k f.definition.token)
 
 -- A name of unknown meaning breaks no further rule.
 abbrev pub is_variable : Meaning → Bool
-is_variable meaning.Unknown = true
-is_variable (meaning.Variable r of' l) = true
+is_variable Meaning.Unknown = true
+is_variable (Meaning.Variable r of' l) = true
 is_variable m = false
 
 -- an access by a name alone
 abbrev pub accessed_as : ℕ → Meaning → Step Typed
-accessed_as name (meaning.Variable r of' l) = do
-  _ ← put name (row.Access r)
-  give (record { row = name; of = expression.Of of'; location = l })
+accessed_as name (Meaning.Variable r of' l) = do
+  _ ← put name (Row.Access r)
+  give (record { row = name; of = ExpressionType.Of of'; location = l })
 accessed_as name m = give (unknown_at name)
 
 -- rule 3: the name stands for another kind of thing than a variable, a parameter or a field

@@ -1,20 +1,17 @@
 -- Threats of control variables (6.8.3.9): where a variable is assigned, passed to a variable parameter, read, or a
 -- control variable again.
-use Rattle.std.specs.Prelude.{ℕ, Bool, Option, Some, None, nat_lt, not}
-use Rattle.core_program.specs.declared.rows.NameRow.TheVariants as named
-use Rattle.core_program.specs.declared.rows.Row.{Row}
-use Rattle.core_program.specs.declared.rows.Row.TheVariants as row
-use Rattle.check_steps.specs.declared.regions.Found.{Found}
+use Rattle.std.specs.Prelude.{ℕ, Bool, None, Option, Some, nat_lt, not}
+use Rattle.core_program.specs.declared.rows.{NameRow.NameRow, Row.Row}
+use Rattle.check_steps.specs.{Names.usable, declared.regions.Found.Found}
 use Rattle.check_steps.specs.Known.{Known, find, frame_at, is_control, name_at, row_at}
-use Rattle.check_steps.specs.Names.{usable}
-use Rattle.check_steps.specs.Steps.{Step, give, ◌>>=◌, look, late, threaten, when}
+use Rattle.check_steps.specs.Steps.{◌>>=◌, Step, give, late, look, threaten, when}
 use Rattle.expression_checker.specs.declared.threats.Whole.{Whole}
 
 -- ---- whole variables
 
 -- Parameters count, but no field of the record of a with statement.
 abbrev pub whole_in : Found → Row → Option Whole
-whole_in f (row.Name (named.Variable mode of' place level)) =
+whole_in f (Row.Name (NameRow.Variable mode of' place level)) =
     Some (record { variable = f.definition.token; level = level })
 whole_in f r = None
 

@@ -1,26 +1,19 @@
 -- Expressions by number and type, and constants as factors.
-use Rattle.std.specs.Prelude.{ℕ, Option, Some, None, length}
+use Rattle.std.specs.Prelude.{ℕ, None, Option, Some, length}
 use Rattle.pas_tree.specs.declared.constants.Constant.{Constant}
-use Rattle.core_program.specs.declared.rows.Row.{Row}
-use Rattle.core_program.specs.declared.rows.Row.TheVariants as row
-use Rattle.core_program.specs.declared.rows.ExpressionRow.TheVariants as written
-use Rattle.core_program.specs.ProgramRows.{text_at}
+use Rattle.core_program.specs.{ProgramRows.text_at, declared.rows.ExpressionRow.ExpressionRow, declared.rows.Row.Row}
 use Rattle.check_steps.specs.Known.{Known}
-use Rattle.check_steps.specs.Steps.{Step, give, ◌>>=◌, look, put}
-use Rattle.kind_checker.specs.declared.constants.ConstantValue.{ConstantValue}
-use Rattle.kind_checker.specs.declared.constants.ConstantValue.TheVariants as value
+use Rattle.check_steps.specs.Steps.{◌>>=◌, Step, give, look, put}
 use Rattle.kind_checker.specs.Constants.{constant}
-use Rattle.kind_checker.specs.declared.shapes.ExpressionType.{ExpressionType}
-use Rattle.kind_checker.specs.declared.shapes.ExpressionType.TheVariants as expression
-use Rattle.expression_checker.specs.declared.typed.Location.TheVariants as location
-use Rattle.expression_checker.specs.declared.typed.Typed.{Typed}
+use Rattle.kind_checker.specs.declared.{constants.ConstantValue.ConstantValue, shapes.ExpressionType.ExpressionType}
+use Rattle.expression_checker.specs.declared.typed.{Location.Location, Typed.Typed}
 
 -- a value of a type, at a number
 abbrev pub typed_value : ℕ → ExpressionType → Typed
-typed_value n of' = record { row = n; of = of'; location = location.Nowhere }
+typed_value n of' = record { row = n; of = of'; location = Location.Nowhere }
 
 abbrev pub unknown_at : ℕ → Typed
-unknown_at n = typed_value n expression.Unknown
+unknown_at n = typed_value n ExpressionType.Unknown
 
 -- An expression in parentheses has the number of the one inside, and is no access.
 abbrev pub bracketed : Typed → Typed
@@ -29,14 +22,14 @@ bracketed v = typed_value v.row v.of
 -- ---- constants
 
 abbrev pub constant_row : Option ConstantValue → Row
-constant_row None = row.Nothing
-constant_row (Some (value.Ordinal of' v)) = row.Expression (written.Constant v)
-constant_row (Some (value.Text token)) = row.Expression (written.Text token)
+constant_row None = Row.Nothing
+constant_row (Some (ConstantValue.Ordinal of' v)) = Row.Expression (ExpressionRow.Constant v)
+constant_row (Some (ConstantValue.Text token)) = Row.Expression (ExpressionRow.Text token)
 
 abbrev pub constant_type : Known → Option ConstantValue → ExpressionType
-constant_type k None = expression.Unknown
-constant_type k (Some (value.Ordinal of' v)) = expression.Of of'
-constant_type k (Some (value.Text token)) = expression.Text (length (text_at k.program token))
+constant_type k None = ExpressionType.Unknown
+constant_type k (Some (ConstantValue.Ordinal of' v)) = ExpressionType.Of of'
+constant_type k (Some (ConstantValue.Text token)) = ExpressionType.Text (length (text_at k.program token))
 
 -- a constant as a factor, at its only token
 unfoldable pub constant_at : ℕ → Option ConstantValue → Step Typed
@@ -53,5 +46,5 @@ literal token c = do
 
 unfoldable pub nil_at : ℕ → Step Typed
 nil_at token = do
-  _ ← put token (row.Expression written.Nil)
-  give (typed_value token expression.Nil)
+  _ ← put token (Row.Expression ExpressionRow.Nil)
+  give (typed_value token ExpressionType.Nil)

@@ -2,13 +2,12 @@
 
 ghost use Rattle.std.specs.Prelude.{◌≡◌};
 ghost use Rattle.check_steps.specs.Steps.{Does};
-ghost use Rattle.expression_checker.specs.Actuals.{access_name, after_section, argued, factor_name};
-ghost use Rattle.expression_checker.specs.Actuals.{file_argued, file_in, file_of, formal_at, formal_in, formals_after};
-ghost use Rattle.expression_checker.specs.Actuals.{is_actual, is_argument, is_congruous, is_free, is_input, is_of_type};
-ghost use Rattle.expression_checker.specs.Actuals.{is_variable_actual, item_if_any, item_of, lone_file};
-ghost use Rattle.expression_checker.specs.Actuals.{lone_of, name_alone, name_if, name_of_if, operand_in, passed};
-ghost use Rattle.expression_checker.specs.Actuals.{routine_argued, routine_item, rule_of, simple_name, term_name};
-ghost use Rattle.expression_checker.specs.Actuals.{threat_by};
+ghost use Rattle.expression_checker.specs.Actuals.{access_name, after_section, argued, factor_name, file_argued};
+ghost use Rattle.expression_checker.specs.Actuals.{file_in, file_of, formal_at, formal_in, formals_after, is_actual};
+ghost use Rattle.expression_checker.specs.Actuals.{is_argument, is_congruous, is_free, is_input, is_of_type};
+ghost use Rattle.expression_checker.specs.Actuals.{is_variable_actual, item_if_any, item_of, lone_file, lone_of};
+ghost use Rattle.expression_checker.specs.Actuals.{name_alone, name_if, name_of_if, operand_in, passed, routine_argued};
+ghost use Rattle.expression_checker.specs.Actuals.{routine_item, rule_of, simple_name, term_name, threat_by};
 
 use crate::callees::{Callee, ExpectedFormals, callee_of};
 use crate::threats::check_threat_alone;

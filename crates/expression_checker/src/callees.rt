@@ -3,13 +3,12 @@
 ghost use Rattle.std.specs.Prelude.{◌≡◌};
 ghost use Rattle.check_steps.specs.Steps.{Does};
 ghost use Rattle.expression_checker.specs.Callees.{applied, bounds_in, called_function, callee_in, callee_of};
-ghost use Rattle.expression_checker.specs.Callees.{count_checked};
-ghost use Rattle.expression_checker.specs.Callees.{declared_routine, declared_type, designator_row, designator_type};
-ghost use Rattle.expression_checker.specs.Callees.{formals_of, function_named, required_function_row, has_formals};
-ghost use Rattle.expression_checker.specs.Callees.{host_bounds};
-ghost use Rattle.expression_checker.specs.Callees.{host_type, is_function, is_required_function, names_in};
-ghost use Rattle.expression_checker.specs.Callees.{operand_of, ordinal_function, required_formals, required_row};
-ghost use Rattle.expression_checker.specs.Callees.{required_takes, required_type, takes_count};
+ghost use Rattle.expression_checker.specs.Callees.{count_checked, declared_routine, declared_type, designator_row};
+ghost use Rattle.expression_checker.specs.Callees.{designator_type, formals_of, function_named, has_formals};
+ghost use Rattle.expression_checker.specs.Callees.{host_bounds, host_type, is_function, is_required_function, names_in};
+ghost use Rattle.expression_checker.specs.Callees.{operand_of, ordinal_function, required_formals};
+ghost use Rattle.expression_checker.specs.Callees.{required_function_row, required_row, required_takes, required_type};
+ghost use Rattle.expression_checker.specs.Callees.{takes_count};
 
 use crate::names::levels_to;
 use crate::typed::{Typed, typed_value};

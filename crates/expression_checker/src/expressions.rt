@@ -1,8 +1,8 @@
 //! Expressions and accesses (6.5, 6.7).
 
 ghost use Rattle.std.specs.Prelude.{◌≡◌};
-ghost use Rattle.check_steps.specs.Steps.{Does, each};
 ghost use Rattle.pas_tree.specs.ExpressionPlaces.{first_of_expression};
+ghost use Rattle.check_steps.specs.Steps.{Does, each};
 ghost use Rattle.expression_checker.specs.Actuals.{argued_as};
 ghost use Rattle.expression_checker.specs.Expressions.{access, actual, call, constructor, count_of, designator};
 ghost use Rattle.expression_checker.specs.Expressions.{expression, factor, index_at, member, name_factor, named_as};

@@ -3,10 +3,9 @@
 ghost use Rattle.std.specs.Prelude.{◌≡◌};
 ghost use Rattle.check_steps.specs.Steps.{Does};
 ghost use Rattle.expression_checker.specs.Selectors.{component_at, dereference_row, dereferenced, domain_at};
-ghost use Rattle.expression_checker.specs.Selectors.{field_access};
-ghost use Rattle.expression_checker.specs.Selectors.{field_defined, field_of_row, field_named, field_row, has_field};
-ghost use Rattle.expression_checker.specs.Selectors.{index_row, indexed, is_array, is_index, is_pointer, is_record};
-ghost use Rattle.expression_checker.specs.Selectors.{selected_field, type_number, type_row};
+ghost use Rattle.expression_checker.specs.Selectors.{field_access, field_defined, field_named, field_of_row, field_row};
+ghost use Rattle.expression_checker.specs.Selectors.{has_field, index_row, indexed, is_array, is_index, is_pointer};
+ghost use Rattle.expression_checker.specs.Selectors.{is_record, selected_field, type_number, type_row};
 
 use crate::names::component_if;
 use crate::typed::{Location, Typed, unknown_at};

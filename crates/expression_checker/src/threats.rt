@@ -2,8 +2,8 @@
 
 ghost use Rattle.std.specs.Prelude.{◌≡◌};
 ghost use Rattle.check_steps.specs.Steps.{Does};
-ghost use Rattle.expression_checker.specs.Threats.{is_outer, threat, threat_alone, threat_to, threatened};
-ghost use Rattle.expression_checker.specs.Threats.{whole_variable, whole_in, whole_of};
+ghost use Rattle.expression_checker.specs.Threats.{is_outer, threat, threat_alone, threat_to, threatened, whole_in};
+ghost use Rattle.expression_checker.specs.Threats.{whole_of, whole_variable};
 
 use check_steps::{Found, Tables, Work};
 use core_program::rows::{NameRow, Row};

@@ -4,7 +4,7 @@ ghost use Rattle.std.specs.Prelude.{◌≡◌, None};
 ghost use Rattle.pas_tree.specs.declared.constants.Constant.TheVariants.{Number, Text as TextConstant};
 ghost use Rattle.check_steps.specs.Steps.{Does};
 ghost use Rattle.expression_checker.specs.Typed.{bracketed, constant_at, constant_row, constant_type, literal, nil_at};
-ghost use Rattle.expression_checker.specs.Typed.{unknown_at, typed_value};
+ghost use Rattle.expression_checker.specs.Typed.{typed_value, unknown_at};
 
 use check_steps::{Tables, Work};
 use core_program::rows::{ExpressionRow, Row};

@@ -1,5 +1,5 @@
 -- Tests joined, taken apart and put together.
-use Rattle.std.proofs.Common.{◌≡◌, Bool, true, false, refl, ◌⊎◌, inl, inr}
+use Rattle.std.proofs.Common.{◌≡◌, ◌⊎◌, Bool, false, inl, inr, refl, true}
 use Rattle.grammar.specs.Deciding.{both, either, implies}
 
 pub both_make : (a b : Bool) → a ≡ true → b ≡ true → both a b ≡ true

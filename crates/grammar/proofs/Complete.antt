@@ -1,27 +1,19 @@
 -- What was read before a refusal begins the spelling of a tree.
-use Rattle.std.proofs.Common.{◌≡◌, ℕ, zero, suc, Bool, true, false, cond, not, List, [], ◌∷◌, ◌++◌, length, Option, Some, None, Ok, Err, refl, sym, ap, subst}
-use Rattle.std.proofs.Common.{◌∙◌, append_assoc, ◌⊎◌, inl, inr}
+use Rattle.std.proofs.Common.{◌++◌, ◌∙◌, ◌∷◌, ◌≡◌, ◌⊎◌, [], ℕ, Bool, Err, List, None, Ok, Option, Some, ap, append_assoc, cond, false, inl, inr, length, not}
+use Rattle.std.proofs.Common.{refl, subst, suc, sym, true, zero}
 use Rattle.std.proofs.lemmas.Bool.{and_parts, not-true}
-use Rattle.grammar.specs.declared.terminals.Terminal.{Terminal}
-use Rattle.grammar.specs.Terminals.{one_of, passes, every_of}
-use Rattle.grammar.specs.Nodes.{Item, Node, Leaf, Nothing, Pair, spell, leaf, ahead, next}
-use Rattle.grammar.specs.Grammars.{Level, Grammar, token, nothing, seq, choice, greedy, level, loop, again, IsPair, IsNone, rounds, FreeIn, FreeWithin}
-use Rattle.grammar.specs.Tested.{Is, Within}
-use Rattle.grammar.specs.Reading.{Refusal, Unfit, Deep, unread_of, Read, ◌>>=◌, unfit_here, turns, turning, reads, levels, read}
-use Rattle.grammar.specs.Deciding.{both, implies, guarded, sane, LevelTables, IsDecided, expects, all_levels}
-use Rattle.grammar.specs.Nesting.{Trees, Nested, IsShaped}
-use Rattle.grammar.specs.Completing.{first_in, ends_empty, short, begins_calm, spares, sure, completes, brief_of, has_brief, level_completes}
-use Rattle.grammar.specs.Completing.{IsCompleted}
-use Rattle.grammar.proofs.Bools.{implied}
-use Rattle.grammar.proofs.Every.{every_terminal}
-use Rattle.grammar.proofs.Exact.{Exact, bind_err, err_is, ok_or_err, ok_no_err, token_fails, none_exact}
-use Rattle.grammar.proofs.Decided.{Allows, freed}
-use Rattle.grammar.proofs.Loops.{guarded_same}
-use Rattle.grammar.proofs.Larger.{IsPart, is_up, none_in}
-use Rattle.grammar.proofs.Somewhere.{nested, whole_nested}
-use Rattle.grammar.proofs.LevelsTested.{every_level, whole_parts, rule_sane, free_within}
-use Rattle.grammar.proofs.Wholes.{rounds_exact, level_shortens, grammar_exact, levels_exact}
-use Rattle.grammar.proofs.Deepest.{Loop, fold}
+use Rattle.grammar.proofs.{Bools.implied, Decided.Allows, Decided.freed, Deepest.Loop, Deepest.fold, Every.every_terminal, Larger.IsPart, Larger.is_up}
+use Rattle.grammar.proofs.{Larger.none_in, Loops.guarded_same, Somewhere.nested, Somewhere.whole_nested}
+use Rattle.grammar.proofs.Exact.{Exact, bind_err, err_is, none_exact, ok_no_err, ok_or_err, token_fails}
+use Rattle.grammar.proofs.LevelsTested.{every_level, free_within, rule_sane, whole_parts}
+use Rattle.grammar.proofs.Wholes.{grammar_exact, level_shortens, levels_exact, rounds_exact}
+use Rattle.grammar.specs.{Nesting.IsShaped, Nesting.Nested, Nesting.Trees, Tested.Is, Tested.Within, declared.terminals.Terminal.Terminal}
+use Rattle.grammar.specs.Completing.{IsCompleted, begins_calm, brief_of, completes, ends_empty, first_in, has_brief, level_completes, short, spares, sure}
+use Rattle.grammar.specs.Deciding.{IsDecided, LevelTables, all_levels, both, expects, guarded, implies, sane}
+use Rattle.grammar.specs.Grammars.{FreeIn, FreeWithin, Grammar, IsNone, IsPair, Level, again, choice, greedy, level, loop, nothing, rounds, seq, token}
+use Rattle.grammar.specs.Nodes.{Item, Leaf, Node, Nothing, Pair, ahead, leaf, next, spell}
+use Rattle.grammar.specs.Reading.{◌>>=◌, Deep, Read, Refusal, Unfit, levels, read, reads, turning, turns, unfit_here, unread_of}
+use Rattle.grammar.specs.Terminals.{every_of, one_of, passes}
 
 module _ (calm : Terminal → Bool) where
   -- ---- in front of a calm terminal a tree stays one

@@ -1,15 +1,11 @@
 -- Where one token decides each choice, the trees of a grammar are those to which the tests lead.
-use Rattle.std.proofs.Common.{◌≡◌, ℕ, zero, suc, Bool, true, false, not, List, [], ◌∷◌, ◌++◌, Option, Some, None, refl, sym, subst, inl, inr}
+use Rattle.std.proofs.Common.{◌++◌, ◌∷◌, ◌≡◌, [], ℕ, Bool, List, None, Option, Some, false, inl, inr, not, refl, subst, suc, sym, true, zero}
 use Rattle.std.proofs.lemmas.Bool.{and_parts, not-true}
-use Rattle.grammar.specs.declared.terminals.Terminal.{Terminal}
-use Rattle.grammar.specs.Terminals.{one_of, passes, every}
-use Rattle.grammar.specs.Nodes.{Item, Node, Leaf, Nothing, Pair, spell, ahead}
-use Rattle.grammar.specs.Grammars.{Level, Grammar, token, nothing, seq, choice, greedy, level, loop, again, IsNothing, rounds, FreeIn, IsNone}
-use Rattle.grammar.specs.Tested.{Is}
-use Rattle.grammar.specs.Deciding.{both, either, implies, LevelTables, none, nullable, first, decides}
-use Rattle.grammar.proofs.Bools.{both_make, either_left, either_right, implied}
-use Rattle.grammar.proofs.Every.{every_terminal}
-use Rattle.grammar.proofs.Larger.{IsPart}
+use Rattle.grammar.proofs.{Bools.both_make, Bools.either_left, Bools.either_right, Bools.implied, Every.every_terminal, Larger.IsPart}
+use Rattle.grammar.specs.{Terminals.every, Terminals.one_of, Terminals.passes, Tested.Is, declared.terminals.Terminal.Terminal}
+use Rattle.grammar.specs.Deciding.{LevelTables, both, decides, either, first, implies, none, nullable}
+use Rattle.grammar.specs.Grammars.{FreeIn, Grammar, IsNone, IsNothing, Level, again, choice, greedy, level, loop, nothing, rounds, seq, token}
+use Rattle.grammar.specs.Nodes.{Item, Leaf, Node, Nothing, Pair, ahead, spell}
 
 -- what may follow: a terminal that passes, or the end
 abbrev pub Allows : (Terminal → Bool) → Option Terminal → Type 0

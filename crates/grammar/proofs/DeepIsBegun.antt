@@ -1,29 +1,21 @@
 -- Where reading comes too deep, a tree goes on with that token, and a node begins there that is nested too deep.
-use Rattle.std.proofs.Common.{◌≡◌, ℕ, zero, suc, Bool, true, false, not, List, [], ◌∷◌, ◌++◌, length, Option, Some, None, Ok, Err, refl, sym, ap, subst, ◌∙◌}
-use Rattle.std.proofs.Common.{append_assoc, ◌⊎◌, inl, inr}
-use Rattle.std.proofs.lemmas.List.{append-nil}
-use Rattle.std.proofs.lemmas.Bool.{and_parts, not-true}
-use Rattle.grammar.specs.declared.terminals.Terminal.{Terminal}
-use Rattle.grammar.specs.Terminals.{passes, every, every_of}
-use Rattle.grammar.specs.Nodes.{Item, Node, Leaf, Nothing, Pair, spell, ahead, next}
-use Rattle.grammar.specs.Grammars.{Level, Grammar, token, nothing, seq, choice, greedy, level, loop, again, IsNone, rounds, FreeIn}
-use Rattle.grammar.specs.Tested.{Is, Within}
-use Rattle.grammar.specs.Reading.{Unfit, Deep, unread_of, Read, ◌>>=◌, unfit_here, turns, turning, reads, levels, read}
-use Rattle.grammar.specs.Deciding.{both, either, implies, guarded, sane, LevelTables, IsDecided, expects, none, nullable, first, all_levels}
-use Rattle.grammar.specs.Nesting.{Trees, Places, Nested, nowhere, in_rounds, BeginsIn, BeginsAt, BeginsDeep}
-use Rattle.grammar.specs.Completing.{begins_calm, spares, IsCompleted}
-use Rattle.grammar.specs.Reaching.{tables_at, leads, eager, ends, tail, goes_on, level_reaches, IsReaching}
-use Rattle.grammar.proofs.Bools.{both_make, either_left, either_right, either_parts, implied, by_test}
-use Rattle.grammar.proofs.Every.{every_terminal}
-use Rattle.grammar.proofs.Exact.{Exact, bind_err, failed, err_is, ok_or_err, ok_no_err, token_fails, none_exact}
-use Rattle.grammar.proofs.Decided.{Allows}
-use Rattle.grammar.proofs.Larger.{IsPart, none_in}
-use Rattle.grammar.proofs.LevelsTested.{every_level, whole_parts, rule_sane}
-use Rattle.grammar.proofs.Hopeless.{unfit_no_deep}
-use Rattle.grammar.proofs.Deepest.{Loop}
-use Rattle.grammar.proofs.Complete.{calm_ahead, brief, has, good, calls, shortest, shortest_fits, has_fits, loop_fits, rule_completes, whole_completes}
-use Rattle.grammar.proofs.Complete.{exact_at, freed_at, rounds_exact_at}
-use Rattle.grammar.proofs.Starting.{Empty, Starting, Begins, empties, starting, none_begins, level_empty_at, level_starts_at}
+use Rattle.std.proofs.Common.{◌++◌, ◌∙◌, ◌∷◌, ◌≡◌, ◌⊎◌, [], ℕ, Bool, Err, List, None, Ok, Option, Some, ap, append_assoc, false, inl, inr, length, not, refl}
+use Rattle.std.proofs.Common.{subst, suc, sym, true, zero}
+use Rattle.std.proofs.lemmas.{Bool.and_parts, Bool.not-true, List.append-nil}
+use Rattle.grammar.proofs.{Complete.shortest_fits, Complete.whole_completes, Decided.Allows, Deepest.Loop, Every.every_terminal, Hopeless.unfit_no_deep}
+use Rattle.grammar.proofs.{Larger.IsPart, Larger.none_in, LevelsTested.every_level, LevelsTested.rule_sane, LevelsTested.whole_parts}
+use Rattle.grammar.proofs.Bools.{both_make, by_test, either_left, either_parts, either_right, implied}
+use Rattle.grammar.proofs.Complete.{brief, calls, calm_ahead, exact_at, freed_at, good, has, has_fits, loop_fits, rounds_exact_at, rule_completes, shortest}
+use Rattle.grammar.proofs.Exact.{Exact, bind_err, err_is, failed, none_exact, ok_no_err, ok_or_err, token_fails}
+use Rattle.grammar.proofs.Starting.{Begins, Empty, Starting, empties, level_empty_at, level_starts_at, none_begins, starting}
+use Rattle.grammar.specs.{Terminals.every, Terminals.every_of, Terminals.passes, Tested.Is, Tested.Within, declared.terminals.Terminal.Terminal}
+use Rattle.grammar.specs.Completing.{IsCompleted, begins_calm, spares}
+use Rattle.grammar.specs.Deciding.{IsDecided, LevelTables, all_levels, both, either, expects, first, guarded, implies, none, nullable, sane}
+use Rattle.grammar.specs.Grammars.{FreeIn, Grammar, IsNone, Level, again, choice, greedy, level, loop, nothing, rounds, seq, token}
+use Rattle.grammar.specs.Nesting.{BeginsAt, BeginsDeep, BeginsIn, Nested, Places, Trees, in_rounds, nowhere}
+use Rattle.grammar.specs.Nodes.{Item, Leaf, Node, Nothing, Pair, ahead, next, spell}
+use Rattle.grammar.specs.Reaching.{IsReaching, eager, ends, goes_on, leads, level_reaches, tables_at, tail}
+use Rattle.grammar.specs.Reading.{◌>>=◌, Deep, Read, Unfit, levels, read, reads, turning, turns, unfit_here, unread_of}
 
 -- a place after one part stands in one round of a loop
 at_one : (E : Level → Trees) (D : Level → Places) (g : Grammar) (V : Trees) (W : ℕ → Places) (x : Node) (h : Option Terminal) (f : List Item)

@@ -1,25 +1,18 @@
 -- A tree in which a node begins too deep is refused as too deep at that node or before it.
-use Rattle.std.proofs.Common.{◌≡◌, ℕ, zero, suc, ◌≤◌, Bool, true, false, cond, List, [], ◌++◌, Option, None, Ok, refl, sym, ap, subst, ◌∙◌}
-use Rattle.std.proofs.Common.{append_assoc, inl, inr}
-use Rattle.std.proofs.lemmas.Bool.{and_parts}
-use Rattle.grammar.specs.declared.terminals.Terminal.{Terminal}
-use Rattle.grammar.specs.Terminals.{passes}
-use Rattle.grammar.specs.Nodes.{Item, Node, Leaf, Nothing, Pair, spell, ahead, next}
-use Rattle.grammar.specs.Grammars.{Level, Grammar, token, nothing, seq, choice, greedy, level, loop, again, IsNone, rounds, FreeIn}
-use Rattle.grammar.specs.Tested.{Is, Within}
-use Rattle.grammar.specs.Reading.{Read, then_pair, unfit_here, turning, reads, levels, read}
-use Rattle.grammar.specs.Deciding.{guarded, sane, LevelTables, IsDecided, expects, none, nullable, first, decides}
-use Rattle.grammar.specs.Nesting.{Trees, Places, Nested, IsShaped, nowhere, in_rounds, BeginsIn, BeginsAt, BeginsDeep}
-use Rattle.grammar.proofs.Exact.{ahead_append}
-use Rattle.grammar.proofs.Loops.{Guards, guarded_same, turning_again}
-use Rattle.grammar.proofs.Larger.{IsPart, rounds_map, free_up, all_in}
-use Rattle.grammar.proofs.Somewhere.{at_some, AtSome, nested, whole_nested}
-use Rattle.grammar.proofs.Wholes.{level_shortens, levels_exact}
-use Rattle.grammar.proofs.Decided.{none_begun, none_tested, Allows, Begun, begun, Tested, tested, allows_up, after, head, gap, seq_parts, choice_parts}
-use Rattle.grammar.proofs.Decided.{greedy_parts, loop_parts, solid_starts, passes_first, fails_first, allows_append}
-use Rattle.grammar.proofs.LevelsTested.{level_parts, whole_parts, rule_sane}
-use Rattle.grammar.proofs.ReadOrTooDeep.{DeepIn, Goes, AllGo, first_deep, second_deep, Placed, nested_begun, nested_placed, expected}
-use Rattle.grammar.proofs.ReadOrTooDeep.{goes, level_goes}
+use Rattle.std.proofs.Common.{◌++◌, ◌∙◌, ◌≡◌, ◌≤◌, [], ℕ, Bool, List, None, Ok, Option, ap, append_assoc, cond, false, inl, inr, refl, subst, suc, sym, true}
+use Rattle.std.proofs.{Common.zero, lemmas.Bool.and_parts}
+use Rattle.grammar.proofs.{Exact.ahead_append, Larger.IsPart, Larger.all_in, Larger.free_up, Larger.rounds_map, LevelsTested.level_parts}
+use Rattle.grammar.proofs.{LevelsTested.rule_sane, LevelsTested.whole_parts, Loops.Guards, Loops.guarded_same, Loops.turning_again, Somewhere.AtSome}
+use Rattle.grammar.proofs.{Somewhere.at_some, Somewhere.nested, Somewhere.whole_nested, Wholes.level_shortens, Wholes.levels_exact}
+use Rattle.grammar.proofs.Decided.{Allows, Begun, Tested, after, allows_append, allows_up, begun, choice_parts, fails_first, gap, greedy_parts, head}
+use Rattle.grammar.proofs.Decided.{loop_parts, none_begun, none_tested, passes_first, seq_parts, solid_starts, tested}
+use Rattle.grammar.proofs.ReadOrTooDeep.{AllGo, DeepIn, Goes, Placed, expected, first_deep, goes, level_goes, nested_begun, nested_placed, second_deep}
+use Rattle.grammar.specs.{Terminals.passes, Tested.Is, Tested.Within, declared.terminals.Terminal.Terminal}
+use Rattle.grammar.specs.Deciding.{IsDecided, LevelTables, decides, expects, first, guarded, none, nullable, sane}
+use Rattle.grammar.specs.Grammars.{FreeIn, Grammar, IsNone, Level, again, choice, greedy, level, loop, nothing, rounds, seq, token}
+use Rattle.grammar.specs.Nesting.{BeginsAt, BeginsDeep, BeginsIn, IsShaped, Nested, Places, Trees, in_rounds, nowhere}
+use Rattle.grammar.specs.Nodes.{Item, Leaf, Node, Nothing, Pair, ahead, next, spell}
+use Rattle.grammar.specs.Reading.{Read, levels, read, reads, then_pair, turning, unfit_here}
 
 -- ---- a tree with a place is a tree
 

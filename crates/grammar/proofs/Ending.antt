@@ -1,15 +1,12 @@
 -- Reading does not pass a terminal that stands at the end alone.
-use Rattle.std.proofs.Common.{◌≡◌, ℕ, zero, suc, Bool, true, false, cond, List, [], ◌∷◌, length, Ok, Err, refl, sym, ap, subst, ◌∙◌, inl, inr}
+use Rattle.std.proofs.Common.{◌∙◌, ◌∷◌, ◌≡◌, [], ℕ, Bool, Err, List, Ok, ap, cond, false, inl, inr, length, refl, subst, suc, sym, true, zero}
 use Rattle.std.proofs.lemmas.Bool.{and_parts, not-true}
-use Rattle.grammar.specs.declared.terminals.Terminal.{Terminal}
-use Rattle.grammar.specs.Terminals.{one_of, passes, every_of}
-use Rattle.grammar.specs.Nodes.{Item, Node, Leaf, Nothing, Pair, next}
-use Rattle.grammar.specs.Grammars.{Level, Grammar, token, nothing, seq, choice, greedy, level, loop, again}
-use Rattle.grammar.specs.Reading.{Refusal, Unfit, Deep, unread_of, Read, ◌>>=◌, token_at, then_pair, unfit_here, turns, turning, reads, levels, read}
-use Rattle.grammar.specs.Deciding.{LevelTables, expects, all_levels}
-use Rattle.grammar.specs.Ending.{lacks, ends_in, IsLast, Has}
-use Rattle.grammar.proofs.Exact.{bind_err, err_is, ok_no_err, token_fails}
-use Rattle.grammar.proofs.LevelsTested.{every_level}
+use Rattle.grammar.proofs.{Exact.bind_err, Exact.err_is, Exact.ok_no_err, Exact.token_fails, LevelsTested.every_level}
+use Rattle.grammar.specs.{Deciding.LevelTables, Deciding.all_levels, Deciding.expects, Ending.Has, Ending.IsLast, Ending.ends_in, Ending.lacks}
+use Rattle.grammar.specs.{Terminals.every_of, Terminals.one_of, Terminals.passes, declared.terminals.Terminal.Terminal}
+use Rattle.grammar.specs.Grammars.{Grammar, Level, again, choice, greedy, level, loop, nothing, seq, token}
+use Rattle.grammar.specs.Nodes.{Item, Leaf, Node, Nothing, Pair, next}
+use Rattle.grammar.specs.Reading.{◌>>=◌, Deep, Read, Refusal, Unfit, levels, read, reads, then_pair, token_at, turning, turns, unfit_here, unread_of}
 
 module _ (k : Terminal) where
   -- what is left has the terminal

@@ -1,13 +1,12 @@
 -- What all terminals pass, each passes.
-use Rattle.std.proofs.Common.{◌≡◌, ℕ, zero, suc, Bool, true, List, [], ◌∷◌}
+use Rattle.std.proofs.Common.{◌∷◌, ◌≡◌, [], ℕ, Bool, List, suc, true, zero}
 use Rattle.std.proofs.lemmas.Bool.{and_parts}
-use Rattle.grammar.specs.declared.terminals.Terminal.{Terminal}
-use Rattle.grammar.specs.declared.terminals.Terminal.TheVariants.{WAnd, WArray, WBegin, WCase, WConst, WDiv, WDo, WDownto, WElse, WEnd, WFile, WFor, WFunction}
-use Rattle.grammar.specs.declared.terminals.Terminal.TheVariants.{WGoto, WIf, WIn, WLabel, WMod, WNil, WNot, WOf, WOr, WPacked, WProcedure, WProgram, WRecord}
-use Rattle.grammar.specs.declared.terminals.Terminal.TheVariants.{WRepeat, WSet, WThen, WTo, WType, WUntil, WVar, WWhile, WWith, Plus, Minus, Star, Equal, Less}
-use Rattle.grammar.specs.declared.terminals.Terminal.TheVariants.{Greater, LeftBracket, RightBracket, Dot, Comma, Colon, Semicolon, Caret, LeftParen}
-use Rattle.grammar.specs.declared.terminals.Terminal.TheVariants.{RightParen, NotEqual, AtMost, AtLeast, Becomes, Range, Name, Number, Text, End}
-use Rattle.grammar.specs.Terminals.{all_terminals, every_of, every}
+use Rattle.grammar.specs.{Terminals.all_terminals, Terminals.every, Terminals.every_of, declared.terminals.Terminal.Terminal}
+use Rattle.grammar.specs.declared.terminals.Terminal.TheVariants.{AtLeast, AtMost, Becomes, Caret, Colon, Comma, Dot, End, Equal, Greater, LeftBracket}
+use Rattle.grammar.specs.declared.terminals.Terminal.TheVariants.{LeftParen, Less, Minus, Name, NotEqual, Number, Plus, Range, RightBracket, RightParen}
+use Rattle.grammar.specs.declared.terminals.Terminal.TheVariants.{Semicolon, Star, Text, WAnd, WArray, WBegin, WCase, WConst, WDiv, WDo, WDownto, WElse, WEnd}
+use Rattle.grammar.specs.declared.terminals.Terminal.TheVariants.{WFile, WFor, WFunction, WGoto, WIf, WIn, WLabel, WMod, WNil, WNot, WOf, WOr, WPacked}
+use Rattle.grammar.specs.declared.terminals.Terminal.TheVariants.{WProcedure, WProgram, WRecord, WRepeat, WSet, WThen, WTo, WType, WUntil, WVar, WWhile, WWith}
 
 -- a fact of what is at a place of a list
 abbrev pub At : {A : Type 0} → ℕ → List A → (A → Type 0) → Type 0

@@ -1,12 +1,10 @@
 -- A reader is exact for a set of trees where it reads what they spell, reads nothing else, and refuses no token
 -- with which the spelling of one of them goes on.
-use Rattle.std.proofs.Common.{◌≡◌, Bool, true, false, cond, List, [], ◌∷◌, ◌++◌, Option, None, Ok, Err, refl, sym, ap, subst, ◌∙◌, append_assoc, inl, inr, ◌⊎◌}
-use Rattle.grammar.specs.declared.terminals.Terminal.{Terminal}
-use Rattle.grammar.specs.Terminals.{one_of, passes}
-use Rattle.grammar.specs.Nodes.{Item, Node, Leaf, Nothing, Pair, spell, ahead, next}
-use Rattle.grammar.specs.Grammars.{IsLeaf, IsNothing, IsPair, IsNone}
-use Rattle.grammar.specs.Tested.{IsChoice}
-use Rattle.grammar.specs.Reading.{Refusal, Unfit, unread_of, Read, ◌>>=◌, token_at, then_pair, unfit_here}
+use Rattle.std.proofs.Common.{◌++◌, ◌∙◌, ◌∷◌, ◌≡◌, ◌⊎◌, [], Bool, Err, List, None, Ok, Option, ap, append_assoc, cond, false, inl, inr, refl, subst, sym, true}
+use Rattle.grammar.specs.{Terminals.one_of, Terminals.passes, Tested.IsChoice, declared.terminals.Terminal.Terminal}
+use Rattle.grammar.specs.Grammars.{IsLeaf, IsNone, IsNothing, IsPair}
+use Rattle.grammar.specs.Nodes.{Item, Leaf, Node, Nothing, Pair, ahead, next, spell}
+use Rattle.grammar.specs.Reading.{◌>>=◌, Read, Refusal, Unfit, then_pair, token_at, unfit_here, unread_of}
 
 -- No tree has a spelling that begins as the list does, up to the token where `left` begins.
 abbrev pub Refuses : (Node → Option Terminal → Type 0) → List Item → List Item → Type 0

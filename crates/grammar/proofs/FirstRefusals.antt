@@ -1,25 +1,16 @@
 -- Refusals by the numbers of tokens.
-use Rattle.std.proofs.Common.{◌≡◌, ℕ, zero, suc, ◌+◌, ◌<◌, ◌≤◌, Bool, true, false, List, [], ◌∷◌, ◌++◌, length, take, drop, None, Ok, Err, refl, sym, ap, subst}
-use Rattle.std.proofs.Common.{◌∙◌, append_assoc, add-one, ◌⊎◌, inl, inr, arith, length-append}
-use Rattle.std.proofs.lemmas.List.{append-nil, append_cancel_left, append_cancel_right, take_at, drop_at, length-take-le, take-append-drop}
-use Rattle.grammar.specs.declared.terminals.Terminal.{Terminal}
-use Rattle.grammar.specs.Nodes.{Item, Node, Nothing, spell, next}
-use Rattle.grammar.specs.Grammars.{Grammar, IsNone, FreeIn}
-use Rattle.grammar.specs.Deciding.{LevelTables, IsDecided}
-use Rattle.grammar.specs.Reading.{Refusal, Unfit, Deep, unread_of, Read, read}
-use Rattle.grammar.specs.Laws.{NoneGoesOn}
-use Rattle.grammar.specs.Nesting.{Nested, IsShaped, BeginsDeep}
-use Rattle.grammar.specs.Completing.{IsCompleted}
-use Rattle.grammar.specs.Reaching.{IsReaching}
-use Rattle.grammar.specs.Refusals.{BeginsWith, IsTooDeep, IsHopeless, IsLeast, IsFirstTooDeepBy, NoneTooDeep, IsFirstHopelessBy, StopsAt}
-use Rattle.grammar.proofs.Exact.{done, failed, err_is, ok_no_err, same_next}
-use Rattle.grammar.proofs.Larger.{none_in}
-use Rattle.grammar.proofs.Somewhere.{whole_nested}
-use Rattle.grammar.proofs.Texts.{exact}
-use Rattle.grammar.proofs.Hopeless.{unfit_no_deep, whole_local, unfit_hopeless, surplus_hopeless}
-use Rattle.grammar.proofs.Deepest.{whole_deep, deep_shaped}
-use Rattle.grammar.proofs.Complete.{brief, has, moves, level_moves, whole_completes, whole_completed, freed_at}
-use Rattle.grammar.proofs.DeepIsBegun.{whole_reached}
+use Rattle.std.proofs.Common.{◌++◌, ◌+◌, ◌<◌, ◌∙◌, ◌∷◌, ◌≡◌, ◌≤◌, ◌⊎◌, [], ℕ, Bool, Err, List, None, Ok, add-one, ap, append_assoc, arith, drop, false, inl}
+use Rattle.std.proofs.Common.{inr, length, length-append, refl, subst, suc, sym, take, true, zero}
+use Rattle.std.proofs.lemmas.List.{append-nil, append_cancel_left, append_cancel_right, drop_at, length-take-le, take-append-drop, take_at}
+use Rattle.grammar.proofs.{DeepIsBegun.whole_reached, Deepest.deep_shaped, Deepest.whole_deep, Larger.none_in, Somewhere.whole_nested, Texts.exact}
+use Rattle.grammar.proofs.Complete.{brief, freed_at, has, level_moves, moves, whole_completed, whole_completes}
+use Rattle.grammar.proofs.Exact.{done, err_is, failed, ok_no_err, same_next}
+use Rattle.grammar.proofs.Hopeless.{surplus_hopeless, unfit_hopeless, unfit_no_deep, whole_local}
+use Rattle.grammar.specs.{Completing.IsCompleted, Deciding.IsDecided, Deciding.LevelTables, Grammars.FreeIn, Grammars.Grammar, Grammars.IsNone, Laws.NoneGoesOn}
+use Rattle.grammar.specs.{Nesting.BeginsDeep, Nesting.IsShaped, Nesting.Nested, Reaching.IsReaching, declared.terminals.Terminal.Terminal}
+use Rattle.grammar.specs.Nodes.{Item, Node, Nothing, next, spell}
+use Rattle.grammar.specs.Reading.{Deep, Read, Refusal, Unfit, read, unread_of}
+use Rattle.grammar.specs.Refusals.{BeginsWith, IsFirstHopelessBy, IsFirstTooDeepBy, IsHopeless, IsLeast, IsTooDeep, NoneTooDeep, StopsAt}
 
 -- ---- lists cut at a token
 

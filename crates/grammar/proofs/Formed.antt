@@ -1,17 +1,11 @@
 -- A shaped tree is formed, or a node begins in it that is nested too deep.
-use Rattle.std.proofs.Common.{◌≡◌, ℕ, zero, suc, true, List, [], ◌++◌, Option, None, refl, sym, ap, ◌∙◌, ◌⊎◌, inl, inr}
+use Rattle.std.proofs.Common.{◌++◌, ◌∙◌, ◌≡◌, ◌⊎◌, [], ℕ, List, None, Option, ap, inl, inr, refl, suc, sym, true, zero}
 use Rattle.std.proofs.lemmas.List.{append-nil}
-use Rattle.grammar.specs.declared.terminals.Terminal.{Terminal}
-use Rattle.grammar.specs.Nodes.{Item, Node, Leaf, Nothing, Pair, spell, ahead}
-use Rattle.grammar.specs.Grammars.{Level, Grammar, token, nothing, seq, choice, greedy, level, loop, again, IsNone, rounds, FreeIn, FreeWithin}
-use Rattle.grammar.specs.Deciding.{LevelTables, IsDecided}
-use Rattle.grammar.specs.Reading.{Deep, read}
-use Rattle.grammar.specs.Laws.{IsFormedBy}
-use Rattle.grammar.specs.Nesting.{Trees, Places, Nested, IsShaped, nowhere, in_rounds, BeginsIn, BeginsAt, BeginsDeep}
-use Rattle.grammar.proofs.Exact.{ok_no_err}
-use Rattle.grammar.proofs.Larger.{IsPart, free_up, all_in}
-use Rattle.grammar.proofs.Texts.{formed_found}
-use Rattle.grammar.proofs.Deepest.{Loop, whole_deep}
+use Rattle.grammar.proofs.{Deepest.Loop, Deepest.whole_deep, Exact.ok_no_err, Larger.IsPart, Larger.all_in, Larger.free_up, Texts.formed_found}
+use Rattle.grammar.specs.{Deciding.IsDecided, Deciding.LevelTables, Laws.IsFormedBy, Reading.Deep, Reading.read, declared.terminals.Terminal.Terminal}
+use Rattle.grammar.specs.Grammars.{FreeIn, FreeWithin, Grammar, IsNone, Level, again, choice, greedy, level, loop, nothing, rounds, seq, token}
+use Rattle.grammar.specs.Nesting.{BeginsAt, BeginsDeep, BeginsIn, IsShaped, Nested, Places, Trees, in_rounds, nowhere}
+use Rattle.grammar.specs.Nodes.{Item, Leaf, Node, Nothing, Pair, ahead, spell}
 
 abbrev pub IsPlace : Places → Places → Type 0
 IsPlace M N = (x : Node) (h : Option Terminal) (f : List Item) → M x h f → N x h f

@@ -1,18 +1,10 @@
 -- With a token that is refused as unfit no tree goes on, at whatever nesting.
-use Rattle.std.proofs.Common.{◌≡◌, ℕ, true, List, [], ◌∷◌, ◌++◌, Some, Ok, Err, sym, ap, subst, ◌∙◌, inl, inr}
+use Rattle.std.proofs.Common.{◌++◌, ◌∙◌, ◌∷◌, ◌≡◌, [], ℕ, Err, List, Ok, Some, ap, inl, inr, subst, sym, true}
 use Rattle.std.proofs.lemmas.List.{append-nil}
-use Rattle.grammar.specs.Nodes.{Item, Node, spell, next}
-use Rattle.grammar.specs.Grammars.{Grammar, IsNone}
-use Rattle.grammar.specs.Tested.{Is, Within}
-use Rattle.grammar.specs.Deciding.{LevelTables, IsDecided}
-use Rattle.grammar.specs.Reading.{Refusal, Unfit, Deep, read}
-use Rattle.grammar.specs.Laws.{NoneGoesOn}
-use Rattle.grammar.specs.Nesting.{IsShaped}
-use Rattle.grammar.proofs.Exact.{failed, ok_is, err_is, ok_no_err}
-use Rattle.grammar.proofs.LevelsTested.{rule_sane, whole_parts}
-use Rattle.grammar.proofs.Texts.{exact}
-use Rattle.grammar.proofs.Local.{Local, read_local}
-use Rattle.grammar.proofs.ReadOrTooDeep.{shaped_goes}
+use Rattle.grammar.proofs.{LevelsTested.rule_sane, LevelsTested.whole_parts, Local.Local, Local.read_local, ReadOrTooDeep.shaped_goes, Texts.exact}
+use Rattle.grammar.proofs.Exact.{err_is, failed, ok_is, ok_no_err}
+use Rattle.grammar.specs.{Deciding.IsDecided, Deciding.LevelTables, Grammars.Grammar, Grammars.IsNone, Laws.NoneGoesOn, Nesting.IsShaped, Nodes.Item}
+use Rattle.grammar.specs.{Nodes.Node, Nodes.next, Nodes.spell, Reading.Deep, Reading.Refusal, Reading.Unfit, Reading.read, Tested.Is, Tested.Within}
 
 pub unfit_no_deep : (l m : List Item) → failed (Unfit l) ≡ failed (Deep m) → ⊥
 unfit_no_deep l m e = let f : Unfit l ≡ Deep m = err_is (Unfit l) (Deep m) e in cc

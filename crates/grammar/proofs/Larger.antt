@@ -1,9 +1,8 @@
 -- Where the parts have more trees, so has the whole.
-use Rattle.std.proofs.Common.{ℕ, zero, suc, ◌≤◌, Option, arith, inl, inr}
-use Rattle.grammar.specs.declared.terminals.Terminal.{Terminal}
-use Rattle.grammar.specs.Nodes.{Node, Leaf, Nothing, Pair, spell, ahead}
-use Rattle.grammar.specs.Grammars.{Level, Grammar, token, nothing, seq, choice, greedy, level, loop, again, IsNone, rounds, FreeIn, FreeWithin}
-use Rattle.grammar.specs.Tested.{Is, Within}
+use Rattle.std.proofs.Common.{◌≤◌, ℕ, Option, arith, inl, inr, suc, zero}
+use Rattle.grammar.specs.{Tested.Is, Tested.Within, declared.terminals.Terminal.Terminal}
+use Rattle.grammar.specs.Grammars.{FreeIn, FreeWithin, Grammar, IsNone, Level, again, choice, greedy, level, loop, nothing, rounds, seq, token}
+use Rattle.grammar.specs.Nodes.{Leaf, Node, Nothing, Pair, ahead, spell}
 
 -- each tree of the first is one of the second
 abbrev pub IsPart : (Node → Option Terminal → Type 0) → (Node → Option Terminal → Type 0) → Type 0

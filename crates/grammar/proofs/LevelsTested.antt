@@ -1,16 +1,11 @@
 -- The levels of a decided grammar: their free trees are those to which the tests lead.
-use Rattle.std.proofs.Common.{◌≡◌, ℕ, zero, suc, Bool, true, false, Option, None}
+use Rattle.std.proofs.Common.{◌≡◌, ℕ, Bool, None, Option, false, suc, true, zero}
 use Rattle.std.proofs.lemmas.Bool.{and_parts}
-use Rattle.grammar.specs.declared.terminals.Terminal.{Terminal}
-use Rattle.grammar.specs.Terminals.{every, every_of}
-use Rattle.grammar.specs.Nodes.{Node, spell}
-use Rattle.grammar.specs.Grammars.{by_end, by_until, Level, block, heading, statement, denoter, variant_part, factor, Grammar, IsNone, Free, FreeWithin}
-use Rattle.grammar.specs.Tested.{Is, Within}
-use Rattle.grammar.specs.Deciding.{both, implies, closed, sane, LevelTables, none, nullable, first, decides, level_is_decided, all_levels}
-use Rattle.grammar.specs.Deciding.{IsDecided}
-use Rattle.grammar.proofs.Every.{every_at}
-use Rattle.grammar.proofs.Larger.{IsPart, none_in}
-use Rattle.grammar.proofs.Decided.{Begun, starts_up, begun, Tested, tested, freed, none_begun, none_tested}
+use Rattle.grammar.proofs.{Every.every_at, Larger.IsPart, Larger.none_in}
+use Rattle.grammar.proofs.Decided.{Begun, Tested, begun, freed, none_begun, none_tested, starts_up, tested}
+use Rattle.grammar.specs.{Nodes.Node, Nodes.spell, Terminals.every, Terminals.every_of, Tested.Is, Tested.Within, declared.terminals.Terminal.Terminal}
+use Rattle.grammar.specs.Deciding.{IsDecided, LevelTables, all_levels, both, closed, decides, first, implies, level_is_decided, none, nullable, sane}
+use Rattle.grammar.specs.Grammars.{Free, FreeWithin, Grammar, IsNone, Level, block, by_end, by_until, denoter, factor, heading, statement, variant_part}
 
 pub every_level : (t : Level → Bool) → every_of t all_levels ≡ true → (l : Level) → t l ≡ true
 every_level t e block = every_at t 0 all_levels e

@@ -1,16 +1,13 @@
 -- Reading one part after the other, as a loop of a program does.
-use Rattle.std.proofs.Common.{◌≡◌, ℕ, Bool, true, false, cond, if◌then◌else◌, List, [], ◌∷◌, ◌++◌, Ok, Err, refl, sym, ap, ◌∙◌, inl, inr}
-use Rattle.grammar.specs.declared.terminals.Terminal.{Terminal}
-use Rattle.grammar.specs.Terminals.{is, passes}
-use Rattle.grammar.specs.Nodes.{Item, Node, Leaf, Nothing, Pair, row, SeriesPart, chain, next, second}
-use Rattle.grammar.specs.Grammars.{Level, Grammar, nothing, seq, choice, again, word, many, series}
-use Rattle.grammar.specs.Tested.{Within}
-use Rattle.grammar.specs.Deciding.{closed, solid, guarded, sane, LevelTables}
-use Rattle.grammar.specs.Reading.{Refusal, Read, ◌>>=◌, token_at, then_pair, unfit_here, turning, reads, levels, read}
-use Rattle.grammar.proofs.Loops.{Guards, closed_same, guarded_same, closed_linear, turning_again, then_same, cond_same}
-use Rattle.grammar.proofs.Exact.{bind_ok, bind_err, done, ok_is, ok_no_err}
-use Rattle.grammar.proofs.Wholes.{levels_exact, level_shortens}
-use Rattle.grammar.proofs.Bools.{by_test}
+use Rattle.std.proofs.Common.{if◌then◌else◌, ◌++◌, ◌∙◌, ◌∷◌, ◌≡◌, [], ℕ, Bool, Err, List, Ok, ap, cond, false, inl, inr, refl, sym, true}
+use Rattle.grammar.proofs.{Bools.by_test, Wholes.level_shortens, Wholes.levels_exact}
+use Rattle.grammar.proofs.Exact.{bind_err, bind_ok, done, ok_is, ok_no_err}
+use Rattle.grammar.proofs.Loops.{Guards, closed_linear, closed_same, cond_same, guarded_same, then_same, turning_again}
+use Rattle.grammar.specs.{Terminals.is, Terminals.passes, Tested.Within, declared.terminals.Terminal.Terminal}
+use Rattle.grammar.specs.Deciding.{LevelTables, closed, guarded, sane, solid}
+use Rattle.grammar.specs.Grammars.{Grammar, Level, again, choice, many, nothing, seq, series, word}
+use Rattle.grammar.specs.Nodes.{Item, Leaf, Node, Nothing, Pair, SeriesPart, chain, next, row, second}
+use Rattle.grammar.specs.Reading.{◌>>=◌, Read, Refusal, levels, read, reads, then_pair, token_at, turning, unfit_here}
 
 -- what may be repeated in a loop: it does not speak of the loop around it, and takes a token
 pub record Repeats (g : Grammar) : Type 0 where

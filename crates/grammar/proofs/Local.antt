@@ -1,20 +1,14 @@
 -- A refusal depends on the tokens up to the refused one alone.
-use Rattle.std.proofs.Common.{◌≡◌, ℕ, zero, suc, ◌+◌, true, false, cond, List, [], ◌∷◌, ◌++◌, length, Option, Ok, Err, refl, sym, ap, subst, ◌∙◌, append_assoc}
-use Rattle.std.proofs.Common.{inl, inr, arith}
-use Rattle.std.proofs.lemmas.List.{append_cancel_right}
-use Rattle.std.proofs.lemmas.Bool.{and_parts}
-use Rattle.grammar.specs.declared.terminals.Terminal.{Terminal}
-use Rattle.grammar.specs.Terminals.{one_of, passes}
-use Rattle.grammar.specs.Nodes.{Item, Node, Nothing, Pair, spell, next}
-use Rattle.grammar.specs.Grammars.{Level, Grammar, token, nothing, seq, choice, greedy, level, loop, again, IsNone, rounds}
-use Rattle.grammar.specs.Tested.{Is, Within}
-use Rattle.grammar.specs.Reading.{Refusal, Unfit, Deep, unread_of, Read, ◌>>=◌, token_at, then_pair, unfit_here, turns, turning, reads, levels, read}
-use Rattle.grammar.specs.Deciding.{guarded, sane, LevelTables, expects}
-use Rattle.grammar.specs.Nesting.{Trees}
-use Rattle.grammar.proofs.Exact.{Exact, bind_err, failed, err_is, ok_no_err, ok_or_err, same_next, token_fails, none_exact}
-use Rattle.grammar.proofs.Loops.{Guards, enough, guarded_same}
-use Rattle.grammar.proofs.Larger.{is_up}
-use Rattle.grammar.proofs.Wholes.{rounds_exact, level_shortens, grammar_exact, levels_exact}
+use Rattle.std.proofs.Common.{◌++◌, ◌+◌, ◌∙◌, ◌∷◌, ◌≡◌, [], ℕ, Err, List, Ok, Option, ap, append_assoc, arith, cond, false, inl, inr, length, refl, subst, suc}
+use Rattle.std.proofs.{Common.sym, Common.true, Common.zero, lemmas.Bool.and_parts, lemmas.List.append_cancel_right}
+use Rattle.grammar.proofs.{Larger.is_up, Loops.Guards, Loops.enough, Loops.guarded_same}
+use Rattle.grammar.proofs.Exact.{Exact, bind_err, err_is, failed, none_exact, ok_no_err, ok_or_err, same_next, token_fails}
+use Rattle.grammar.proofs.Wholes.{grammar_exact, level_shortens, levels_exact, rounds_exact}
+use Rattle.grammar.specs.{Nesting.Trees, Terminals.one_of, Terminals.passes, Tested.Is, Tested.Within, declared.terminals.Terminal.Terminal}
+use Rattle.grammar.specs.Deciding.{LevelTables, expects, guarded, sane}
+use Rattle.grammar.specs.Grammars.{Grammar, IsNone, Level, again, choice, greedy, level, loop, nothing, rounds, seq, token}
+use Rattle.grammar.specs.Nodes.{Item, Node, Nothing, Pair, next, spell}
+use Rattle.grammar.specs.Reading.{◌>>=◌, Deep, Read, Refusal, Unfit, levels, read, reads, then_pair, token_at, turning, turns, unfit_here, unread_of}
 
 -- the same refusal in front of other tokens
 abbrev pub moved : Refusal → List Item → Refusal

@@ -1,14 +1,13 @@
 -- What a loop reads: as many rounds as tokens are enough.
-use Rattle.std.proofs.Common.{◌≡◌, ℕ, zero, suc, ◌<◌, ◌≤◌, Bool, true, false, cond, List, [], ◌∷◌, length, Ok, Err, refl, sym, ap, ◌∙◌, arith, inl, inr}
+use Rattle.std.proofs.Common.{◌<◌, ◌∙◌, ◌∷◌, ◌≡◌, ◌≤◌, [], ℕ, Bool, Err, List, Ok, ap, arith, cond, false, inl, inr, length, refl, suc, sym, true, zero}
 use Rattle.std.proofs.lemmas.Bool.{and_parts}
-use Rattle.grammar.specs.declared.terminals.Terminal.{Terminal}
-use Rattle.grammar.specs.Terminals.{one_of, passes}
-use Rattle.grammar.specs.Nodes.{Item, Node, Leaf, Nothing, Pair, next}
-use Rattle.grammar.specs.Grammars.{Level, Grammar, token, nothing, seq, choice, greedy, level, loop, again}
-use Rattle.grammar.specs.Reading.{Unfit, Read, ◌>>=◌, token_at, then_pair, unfit_here, turns, turning, reads}
-use Rattle.grammar.specs.Deciding.{both, either, closed, solid, linear, guarded}
 use Rattle.grammar.proofs.Bools.{both_make, either_parts}
-use Rattle.grammar.proofs.Exact.{bind_ok, ok_is, ok_no_err, ok_or_err, done}
+use Rattle.grammar.proofs.Exact.{bind_ok, done, ok_is, ok_no_err, ok_or_err}
+use Rattle.grammar.specs.{Terminals.one_of, Terminals.passes, declared.terminals.Terminal.Terminal}
+use Rattle.grammar.specs.Deciding.{both, closed, either, guarded, linear, solid}
+use Rattle.grammar.specs.Grammars.{Grammar, Level, again, choice, greedy, level, loop, nothing, seq, token}
+use Rattle.grammar.specs.Nodes.{Item, Leaf, Node, Nothing, Pair, next}
+use Rattle.grammar.specs.Reading.{◌>>=◌, Read, Unfit, reads, then_pair, token_at, turning, turns, unfit_here}
 
 -- ---- a reader leaves no more than it was given
 

@@ -1,21 +1,15 @@
 -- A tree of whatever nesting is read, or reading comes too deep in it.
-use Rattle.std.proofs.Common.{◌≡◌, ℕ, zero, suc, Bool, true, false, cond, List, [], ◌∷◌, ◌++◌, Option, None, Ok, Err, refl, sym, ap, subst, ◌∙◌, append_assoc}
-use Rattle.std.proofs.Common.{◌⊎◌, inl, inr}
-use Rattle.std.proofs.lemmas.Bool.{and_parts}
-use Rattle.grammar.specs.declared.terminals.Terminal.{Terminal}
-use Rattle.grammar.specs.Terminals.{passes}
-use Rattle.grammar.specs.Nodes.{Item, Node, Leaf, Nothing, Pair, spell, next}
-use Rattle.grammar.specs.Grammars.{Level, Grammar, token, nothing, seq, choice, greedy, level, loop, again, IsNone, rounds, FreeWithin}
-use Rattle.grammar.specs.Tested.{Is, Within}
-use Rattle.grammar.specs.Reading.{Deep, Read, ◌>>=◌, then_pair, unfit_here, turning, reads, levels, read}
-use Rattle.grammar.specs.Deciding.{both, guarded, sane, LevelTables, IsDecided, expects, none}
-use Rattle.grammar.specs.Nesting.{Trees, Nested, IsShaped}
-use Rattle.grammar.proofs.Bools.{both_make, either_left, either_right}
-use Rattle.grammar.proofs.Exact.{failed, ahead_append, token_exact, nothing_exact}
-use Rattle.grammar.proofs.Loops.{Guards, guarded_same, turning_again}
-use Rattle.grammar.proofs.Wholes.{level_shortens, levels_exact}
-use Rattle.grammar.proofs.Decided.{Allows, Starts, Begun, Tested, tested, none_begun, none_tested}
-use Rattle.grammar.proofs.LevelsTested.{level_parts, whole_parts, rule_sane, free_begun}
+use Rattle.std.proofs.Common.{◌++◌, ◌∙◌, ◌∷◌, ◌≡◌, ◌⊎◌, [], ℕ, Bool, Err, List, None, Ok, Option, ap, append_assoc, cond, false, inl, inr, refl, subst, suc}
+use Rattle.std.proofs.{Common.sym, Common.true, Common.zero, lemmas.Bool.and_parts}
+use Rattle.grammar.proofs.{Bools.both_make, Bools.either_left, Bools.either_right, Exact.ahead_append, Exact.failed, Exact.nothing_exact, Exact.token_exact}
+use Rattle.grammar.proofs.{Loops.Guards, Loops.guarded_same, Loops.turning_again, Wholes.level_shortens, Wholes.levels_exact}
+use Rattle.grammar.proofs.Decided.{Allows, Begun, Starts, Tested, none_begun, none_tested, tested}
+use Rattle.grammar.proofs.LevelsTested.{free_begun, level_parts, rule_sane, whole_parts}
+use Rattle.grammar.specs.{Nesting.IsShaped, Nesting.Nested, Nesting.Trees, Terminals.passes, Tested.Is, Tested.Within, declared.terminals.Terminal.Terminal}
+use Rattle.grammar.specs.Deciding.{IsDecided, LevelTables, both, expects, guarded, none, sane}
+use Rattle.grammar.specs.Grammars.{FreeWithin, Grammar, IsNone, Level, again, choice, greedy, level, loop, nothing, rounds, seq, token}
+use Rattle.grammar.specs.Nodes.{Item, Leaf, Node, Nothing, Pair, next, spell}
+use Rattle.grammar.specs.Reading.{◌>>=◌, Deep, Read, levels, read, reads, then_pair, turning, unfit_here}
 
 -- reading comes too deep in the tree, after a front of its tokens
 abbrev pub DeepIn : (List Item → Read) → Node → List Item → Type 0

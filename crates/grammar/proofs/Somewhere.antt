@@ -1,10 +1,9 @@
 -- Trees whose levels are each nested at some depth are nested at one.
-use Rattle.std.proofs.Common.{ℕ, zero, suc, ◌+◌, ◌≤◌, List, [], ◌∷◌, Option, arith, inl, inr}
-use Rattle.grammar.specs.declared.terminals.Terminal.{Terminal}
-use Rattle.grammar.specs.Nodes.{Node, Leaf, Nothing, Pair, spell, ahead}
-use Rattle.grammar.specs.Grammars.{Level, Grammar, token, nothing, seq, choice, greedy, level, loop, again, word, many, series, IsLeaf, IsNone, rounds, FreeIn}
-use Rattle.grammar.specs.Grammars.{FreeWithin}
-use Rattle.grammar.proofs.Larger.{IsPart, rounds_map, free_up, none_in, all_in, free_within_up}
+use Rattle.std.proofs.Common.{◌+◌, ◌∷◌, ◌≤◌, [], ℕ, List, Option, arith, inl, inr, suc, zero}
+use Rattle.grammar.proofs.Larger.{IsPart, all_in, free_up, free_within_up, none_in, rounds_map}
+use Rattle.grammar.specs.{Grammars.token, Grammars.word, declared.terminals.Terminal.Terminal}
+use Rattle.grammar.specs.Grammars.{FreeIn, FreeWithin, Grammar, IsLeaf, IsNone, Level, again, choice, greedy, level, loop, many, nothing, rounds, seq, series}
+use Rattle.grammar.specs.Nodes.{Leaf, Node, Nothing, Pair, ahead, spell}
 
 module _ (P : ℕ → Level → Node → Option Terminal → Type 0) (up : (n m : ℕ) → n ≤ m → (v : Level) → IsPart (P n v) (P m v)) where
   abbrev pub AtSome : Level → Node → Option Terminal → Type 0

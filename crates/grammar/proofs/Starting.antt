@@ -1,20 +1,13 @@
 -- Trees that begin with a token, and empty ones.
-use Rattle.std.proofs.Common.{◌≡◌, ℕ, zero, suc, Bool, true, false, List, [], ◌∷◌, ◌++◌, Option, Some, refl, sym, ap, subst, ◌∙◌, inl, inr}
+use Rattle.std.proofs.Common.{◌++◌, ◌∙◌, ◌∷◌, ◌≡◌, [], ℕ, Bool, List, Option, Some, ap, false, inl, inr, refl, subst, suc, sym, true, zero}
 use Rattle.std.proofs.lemmas.Bool.{and_parts, or_parts}
-use Rattle.grammar.specs.declared.terminals.Terminal.{Terminal}
-use Rattle.grammar.specs.Terminals.{one_of}
-use Rattle.grammar.specs.Nodes.{Item, Node, Leaf, Nothing, Pair, spell, ahead}
-use Rattle.grammar.specs.Grammars.{Level, Grammar, token, nothing, seq, choice, greedy, level, loop, again, IsNone, rounds, FreeIn}
-use Rattle.grammar.specs.Deciding.{both, either, implies, LevelTables, IsDecided, none, nullable, first}
-use Rattle.grammar.specs.Nesting.{Trees, Nested}
-use Rattle.grammar.specs.Completing.{begins_calm, spares, IsCompleted}
-use Rattle.grammar.specs.Reaching.{blank, tables_at, leads, eager}
-use Rattle.grammar.proofs.Bools.{either_parts, implied, by_test}
-use Rattle.grammar.proofs.Every.{every_terminal}
-use Rattle.grammar.proofs.Larger.{IsPart}
-use Rattle.grammar.proofs.Somewhere.{nested}
-use Rattle.grammar.proofs.Deepest.{Loop, fold}
-use Rattle.grammar.proofs.Complete.{Fits, calm_ahead, brief, has, good, calls, shortest, shortest_fits, has_fits, loop_fits, rule_completes}
+use Rattle.grammar.proofs.{Bools.by_test, Bools.either_parts, Bools.implied, Deepest.Loop, Deepest.fold, Every.every_terminal, Larger.IsPart, Somewhere.nested}
+use Rattle.grammar.proofs.Complete.{Fits, brief, calls, calm_ahead, good, has, has_fits, loop_fits, rule_completes, shortest, shortest_fits}
+use Rattle.grammar.specs.{Completing.IsCompleted, Completing.begins_calm, Completing.spares, Nesting.Nested, Nesting.Trees, Reaching.blank, Reaching.eager}
+use Rattle.grammar.specs.{Reaching.leads, Reaching.tables_at, Terminals.one_of, declared.terminals.Terminal.Terminal}
+use Rattle.grammar.specs.Deciding.{IsDecided, LevelTables, both, either, first, implies, none, nullable}
+use Rattle.grammar.specs.Grammars.{FreeIn, Grammar, IsNone, Level, again, choice, greedy, level, loop, nothing, rounds, seq, token}
+use Rattle.grammar.specs.Nodes.{Item, Leaf, Node, Nothing, Pair, ahead, spell}
 
 -- ---- tests
 

@@ -1,16 +1,14 @@
 -- The derived comparison of terminals is the test by their places.
-use Rattle.std.proofs.Common.{◌≡◌, ℕ, true, nat_eq, refl, arith, ◌∙◌}
+use Rattle.std.proofs.Common.{◌∙◌, ◌≡◌, ℕ, arith, nat_eq, refl, true}
 use Rattle.std.proofs.lemmas.Bool.Decides.{nat_tests}
+use denote.Enum.Bare.{same_true, sameb}
 use denote.Enum.Declared.{tag_of}
-use denote.Enum.Bare.{sameb, same_true}
-use Rattle.grammar.specs.declared.terminals.Terminal.{Terminal}
-use Rattle.grammar.specs.declared.terminals.Terminal.TheVariants.{WAnd, WArray, WBegin, WCase, WConst, WDiv, WDo, WDownto, WElse, WEnd, WFile, WFor, WFunction}
-use Rattle.grammar.specs.declared.terminals.Terminal.TheVariants.{WGoto, WIf, WIn, WLabel, WMod, WNil, WNot, WOf, WOr, WPacked, WProcedure, WProgram, WRecord}
-use Rattle.grammar.specs.declared.terminals.Terminal.TheVariants.{WRepeat, WSet, WThen, WTo, WType, WUntil, WVar, WWhile, WWith, Plus, Minus, Star, Equal, Less}
-use Rattle.grammar.specs.declared.terminals.Terminal.TheVariants.{Greater, LeftBracket, RightBracket, Dot, Comma, Colon, Semicolon, Caret, LeftParen}
-use Rattle.grammar.specs.declared.terminals.Terminal.TheVariants.{RightParen, NotEqual, AtMost, AtLeast, Becomes, Range, Name, Number, Text, End}
-use Rattle.grammar.specs.contracts.terminals.Terminal.{the_type}
-use Rattle.grammar.specs.Terminals.{place, is}
+use Rattle.grammar.specs.{Terminals.is, Terminals.place, contracts.terminals.Terminal.the_type, declared.terminals.Terminal.Terminal}
+use Rattle.grammar.specs.declared.terminals.Terminal.TheVariants.{AtLeast, AtMost, Becomes, Caret, Colon, Comma, Dot, End, Equal, Greater, LeftBracket}
+use Rattle.grammar.specs.declared.terminals.Terminal.TheVariants.{LeftParen, Less, Minus, Name, NotEqual, Number, Plus, Range, RightBracket, RightParen}
+use Rattle.grammar.specs.declared.terminals.Terminal.TheVariants.{Semicolon, Star, Text, WAnd, WArray, WBegin, WCase, WConst, WDiv, WDo, WDownto, WElse, WEnd}
+use Rattle.grammar.specs.declared.terminals.Terminal.TheVariants.{WFile, WFor, WFunction, WGoto, WIf, WIn, WLabel, WMod, WNil, WNot, WOf, WOr, WPacked}
+use Rattle.grammar.specs.declared.terminals.Terminal.TheVariants.{WProcedure, WProgram, WRecord, WRepeat, WSet, WThen, WTo, WType, WUntil, WVar, WWhile, WWith}
 
 pub tag-place : (a : Terminal) → tag_of the_type a ≡ place a
 tag-place WAnd = refl

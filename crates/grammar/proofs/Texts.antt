@@ -1,15 +1,10 @@
 -- What reading says of whole texts.
-use Rattle.std.proofs.Common.{◌≡◌, ℕ, true, List, [], ◌∷◌, ◌++◌, Some, None, Ok, Err, sym, ap, subst, ◌∙◌}
+use Rattle.std.proofs.Common.{◌++◌, ◌∙◌, ◌∷◌, ◌≡◌, [], ℕ, Err, List, None, Ok, Some, ap, subst, sym, true}
 use Rattle.std.proofs.lemmas.List.{append-nil}
-use Rattle.grammar.specs.Nodes.{Item, Node, spell, next}
-use Rattle.grammar.specs.Grammars.{Grammar, IsNone}
-use Rattle.grammar.specs.Tested.{Is, Within}
-use Rattle.grammar.specs.Deciding.{LevelTables, IsDecided}
-use Rattle.grammar.specs.Reading.{Refusal, unread_of, read}
-use Rattle.grammar.specs.Laws.{IsFormedBy, NoneGoesOn}
-use Rattle.grammar.proofs.Exact.{Exact, ok_is}
-use Rattle.grammar.proofs.Wholes.{read_exact}
-use Rattle.grammar.proofs.LevelsTested.{rule_sane, whole_parts, whole_tested, whole_freed}
+use Rattle.grammar.proofs.{Exact.Exact, Exact.ok_is, Wholes.read_exact}
+use Rattle.grammar.proofs.LevelsTested.{rule_sane, whole_freed, whole_parts, whole_tested}
+use Rattle.grammar.specs.{Deciding.IsDecided, Deciding.LevelTables, Grammars.Grammar, Grammars.IsNone, Laws.IsFormedBy, Laws.NoneGoesOn, Nodes.Item, Nodes.Node}
+use Rattle.grammar.specs.{Nodes.next, Nodes.spell, Reading.Refusal, Reading.read, Reading.unread_of, Tested.Is, Tested.Within}
 
 module _ (t : LevelTables) (g : Grammar) (ok : IsDecided t g ≡ true) (n : ℕ) where
   pub exact : Exact (Is (Within t.rule n) g IsNone) (read t n g)

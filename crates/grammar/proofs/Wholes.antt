@@ -1,17 +1,13 @@
 -- The reader of a grammar is exact for the trees to which its tests lead.
-use Rattle.std.proofs.Common.{◌≡◌, ℕ, zero, suc, ◌+◌, true, List, [], ◌++◌, length, Option, Ok, Err, sym, ap, ◌∙◌, arith, inl, inr}
-use Rattle.std.proofs.lemmas.List.{append_cancel_right}
-use Rattle.grammar.specs.declared.terminals.Terminal.{Terminal}
-use Rattle.grammar.specs.Nodes.{Item, Node, Nothing, spell, next}
-use Rattle.grammar.specs.Grammars.{Level, Grammar, token, nothing, seq, choice, greedy, level, loop, again, IsNothing, IsNone, rounds}
-use Rattle.grammar.specs.Tested.{Is, Within}
-use Rattle.grammar.specs.Reading.{Refusal, Unfit, Deep, unread_of, Read, unfit_here, turns, turning, reads, levels}
-use Rattle.grammar.specs.Deciding.{guarded, sane, LevelTables, expects}
-use Rattle.grammar.proofs.Exact.{Refuses, Exact, token_exact, nothing_exact, none_exact, pair_exact, choice_exact, ok_or_err, err_is, ok_no_err}
-use Rattle.grammar.proofs.Loops.{Shortens, Guards, enough, guarded_same}
-use Rattle.grammar.proofs.Larger.{Carries, rounds_map, is_up}
-use Rattle.std.proofs.Common.{length-append}
-use Rattle.std.proofs.lemmas.Bool.{and_parts}
+use Rattle.std.proofs.Common.{◌++◌, ◌+◌, ◌∙◌, ◌≡◌, [], ℕ, Err, List, Ok, Option, ap, arith, inl, inr, length, length-append, suc, sym, true, zero}
+use Rattle.std.proofs.lemmas.{Bool.and_parts, List.append_cancel_right}
+use Rattle.grammar.proofs.{Larger.Carries, Larger.is_up, Larger.rounds_map, Loops.Guards, Loops.Shortens, Loops.enough, Loops.guarded_same}
+use Rattle.grammar.proofs.Exact.{Exact, Refuses, choice_exact, err_is, none_exact, nothing_exact, ok_no_err, ok_or_err, pair_exact, token_exact}
+use Rattle.grammar.specs.{Tested.Is, Tested.Within, declared.terminals.Terminal.Terminal}
+use Rattle.grammar.specs.Deciding.{LevelTables, expects, guarded, sane}
+use Rattle.grammar.specs.Grammars.{Grammar, IsNone, IsNothing, Level, again, choice, greedy, level, loop, nothing, rounds, seq, token}
+use Rattle.grammar.specs.Nodes.{Item, Node, Nothing, next, spell}
+use Rattle.grammar.specs.Reading.{Deep, Read, Refusal, Unfit, levels, reads, turning, turns, unfit_here, unread_of}
 
 pub exact_shortens : (P : Node → Option Terminal → Type 0) (p : List Item → Read) → Exact P p → Shortens p
 exact_shortens P p e l x rest h = let s = e.sound l x rest h in omega (arith, ap length s.0, length-append (spell x) rest)

@@ -1,11 +1,10 @@
 -- The shortest trees, and the check that they complete whatever a reader took.
-use Rattle.std.specs.Prelude.{ℕ, zero, suc, Bool, true, false, cond, not, List, [], ◌∷◌}
-use Rattle.grammar.specs.declared.terminals.Terminal.{Terminal}
-use Rattle.grammar.specs.declared.terminals.Terminal.TheVariants.{End}
-use Rattle.grammar.specs.Terminals.{one_of, every, every_of}
-use Rattle.grammar.specs.Nodes.{Item, Node, Nothing, Pair, spell, leaf}
-use Rattle.grammar.specs.Grammars.{Level, Grammar, token, nothing, seq, choice, greedy, level, loop, again}
-use Rattle.grammar.specs.Deciding.{both, implies, LevelTables, all_levels}
+use Rattle.std.specs.Prelude.{◌∷◌, [], ℕ, Bool, List, cond, false, not, suc, true, zero}
+use Rattle.grammar.specs.Deciding.{LevelTables, all_levels, both, implies}
+use Rattle.grammar.specs.Grammars.{Grammar, Level, again, choice, greedy, level, loop, nothing, seq, token}
+use Rattle.grammar.specs.Nodes.{Item, Node, Nothing, Pair, leaf, spell}
+use Rattle.grammar.specs.Terminals.{every, every_of, one_of}
+use Rattle.grammar.specs.declared.terminals.Terminal.{Terminal, TheVariants.End}
 
 -- the first of a list of terminals
 abbrev pub first_in : List Terminal → Terminal

@@ -1,9 +1,8 @@
 -- The check that one token decides each choice of a grammar: what is LL(1).
-use Rattle.std.specs.Prelude.{Bool, true, false, ◌&&◌, ◌||◌, cond, not, List, [], ◌∷◌, Option, Some, None}
-use Rattle.grammar.specs.declared.terminals.Terminal.{Terminal}
-use Rattle.grammar.specs.Terminals.{one_of, every_of, every}
-use Rattle.grammar.specs.Grammars.{by_end, by_until, Level, block, heading, statement, denoter, variant_part, factor}
-use Rattle.grammar.specs.Grammars.{Grammar, token, nothing, seq, choice, greedy, level, loop, again}
+use Rattle.std.specs.Prelude.{◌&&◌, ◌||◌, ◌∷◌, [], Bool, List, None, Option, Some, cond, false, not, true}
+use Rattle.grammar.specs.{Terminals.every, Terminals.every_of, Terminals.one_of, declared.terminals.Terminal.Terminal}
+use Rattle.grammar.specs.Grammars.{Grammar, Level, again, block, by_end, by_until, choice, denoter, factor, greedy}
+use Rattle.grammar.specs.Grammars.{heading, level, loop, nothing, seq, statement, token, variant_part}
 
 abbrev pub both : Bool → Bool → Bool
 both a b = a && b

@@ -1,11 +1,9 @@
 -- A terminal that stands at the end of a text alone.
-use Rattle.std.specs.Prelude.{◌≡◌, ℕ, Bool, true, false, not, List, [], ◌∷◌, ◌⊎◌, Err}
-use Rattle.grammar.specs.declared.terminals.Terminal.{Terminal}
-use Rattle.grammar.specs.Terminals.{one_of, every_of}
-use Rattle.grammar.specs.Nodes.{Item}
-use Rattle.grammar.specs.Grammars.{Grammar, token, nothing, seq, choice, greedy, level, loop, again}
-use Rattle.grammar.specs.Deciding.{both, LevelTables, all_levels}
-use Rattle.grammar.specs.Reading.{Refusal, unread_of, read}
+use Rattle.std.specs.Prelude.{◌∷◌, ◌≡◌, ◌⊎◌, [], ℕ, Bool, Err, List, false, not, true}
+use Rattle.grammar.specs.{Nodes.Item, Terminals.every_of, Terminals.one_of, declared.terminals.Terminal.Terminal}
+use Rattle.grammar.specs.Deciding.{LevelTables, all_levels, both}
+use Rattle.grammar.specs.Grammars.{Grammar, again, choice, greedy, level, loop, nothing, seq, token}
+use Rattle.grammar.specs.Reading.{Refusal, read, unread_of}
 
 -- no token of the grammar's own is of that terminal
 abbrev pub lacks : Terminal → Grammar → Bool

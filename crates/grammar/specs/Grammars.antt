@@ -1,8 +1,7 @@
 -- Grammars as data, and their trees.
-use Rattle.std.specs.Prelude.{◌≡◌, ℕ, zero, suc, Bool, true, false, List, [], ◌∷◌, ◌⊎◌, Option}
-use Rattle.grammar.specs.declared.terminals.Terminal.{Terminal}
-use Rattle.grammar.specs.Terminals.{one_of, passes}
-use Rattle.grammar.specs.Nodes.{Node, Leaf, Nothing, Pair, spell, ahead}
+use Rattle.std.specs.Prelude.{◌∷◌, ◌≡◌, ◌⊎◌, [], ℕ, Bool, List, Option, false, suc, true, zero}
+use Rattle.grammar.specs.{Terminals.one_of, Terminals.passes, declared.terminals.Terminal.Terminal}
+use Rattle.grammar.specs.Nodes.{Leaf, Node, Nothing, Pair, ahead, spell}
 
 -- what closes the list of statements that a statement stands in
 pub data Closer : Type 0 where

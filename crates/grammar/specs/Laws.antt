@@ -1,9 +1,8 @@
 -- What holds of reading by a grammar of which one token decides each choice.
-use Rattle.std.specs.Prelude.{◌≡◌, ℕ, true, List, [], ◌∷◌, ◌++◌, None, Ok, Err}
-use Rattle.grammar.specs.Nodes.{Item, Node, spell, next}
-use Rattle.grammar.specs.Grammars.{Grammar, Free, FreeWithin}
-use Rattle.grammar.specs.Deciding.{LevelTables, IsDecided}
-use Rattle.grammar.specs.Reading.{Refusal, unread_of, read}
+use Rattle.std.specs.Prelude.{◌++◌, ◌∷◌, ◌≡◌, [], ℕ, Err, List, None, Ok, true}
+use Rattle.grammar.specs.{Deciding.IsDecided, Deciding.LevelTables, Nodes.Item, Nodes.Node, Nodes.next, Nodes.spell}
+use Rattle.grammar.specs.Grammars.{Free, FreeWithin, Grammar}
+use Rattle.grammar.specs.Reading.{Refusal, read, unread_of}
 
 -- a tree of a whole text, in which at most n levels are nested
 abbrev pub IsFormedBy : LevelTables → ℕ → Grammar → Node → Type 0

@@ -1,8 +1,7 @@
 -- A grammar without the rule that a greedy part is taken where it can be.
 use Rattle.std.specs.Prelude.{ℕ, None}
-use Rattle.grammar.specs.Nodes.{Node}
-use Rattle.grammar.specs.Grammars.{Level, Grammar, token, nothing, seq, choice, greedy, level, loop, again, Free}
-use Rattle.grammar.specs.Grammars.{FreeWithin}
+use Rattle.grammar.specs.{Grammars.token, Nodes.Node}
+use Rattle.grammar.specs.Grammars.{Free, FreeWithin, Grammar, Level, again, choice, greedy, level, loop, nothing, seq}
 
 abbrev pub loose : Grammar → Grammar
 loose (token ks) = token ks

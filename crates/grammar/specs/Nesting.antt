@@ -1,11 +1,9 @@
 -- Trees in which a construct begins that is nested deeper than a reader goes.
-use Rattle.std.specs.Prelude.{◌≡◌, ℕ, zero, suc, List, [], ◌++◌, ◌⊎◌, Option, None}
-use Rattle.grammar.specs.declared.terminals.Terminal.{Terminal}
-use Rattle.grammar.specs.Nodes.{Item, Node, Leaf, Nothing, Pair, spell, ahead}
-use Rattle.grammar.specs.Grammars.{Level, Grammar, token, nothing, seq, choice, greedy, level, loop, again, IsNone}
-use Rattle.grammar.specs.Grammars.{FreeIn, FreeWithin}
-use Rattle.grammar.specs.Deciding.{LevelTables}
-use Rattle.grammar.specs.Laws.{IsFormedBy}
+use Rattle.std.specs.Prelude.{◌++◌, ◌≡◌, ◌⊎◌, [], ℕ, List, None, Option, suc, zero}
+use Rattle.grammar.specs.{Deciding.LevelTables, Laws.IsFormedBy, declared.terminals.Terminal.Terminal}
+use Rattle.grammar.specs.Grammars.{FreeIn, FreeWithin, Grammar, IsNone, Level, again, choice, greedy, level, loop}
+use Rattle.grammar.specs.Grammars.{nothing, seq, token}
+use Rattle.grammar.specs.Nodes.{Item, Leaf, Node, Nothing, Pair, ahead, spell}
 
 -- some trees, each in front of a token or of the end
 abbrev pub Trees : Type 1

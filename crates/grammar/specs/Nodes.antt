@@ -1,5 +1,5 @@
 -- Concrete trees without types: what a tree says, and not where it lies in memory.
-use Rattle.std.specs.Prelude.{ℕ, List, [], ◌∷◌, ◌++◌, Option, Some, None}
+use Rattle.std.specs.Prelude.{◌++◌, ◌∷◌, [], ℕ, List, None, Option, Some}
 use Rattle.grammar.specs.declared.terminals.Terminal.{Terminal}
 
 -- a token: its terminal and its number in the source

@@ -1,9 +1,8 @@
 -- The check that each token in front of which a level is tried may stand there in some tree.
-use Rattle.std.specs.Prelude.{ℕ, zero, suc, Bool, true, false, not, List}
-use Rattle.grammar.specs.declared.terminals.Terminal.{Terminal}
-use Rattle.grammar.specs.Terminals.{one_of, every, every_of}
-use Rattle.grammar.specs.Grammars.{Level, Grammar, token, nothing, seq, choice, greedy, level, loop, again}
-use Rattle.grammar.specs.Deciding.{both, either, implies, LevelTables, none, nullable, first, all_levels}
+use Rattle.std.specs.Prelude.{ℕ, Bool, List, false, not, suc, true, zero}
+use Rattle.grammar.specs.{Terminals.every, Terminals.every_of, Terminals.one_of, declared.terminals.Terminal.Terminal}
+use Rattle.grammar.specs.Deciding.{LevelTables, all_levels, both, either, first, implies, none, nullable}
+use Rattle.grammar.specs.Grammars.{Grammar, Level, again, choice, greedy, level, loop, nothing, seq, token}
 
 -- ---- tables with nothing to spare
 

@@ -1,10 +1,9 @@
 -- Reading a list of tokens by a grammar: each choice is made by the next token.
-use Rattle.std.specs.Prelude.{ℕ, zero, suc, if◌then◌else◌, List, [], ◌∷◌, length, Result, Ok, Err}
-use Rattle.grammar.specs.declared.terminals.Terminal.{Terminal}
-use Rattle.grammar.specs.Terminals.{one_of, passes}
-use Rattle.grammar.specs.Nodes.{Item, Node, Leaf, Nothing, Pair, next}
-use Rattle.grammar.specs.Grammars.{Level, Grammar, token, nothing, seq, choice, greedy, level, loop, again}
+use Rattle.std.specs.Prelude.{if◌then◌else◌, ◌∷◌, [], ℕ, Err, List, Ok, Result, length, suc, zero}
+use Rattle.grammar.specs.{Terminals.one_of, Terminals.passes, declared.terminals.Terminal.Terminal}
 use Rattle.grammar.specs.Deciding.{LevelTables, expects}
+use Rattle.grammar.specs.Grammars.{Grammar, Level, again, choice, greedy, level, loop, nothing, seq, token}
+use Rattle.grammar.specs.Nodes.{Item, Leaf, Node, Nothing, Pair, next}
 
 -- A refusal, with the tokens from the refused one on: no tree goes on with it, or a level that would be nested
 -- too deep begins there.

@@ -1,15 +1,10 @@
 -- What holds of refusals.
-use Rattle.std.specs.Prelude.{◌≡◌, ℕ, ◌<◌, Bool, true, List, [], ◌∷◌, ◌++◌, ◌⊎◌, length, drop, Ok, Err}
-use Rattle.grammar.specs.declared.terminals.Terminal.{Terminal}
-use Rattle.grammar.specs.Nodes.{Item, Node, spell}
-use Rattle.grammar.specs.Grammars.{Grammar}
-use Rattle.grammar.specs.Deciding.{LevelTables, IsDecided}
-use Rattle.grammar.specs.Reading.{Refusal, Unfit, Deep, unread_of, read}
-use Rattle.grammar.specs.Laws.{IsFormedBy, NoneGoesOn}
-use Rattle.grammar.specs.Nesting.{IsShaped, BeginsDeep}
-use Rattle.grammar.specs.Completing.{IsCompleted}
-use Rattle.grammar.specs.Reaching.{IsReaching}
-use Rattle.grammar.specs.Refusals.{IsHopeless, IsFirstTooDeepBy, NoneTooDeep, IsFirstHopelessBy, StopsAt}
+use Rattle.std.specs.Prelude.{◌++◌, ◌<◌, ◌∷◌, ◌≡◌, ◌⊎◌, [], ℕ, Bool, Err, List, Ok, drop, length, true}
+use Rattle.grammar.specs.{Completing.IsCompleted, Deciding.IsDecided, Deciding.LevelTables, Grammars.Grammar}
+use Rattle.grammar.specs.{Laws.IsFormedBy, Laws.NoneGoesOn, Nesting.BeginsDeep, Nesting.IsShaped, Nodes.Item}
+use Rattle.grammar.specs.{Nodes.Node, Nodes.spell, Reaching.IsReaching, declared.terminals.Terminal.Terminal}
+use Rattle.grammar.specs.Reading.{Deep, Refusal, Unfit, read, unread_of}
+use Rattle.grammar.specs.Refusals.{IsFirstHopelessBy, IsFirstTooDeepBy, IsHopeless, NoneTooDeep, StopsAt}
 
 -- The grammar passes the checks: one token decides each choice, short trees in which at most d levels are nested
 -- complete

@@ -1,10 +1,7 @@
 -- Which token of a text is too deep, and which is hopeless.
-use Rattle.std.specs.Prelude.{◌≡◌, ℕ, ◌+◌, ◌<◌, ◌⊎◌, List, ◌++◌, length, take, drop, Ok, Err}
-use Rattle.grammar.specs.Nodes.{Item, Node, spell}
-use Rattle.grammar.specs.Grammars.{Grammar}
-use Rattle.grammar.specs.Deciding.{LevelTables}
-use Rattle.grammar.specs.Reading.{Unfit, read}
-use Rattle.grammar.specs.Nesting.{IsShaped, BeginsDeep}
+use Rattle.std.specs.Prelude.{◌++◌, ◌+◌, ◌<◌, ◌≡◌, ◌⊎◌, ℕ, Err, List, Ok, drop, length, take}
+use Rattle.grammar.specs.{Deciding.LevelTables, Grammars.Grammar, Nesting.BeginsDeep, Nesting.IsShaped, Nodes.Item}
+use Rattle.grammar.specs.{Nodes.Node, Nodes.spell, Reading.Unfit, Reading.read}
 
 -- it begins with the tokens 0 to i of the text
 abbrev pub BeginsWith : List Item → List Item → ℕ → Type 0

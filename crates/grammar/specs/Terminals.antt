@@ -1,15 +1,15 @@
 -- The terminals, and tests of them.
-use Rattle.std.specs.Prelude.{ℕ, Bool, true, false, nat_eq, ◌&&◌, if◌then◌else◌, List, [], ◌∷◌, Option, Some, None}
+use Rattle.std.specs.Prelude.{if◌then◌else◌, ◌&&◌, ◌∷◌, [], ℕ, Bool, List, None, Option, Some, false, nat_eq, true}
 use Rattle.grammar.specs.declared.terminals.Terminal.{Terminal}
-use Rattle.grammar.specs.declared.terminals.Terminal.TheVariants.{WAnd, WArray, WBegin, WCase, WConst, WDiv, WDo}
-use Rattle.grammar.specs.declared.terminals.Terminal.TheVariants.{WDownto, WElse, WEnd, WFile, WFor, WFunction, WGoto}
-use Rattle.grammar.specs.declared.terminals.Terminal.TheVariants.{WIf, WIn, WLabel, WMod, WNil, WNot, WOf, WOr, WPacked}
+use Rattle.grammar.specs.declared.terminals.Terminal.TheVariants.{AtLeast, AtMost, Becomes, Caret, Colon, Comma, Dot}
+use Rattle.grammar.specs.declared.terminals.Terminal.TheVariants.{End, Equal, Greater, LeftBracket, LeftParen, Less}
+use Rattle.grammar.specs.declared.terminals.Terminal.TheVariants.{Minus, Name, NotEqual, Number, Plus, Range}
+use Rattle.grammar.specs.declared.terminals.Terminal.TheVariants.{RightBracket, RightParen, Semicolon, Star, Text, WAnd}
+use Rattle.grammar.specs.declared.terminals.Terminal.TheVariants.{WArray, WBegin, WCase, WConst, WDiv, WDo, WDownto}
+use Rattle.grammar.specs.declared.terminals.Terminal.TheVariants.{WElse, WEnd, WFile, WFor, WFunction, WGoto, WIf, WIn}
+use Rattle.grammar.specs.declared.terminals.Terminal.TheVariants.{WLabel, WMod, WNil, WNot, WOf, WOr, WPacked}
 use Rattle.grammar.specs.declared.terminals.Terminal.TheVariants.{WProcedure, WProgram, WRecord, WRepeat, WSet, WThen}
-use Rattle.grammar.specs.declared.terminals.Terminal.TheVariants.{WTo, WType, WUntil, WVar, WWhile, WWith, Plus, Minus}
-use Rattle.grammar.specs.declared.terminals.Terminal.TheVariants.{Star, Equal, Less, Greater, LeftBracket, RightBracket}
-use Rattle.grammar.specs.declared.terminals.Terminal.TheVariants.{Dot, Comma, Colon, Semicolon, Caret, LeftParen}
-use Rattle.grammar.specs.declared.terminals.Terminal.TheVariants.{RightParen, NotEqual, AtMost, AtLeast, Becomes, Range}
-use Rattle.grammar.specs.declared.terminals.Terminal.TheVariants.{Name, Number, Text, End}
+use Rattle.grammar.specs.declared.terminals.Terminal.TheVariants.{WTo, WType, WUntil, WVar, WWhile, WWith}
 
 -- the place of a terminal in the list of all
 abbrev pub place : Terminal → ℕ

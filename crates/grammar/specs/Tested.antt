@@ -1,10 +1,8 @@
 -- The trees to which a reader that looks at the next token is led.
-use Rattle.std.specs.Prelude.{◌≡◌, ℕ, zero, suc, true, false, List, ◌⊎◌, Option}
-use Rattle.grammar.specs.declared.terminals.Terminal.{Terminal}
-use Rattle.grammar.specs.Terminals.{passes}
-use Rattle.grammar.specs.Nodes.{Node, spell, ahead}
-use Rattle.grammar.specs.Grammars.{Level, Grammar, token, nothing, seq, choice, greedy, level, loop, again, IsLeaf}
-use Rattle.grammar.specs.Grammars.{IsNothing, IsPair, IsNone, rounds}
+use Rattle.std.specs.Prelude.{◌≡◌, ◌⊎◌, ℕ, List, Option, false, suc, true, zero}
+use Rattle.grammar.specs.{Nodes.Node, Nodes.ahead, Nodes.spell, Terminals.passes, declared.terminals.Terminal.Terminal}
+use Rattle.grammar.specs.Grammars.{Grammar, IsLeaf, IsNone, IsNothing, IsPair, Level, again, choice, greedy, level}
+use Rattle.grammar.specs.Grammars.{loop, nothing, rounds, seq, token}
 
 -- the first where the next token passes, else the second
 abbrev pub IsChoice : List Terminal → (Node → Option Terminal → Type 0) → (Node → Option Terminal → Type 0) → Node

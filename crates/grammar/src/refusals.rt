@@ -1,8 +1,8 @@
 //! Laws of refusals, each the contract of a call that does nothing.
 
 ghost use Rattle.grammar.specs.RefusalLaws.{DeepIsBegun, DeepIsFirst, DeepIsShaped, FirstIsDeep, FirstIsStop};
-ghost use Rattle.grammar.specs.RefusalLaws.{FormedIsNotDeep, FormedOrDeep, ReadHasNeither, RefusedIsBegun};
-ghost use Rattle.grammar.specs.RefusalLaws.{StopIsFirst, SurplusIsHopeless, UnfitIsHopeless};
+ghost use Rattle.grammar.specs.RefusalLaws.{FormedIsNotDeep, FormedOrDeep, ReadHasNeither, RefusedIsBegun, StopIsFirst};
+ghost use Rattle.grammar.specs.RefusalLaws.{SurplusIsHopeless, UnfitIsHopeless};
 
 /// A tree in which at most n levels are nested is one in which no node of nesting n + 1 begins.
 pub fn nesting_is_depth()

@@ -1,5 +1,5 @@
 -- One section further in two lists.
-use Rattle.std.proofs.Common.{◌≡◌, ℕ, suc, ◌+◌, ◌-◌, ◌<◌, false, ap, arith}
+use Rattle.std.proofs.Common.{◌+◌, ◌-◌, ◌<◌, ◌≡◌, ℕ, ap, arith, false, suc}
 use Rattle.check_steps.specs.Known.{Known}
 use Rattle.kind_checker.specs.Headings.{both_match, lists_match, section_at, sections_match}
 

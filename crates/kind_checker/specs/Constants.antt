@@ -1,29 +1,15 @@
 -- Constants (6.3).
-use Rattle.std.specs.Prelude.{ℕ, Bool, true, false, List, [], ◌∷◌, Option, Some, None, nat_eq, nat_le, if◌then◌else◌, ℤ}
-use Rattle.std.specs.Prelude.{pos, negsuc}
-use Rattle.std.specs.Int.RustNames.{int_lt}
+use Rattle.std.specs.Prelude.{if◌then◌else◌, ◌∷◌, [], ℕ, ℤ, Bool, List, None, Option, Some, false, nat_eq, nat_le}
+use Rattle.std.specs.{Prelude.negsuc, Prelude.pos, Prelude.true, Int.RustNames.int_lt}
 use lib.IntN.{neg_ℤ}
-use Rattle.pas_tree.specs.declared.operators.Sign.{Sign}
-use Rattle.pas_tree.specs.declared.operators.Sign.TheVariants as sign
-use Rattle.pas_tree.specs.declared.constants.Constant.{Constant}
-use Rattle.pas_tree.specs.declared.constants.Constant.TheVariants as tree
-use Rattle.pas_tree.specs.declared.blocks.ConstantPart.{ConstantPart}
-use Rattle.pas_tree.specs.declared.blocks.ConstantDefinition.{ConstantDefinition}
-use Rattle.core_program.specs.declared.rows.Row.{Row}
-use Rattle.core_program.specs.declared.rows.Row.TheVariants as row
-use Rattle.core_program.specs.declared.rows.NameRow.TheVariants as named
-use Rattle.core_program.specs.ProgramRows.{text_at}
-use Rattle.check_steps.specs.declared.words.Spelled.{Spelled}
-use Rattle.check_steps.specs.declared.words.Spelled.TheVariants as spelled
-use Rattle.check_steps.specs.declared.regions.Def.{Def}
-use Rattle.check_steps.specs.declared.regions.Def.TheVariants as def
-use Rattle.check_steps.specs.declared.regions.Found.{Found}
-use Rattle.check_steps.specs.Known.{Known, row_at, spelled_at}
-use Rattle.check_steps.specs.Steps.{Step, give, ◌>>=◌, look, early, late, put}
-use Rattle.check_steps.specs.Names.{define_in, use_at}
 use Rattle.pas_tree.specs.OperatorPlaces.{sign_token}
-use Rattle.kind_checker.specs.declared.constants.ConstantValue.{ConstantValue}
-use Rattle.kind_checker.specs.declared.constants.ConstantValue.TheVariants.{Ordinal, Text}
+use Rattle.pas_tree.specs.declared.{constants.Constant.Constant, operators.Sign.Sign}
+use Rattle.pas_tree.specs.declared.blocks.{ConstantDefinition.ConstantDefinition, ConstantPart.ConstantPart}
+use Rattle.core_program.specs.{ProgramRows.text_at, declared.rows.NameRow.NameRow, declared.rows.Row.Row}
+use Rattle.check_steps.specs.{Known.Known, Known.row_at, Known.spelled_at, Names.define_in, Names.use_at}
+use Rattle.check_steps.specs.Steps.{◌>>=◌, Step, early, give, late, look, put}
+use Rattle.check_steps.specs.declared.{regions.Def.Def, regions.Found.Found, words.Spelled.Spelled}
+use Rattle.kind_checker.specs.declared.constants.ConstantValue.{ConstantValue, TheVariants.Ordinal, TheVariants.Text}
 
 -- ---- signs
 
@@ -38,8 +24,8 @@ abbrev pub opposite : ℤ → ℤ
 opposite v = if int_lt (negsuc 2147483647) v then neg_ℤ v else v
 
 abbrev pub with_sign : Sign → ℤ → ℤ
-with_sign (sign.Plus t) v = v
-with_sign (sign.Minus t) v = opposite v
+with_sign (Sign.Plus t) v = v
+with_sign (Sign.Minus t) v = opposite v
 
 abbrev pub signed_value : Sign → Option ConstantValue → Option ConstantValue
 signed_value s (Some (Ordinal of' v)) = if nat_eq of' 0 then Some (Ordinal of' (with_sign s v)) else None
@@ -59,7 +45,7 @@ signed (Some s) v = sign_before s v
 
 -- an unsigned integer up to maxint
 abbrev pub integer_in : Spelled → Option ConstantValue
-integer_in (spelled.Number n) = if nat_le n 2147483647 then Some (Ordinal 0 (pos n)) else None
+integer_in (Spelled.Number n) = if nat_le n 2147483647 then Some (Ordinal 0 (pos n)) else None
 integer_in s = None
 
 -- a string of one character is a char
@@ -68,7 +54,7 @@ text_value token (c ∷ []) = Ordinal 2 (pos c)
 text_value token l = Text token
 
 abbrev pub is_constant_def : Def → Bool
-is_constant_def (def.Constant n) = true
+is_constant_def (Def.Constant n) = true
 is_constant_def d = false
 
 -- A name of unknown meaning breaks no further rule.
@@ -77,8 +63,8 @@ is_constant None = true
 is_constant (Some f) = is_constant_def f.definition.def
 
 abbrev pub value_in : Row → Option ConstantValue
-value_in (row.Name (named.Constant of' v)) = Some (Ordinal of' v)
-value_in (row.Name (named.Text token)) = Some (Text token)
+value_in (Row.Name (NameRow.Constant of' v)) = Some (Ordinal of' v)
+value_in (Row.Name (NameRow.Text token)) = Some (Text token)
 value_in r = None
 
 -- what a name stands for as a constant, if it is known
@@ -95,13 +81,13 @@ named_constant frame token = do
 
 -- what a constant stands for, seen from a frame
 abbrev pub constant : ℕ → Constant → Step (Option ConstantValue)
-constant frame (tree.Number s n) = do
+constant frame (Constant.Number s n) = do
   v ← look (λ k. integer_in (spelled_at k n))
   signed s v
-constant frame (tree.Name s n) = do
+constant frame (Constant.Name s n) = do
   v ← named_constant frame n
   signed s v
-constant frame (tree.Text n) = look (λ k. Some (text_value n (text_at k.program n)))
+constant frame (Constant.Text n) = look (λ k. Some (text_value n (text_at k.program n)))
 
 -- ---- the constant part
 
@@ -110,12 +96,12 @@ constants_in p = p.first ∷ p.others.items
 
 -- a constant may be used from the semicolon after its definition on
 unfoldable pub define_constant : ℕ → Unit {0} → ConstantDefinition → Step (Unit {0})
-define_constant region u d = define_in region (record { def = def.Constant d.name; token = d.name; end = d.semicolon })
+define_constant region u d = define_in region (record { def = Def.Constant d.name; token = d.name; end = d.semicolon })
 
 abbrev pub value_row : Option ConstantValue → Row
-value_row None = row.Nothing
-value_row (Some (Ordinal of' v)) = row.Name (named.Constant of' v)
-value_row (Some (Text token)) = row.Name (named.Text token)
+value_row None = Row.Nothing
+value_row (Some (Ordinal of' v)) = Row.Name (NameRow.Constant of' v)
+value_row (Some (Text token)) = Row.Name (NameRow.Text token)
 
 unfoldable pub constant_part : ℕ → Unit {0} → ConstantDefinition → Step (Unit {0})
 constant_part frame u d = do

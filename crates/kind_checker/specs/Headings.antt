@@ -1,22 +1,14 @@
 -- Congruous lists of formal parameters (6.6.3.6).
-use Rattle.std.specs.Prelude.{ℕ, zero, suc, Bool, true, false, Option, Some, None, nat_eq, ◌&&◌, length}
-use Rattle.core_program.specs.declared.rows.Row.{Row}
-use Rattle.core_program.specs.declared.rows.Row.TheVariants as row
-use Rattle.core_program.specs.declared.rows.ItemRow.TheVariants as item
-use Rattle.core_program.specs.declared.rows.Mode.{Mode}
-use Rattle.core_program.specs.declared.rows.Mode.TheVariants as mode
-use Rattle.core_program.specs.declared.rows.NameRow.TheVariants as named
-use Rattle.core_program.specs.declared.rows.PartRow.TheVariants as part
+use Rattle.std.specs.Prelude.{◌&&◌, ℕ, Bool, None, Option, Some, false, length, nat_eq, suc, true, zero}
+use Rattle.core_program.specs.declared.rows.{ItemRow.ItemRow, Mode.Mode, NameRow.NameRow, PartRow.PartRow, Row.Row}
 use Rattle.check_steps.specs.Known.{Known, row_at}
-use Rattle.kind_checker.specs.declared.headings.Signature.{Signature}
-use Rattle.kind_checker.specs.declared.headings.FormalSection.{FormalSection}
-use Rattle.kind_checker.specs.declared.headings.FormalSection.TheVariants as section
 use Rattle.kind_checker.specs.Shapes.{is_same_type}
+use Rattle.kind_checker.specs.declared.headings.{FormalSection.FormalSection, Signature.Signature}
 
 -- ---- headings and their sections by rows
 
 abbrev pub signature_in : Row → Signature
-signature_in (row.Part (part.Heading name sections result)) = record { sections = sections; result = result }
+signature_in (Row.Part (PartRow.Heading name sections result)) = record { sections = sections; result = result }
 signature_in r = record { sections = 0; result = None }
 
 -- the parameters and the result of a heading; where none stands, those of a procedure without parameters
@@ -24,13 +16,13 @@ abbrev pub signature_at : Known → ℕ → Signature
 signature_at k n = signature_in (row_at k n)
 
 abbrev pub variable_type : Row → ℕ → ℕ
-variable_type (row.Name (named.Variable m of' place level)) otherwise = of'
+variable_type (Row.Name (NameRow.Variable m of' place level)) otherwise = of'
 variable_type r otherwise = otherwise
 
 abbrev pub section_in : Known → Row → Option (FormalSection × ℕ)
-section_in k (row.Item (item.Section m first count next)) =
-    Some (section.Names m (variable_type (row_at k first) first) count, next)
-section_in k (row.Item (item.RoutineSection heading next)) = Some (section.Heading heading, next)
+section_in k (Row.Item (ItemRow.Section m first count next)) =
+    Some (FormalSection.Names m (variable_type (row_at k first) first) count, next)
+section_in k (Row.Item (ItemRow.RoutineSection heading next)) = Some (FormalSection.Heading heading, next)
 section_in k r = None
 
 -- the section at a number and the number of the next one; none where the list ends
@@ -40,9 +32,9 @@ section_at k at = section_in k (row_at k at)
 -- ---- congruous lists
 
 abbrev pub same_mode : Mode → Mode → Bool
-same_mode mode.Own mode.Own = true
-same_mode mode.Value mode.Value = true
-same_mode mode.Place mode.Place = true
+same_mode Mode.Own Mode.Own = true
+same_mode Mode.Value Mode.Value = true
+same_mode Mode.Place Mode.Place = true
 same_mode m n = false
 
 abbrev pub results_match : Known → Option ℕ → Option ℕ → Bool
@@ -56,9 +48,9 @@ signatures_match k lists g h = results_match k g.result h.result && lists g.sect
 
 -- both by value or both `var`, with equally many names and the same type; or headings that match
 abbrev pub sections_match : Known → (ℕ → ℕ → Bool) → FormalSection → FormalSection → Bool
-sections_match k lists (section.Names m a count) (section.Names n b other) =
+sections_match k lists (FormalSection.Names m a count) (FormalSection.Names n b other) =
     same_mode m n && nat_eq count other && is_same_type k a b
-sections_match k lists (section.Heading g) (section.Heading h) =
+sections_match k lists (FormalSection.Heading g) (FormalSection.Heading h) =
     signatures_match k lists (signature_at k g) (signature_at k h)
 sections_match k lists s t = false
 

@@ -1,13 +1,8 @@
 -- The names of a list.
 use Rattle.std.specs.Prelude.{ℕ}
-use Rattle.pas_tree.specs.declared.constants.Names.{Names}
-use Rattle.pas_tree.specs.declared.constants.NextName.{NextName}
-use Rattle.check_steps.specs.declared.regions.Def.{Def}
-use Rattle.check_steps.specs.declared.regions.Def.TheVariants as def
-use Rattle.check_steps.specs.Steps.{Step, ◌>>=◌, each}
-use Rattle.check_steps.specs.Names.{define_in}
+use Rattle.pas_tree.specs.declared.constants.{Names.Names, NextName.NextName}
+use Rattle.check_steps.specs.{Names.define_in, Steps.◌>>=◌, Steps.Step, Steps.each, declared.regions.Def.Def}
 use Rattle.kind_checker.specs.declared.names.NameKind.{NameKind}
-use Rattle.kind_checker.specs.declared.names.NameKind.TheVariants as kind
 
 unfoldable pub on_name : {A : Type 0} → (A → ℕ → Step A) → A → NextName → Step A
 on_name f a n = f a n.name
@@ -19,10 +14,10 @@ each_name f a n = do
   each (on_name f) b n.others.items
 
 abbrev pub defined_as : NameKind → ℕ → Def
-defined_as kind.Constant token = def.Constant token
-defined_as kind.Variable token = def.Variable token
-defined_as kind.Field token = def.Field token
-defined_as kind.Formal token = def.Formal token
+defined_as NameKind.Constant token = Def.Constant token
+defined_as NameKind.Variable token = Def.Variable token
+defined_as NameKind.Field token = Def.Field token
+defined_as NameKind.Formal token = Def.Formal token
 
 -- a name of a list, which may be used from its own token on
 unfoldable pub define_name : ℕ → NameKind → Unit {0} → ℕ → Step (Unit {0})

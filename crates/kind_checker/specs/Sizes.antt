@@ -1,10 +1,8 @@
 -- How many values types have, and how many cells.
-use Rattle.std.specs.Prelude.{ℕ, ◌+◌, ◌*◌, Bool, true, false, Option, Some, None, nat_lt, ◌&&◌, if◌then◌else◌}
-use Rattle.std.specs.Prelude.{ℤ, pos, ◌-ℤ◌}
-use Rattle.std.specs.Int.RustNames.{int_le, unsigned_abs}
-use Rattle.core_program.specs.declared.rows.TypeRow.{TypeRow}
-use Rattle.core_program.specs.declared.rows.TypeRow.TheVariants.{Ordinal, Subrange}
+use Rattle.std.specs.Prelude.{if◌then◌else◌, ◌&&◌, ◌*◌, ◌+◌, ◌-ℤ◌, ℕ, ℤ, Bool, None, Option, Some, false, nat_lt, pos}
+use Rattle.std.specs.{Prelude.true, Int.RustNames.int_le, Int.RustNames.unsigned_abs}
 use Rattle.core_program.specs.ProgramRows.{size_of}
+use Rattle.core_program.specs.declared.rows.TypeRow.{TypeRow, TheVariants.Ordinal, TheVariants.Subrange}
 use Rattle.check_steps.specs.Known.{Known, type_at}
 
 -- sizes of types, and offsets in them: 65,537 stands for more than 65,536

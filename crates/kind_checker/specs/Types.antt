@@ -1,28 +1,18 @@
 -- Type denoters without others inside: names, enumerations, subranges, pointers; and sets of a base.
-use Rattle.std.specs.Prelude.{ℕ, Bool, true, false, Option, Some, None, unwrap_or, nat_eq, ◌&&◌, if◌then◌else◌}
-use Rattle.std.specs.Prelude.{ℤ, pos, negsuc, ◌+ℤ◌}
-use Rattle.std.specs.Int.RustNames.{int_le, int_lt}
+use Rattle.std.specs.Prelude.{if◌then◌else◌, ◌&&◌, ◌+ℤ◌, ℕ, ℤ, Bool, None, Option, Some, false, nat_eq, negsuc, pos}
+use Rattle.std.specs.{Prelude.true, Prelude.unwrap_or, Int.RustNames.int_le, Int.RustNames.int_lt}
 use Rattle.pas_tree.specs.declared.denoters.Enumeration.{Enumeration}
-use Rattle.core_program.specs.declared.rows.Row.{Row}
-use Rattle.core_program.specs.declared.rows.Row.TheVariants as row
-use Rattle.core_program.specs.declared.rows.TypeRow.TheVariants as kind
-use Rattle.core_program.specs.declared.rows.NameRow.TheVariants as named
-use Rattle.check_steps.specs.declared.regions.Def.{Def}
-use Rattle.check_steps.specs.declared.regions.Def.TheVariants as def
-use Rattle.check_steps.specs.declared.regions.Found.{Found}
-use Rattle.check_steps.specs.Known.{Known, row_at, type_at}
-use Rattle.check_steps.specs.Steps.{Step, give, ◌>>=◌, look, early, late, put}
-use Rattle.check_steps.specs.Names.{use_at}
-use Rattle.kind_checker.specs.declared.constants.ConstantValue.{ConstantValue}
-use Rattle.kind_checker.specs.declared.constants.ConstantValue.TheVariants.{Ordinal}
-use Rattle.kind_checker.specs.declared.types.Scope.{Scope}
-use Rattle.kind_checker.specs.Names.{each_name}
-use Rattle.kind_checker.specs.Sizes.{is_ordinal, is_within_bytes}
+use Rattle.core_program.specs.declared.rows.{NameRow.NameRow, Row.Row, TypeRow.TypeRow}
+use Rattle.check_steps.specs.{Known.Known, Known.row_at, Known.type_at, Names.use_at}
+use Rattle.check_steps.specs.Steps.{◌>>=◌, Step, early, give, late, look, put}
+use Rattle.check_steps.specs.declared.regions.{Def.Def, Found.Found}
+use Rattle.kind_checker.specs.{Names.each_name, Sizes.is_ordinal, Sizes.is_within_bytes, declared.types.Scope.Scope}
+use Rattle.kind_checker.specs.declared.constants.ConstantValue.{ConstantValue, TheVariants.Ordinal}
 
 -- ---- names
 
 abbrev pub is_type_def : Def → Bool
-is_type_def (def.TypeName n) = true
+is_type_def (Def.TypeName n) = true
 is_type_def d = false
 
 -- A name of unknown meaning breaks no further rule.
@@ -32,7 +22,7 @@ is_type_name (Some f) = is_type_def f.definition.def
 
 -- the type for which a name stands by its row, and else this number
 abbrev pub type_named : Row → ℕ → ℕ
-type_named (row.Name (named.TypeName of')) otherwise = of'
+type_named (Row.Name (NameRow.TypeName of')) otherwise = of'
 type_named r otherwise = otherwise
 
 abbrev pub type_of : Known → Option Found → ℕ → ℕ
@@ -56,8 +46,8 @@ is_range a b = true
 
 abbrev pub range_row : Option ConstantValue → Option ConstantValue → Row
 range_row (Some (Ordinal g a)) (Some (Ordinal h b)) =
-    if nat_eq g h && int_le a b then row.Type (kind.Subrange g a b) else row.Nothing
-range_row a b = row.Nothing
+    if nat_eq g h && int_le a b then Row.Type (TypeRow.Subrange g a b) else Row.Nothing
+range_row a b = Row.Nothing
 
 -- rule 5: a subrange's constants are not of one ordinal type, or the first is greater
 unfoldable pub subrange : Option ConstantValue → ℕ → Option ConstantValue → Step ℕ
@@ -75,14 +65,14 @@ successor v = if int_lt v (pos 2147483647) then v +ℤ pos 1 else v
 -- one more constant of an enumeration, after the one of this ordinal; its own ordinal is given
 unfoldable pub enumerated : ℕ → ℤ → ℕ → Step ℤ
 enumerated of' last name = do
-  _ ← put name (row.Name (named.Constant of' (successor last)))
+  _ ← put name (Row.Name (NameRow.Constant of' (successor last)))
   give (successor last)
 
 -- the constants have the ordinals from 0 on
 unfoldable pub enumeration : Enumeration → Step ℕ
 enumeration e = do
   greatest ← each_name (enumerated e.«open») (negsuc 0) e.names
-  _ ← put e.«open» (row.Type (kind.Ordinal (pos 0) greatest))
+  _ ← put e.«open» (Row.Type (TypeRow.Ordinal (pos 0) greatest))
   give e.«open»
 
 -- ---- pointers
@@ -105,7 +95,7 @@ pointer_type s caret name = do
   found ← use_at s.frame (looked_up_as s name) name
   _ ← late 3 name (is_type_name found)
   domain ← look (λ k. domain_named k s.domains_at found name)
-  _ ← put caret (row.Type (kind.Pointer domain))
+  _ ← put caret (Row.Type (TypeRow.Pointer domain))
   give caret
 
 -- ---- sets, and types that are to be ordinal
@@ -129,5 +119,5 @@ base_type first unknown t = do
 unfoldable pub set_type : Bool → ℕ → ℕ → ℕ → ℕ → Step ℕ
 set_type packed word first unknown t = do
   base ← base_type first unknown t
-  _ ← put word (row.Type (kind.Set packed base))
+  _ ← put word (Row.Type (TypeRow.Set packed base))
   give word

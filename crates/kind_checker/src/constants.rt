@@ -1,10 +1,9 @@
 //! Constants (6.3).
 
 ghost use Rattle.std.specs.Prelude.{◌≡◌, IfOk};
-ghost use Rattle.check_steps.specs.Known.{spelled_at};
-ghost use Rattle.check_steps.specs.Steps.{Does, each};
-ghost use Rattle.kind_checker.specs.Constants.{constant, constant_part, constants_in, define_constant, is_constant};
-ghost use Rattle.kind_checker.specs.Constants.{is_integer, named_constant, integer_in, opposite, sign_before, signed};
+ghost use Rattle.check_steps.specs.{Known.spelled_at, Steps.Does, Steps.each};
+ghost use Rattle.kind_checker.specs.Constants.{constant, constant_part, constants_in, define_constant, integer_in};
+ghost use Rattle.kind_checker.specs.Constants.{is_constant, is_integer, named_constant, opposite, sign_before, signed};
 ghost use Rattle.kind_checker.specs.Constants.{signed_value, text_value, value_in, value_of, value_row, with_sign};
 
 use check_steps::{Def, Definition, Found, Spelled, Tables, Work};

@@ -1,9 +1,9 @@
 //! Congruous lists of formal parameters (6.6.3.6).
 
 ghost use Rattle.std.specs.Prelude.{◌≡◌};
-ghost use Rattle.kind_checker.specs.Headings.{congruous, lists_match, results_match, same_mode, section_at};
-ghost use Rattle.kind_checker.specs.Headings.{section_in, sections_match, signature_at, signature_in};
-ghost use Rattle.kind_checker.specs.Headings.{signatures_match, variable_type};
+ghost use Rattle.kind_checker.specs.Headings.{congruous, lists_match, results_match, same_mode, section_at, section_in};
+ghost use Rattle.kind_checker.specs.Headings.{sections_match, signature_at, signature_in, signatures_match};
+ghost use Rattle.kind_checker.specs.Headings.{variable_type};
 
 use crate::shapes::is_same_type;
 use check_steps::Tables;

@@ -2,7 +2,7 @@
 
 ghost use Rattle.std.specs.Prelude.{◌≡◌, IfOk};
 ghost use Rattle.check_steps.specs.Steps.{Does, each};
-ghost use Rattle.kind_checker.specs.Names.{defined_as, define_name, each_name, on_name};
+ghost use Rattle.kind_checker.specs.Names.{define_name, defined_as, each_name, on_name};
 
 use check_steps::{Def, Definition, Work};
 use pas_tree::constants::{Names, NextName};

@@ -1,6 +1,6 @@
 //! The operators (6.7.2): which operands fit which, and what comes of them.
 
-ghost use Rattle.std.specs.Prelude.{◌≡◌, None, Some, if◌then◌else◌};
+ghost use Rattle.std.specs.Prelude.{if◌then◌else◌, ◌≡◌, None, Some};
 ghost use Rattle.kind_checker.specs.Operators.{done_by, equality_rows, fits, is_of_host, is_operand, is_ordinal};
 ghost use Rattle.kind_checker.specs.Operators.{is_unknown_shape, joined_packing, member_and_set, more_related, of_host};
 ghost use Rattle.kind_checker.specs.Operators.{on_both, operation_of, operation_row, operation_type, set_of_both};

@@ -1,6 +1,6 @@
 //! How many values types have, and how many cells.
 
-ghost use Rattle.std.specs.Prelude.{◌≡◌, ◌+◌, ◌*◌};
+ghost use Rattle.std.specs.Prelude.{◌*◌, ◌+◌, ◌≡◌};
 ghost use Rattle.kind_checker.specs.Sizes.{array_cells, capped, frame_capped, host_in, host_of, is_byte, is_ordinal};
 ghost use Rattle.kind_checker.specs.Sizes.{is_within_bytes, values_from, values_in};
 

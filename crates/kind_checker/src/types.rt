@@ -4,9 +4,9 @@
 ghost use Rattle.std.specs.Prelude.{◌≡◌};
 ghost use Rattle.check_steps.specs.Steps.{Does, each};
 ghost use Rattle.kind_checker.specs.Names.{each_name, on_name};
-ghost use Rattle.kind_checker.specs.Types.{successor, base_type, definition_of, looked_up_as, domain_named, enumerated};
-ghost use Rattle.kind_checker.specs.Types.{enumeration, is_range, is_type_name, named_type, ordinal, pointer_type};
-ghost use Rattle.kind_checker.specs.Types.{range_row, set_type, subrange, type_named, type_of};
+ghost use Rattle.kind_checker.specs.Types.{base_type, definition_of, domain_named, enumerated, enumeration, is_range};
+ghost use Rattle.kind_checker.specs.Types.{is_type_name, looked_up_as, named_type, ordinal, pointer_type, range_row};
+ghost use Rattle.kind_checker.specs.Types.{set_type, subrange, successor, type_named, type_of};
 
 use crate::constants::ConstantValue;
 use crate::sizes::{is_ordinal, is_within_bytes};

@@ -1,28 +1,16 @@
 -- The marks that the answers give: what is said of each call is what was agreed on.
-use Rattle.std.proofs.Common.{◌≡◌, ℕ, zero, suc, Bool, true, false, List, [], ◌∷◌, inl, inr, refl, sym, ap, subst}
-use Rattle.std.proofs.Common.{◌∙◌, arith}
-use Rattle.std.specs.Prelude.{if◌then◌else◌, slice_index}
-use Rattle.std.proofs.lemmas.Bool.{and_from, cases_eq, le-leb}
-use Rattle.std.proofs.lemmas.List.Elements.{filter_map-append}
-use Rattle.std.specs.Prelude.{nat_le}
-use Rattle.call_tree.specs.Clear.{is_clear, is_unknown}
-use Rattle.call_tree.specs.declared.records.Mark.{Mark}
-use Rattle.call_tree.specs.declared.records.Mark.TheVariants.{Unjudged, Right, Wrong, Unknown, Trusted}
-use Rattle.answer_book.specs.declared.entries.Entry.{Entry}
-use Rattle.answer_book.specs.declared.entries.Judgement.{Judgement}
-use Rattle.answer_book.specs.declared.entries.Judgement.TheVariants as judged_to_be
-use Rattle.answer_book.specs.declared.entries.What.{What}
-use Rattle.answer_book.specs.declared.entries.What.TheVariants.{Judged}
-use Rattle.answer_book.specs.Entries.{entries_with, entry_saying, said_by, standing_answers}
-use Rattle.answer_book.specs.Marks.{mark_by, mark_of}
+use Rattle.std.proofs.Common.{if◌then◌else◌, ◌∙◌, ◌∷◌, ◌≡◌, [], ℕ, Bool, List, ap, arith, false, inl, inr, nat_le, refl, slice_index, subst, suc, sym, true}
+use Rattle.std.proofs.{Common.zero, lemmas.Bool.and_from, lemmas.Bool.cases_eq, lemmas.Bool.le-leb, lemmas.List.Elements.filter_map-append}
+use Rattle.call_tree.specs.{Clear.is_clear, Clear.is_unknown, declared.records.Mark.Mark}
+use Rattle.call_tree.specs.declared.records.Mark.TheVariants.{Right, Trusted, Unjudged, Unknown, Wrong}
 use Rattle.subtree_weights.specs.Searched.{is_in}
-use Rattle.optimal_query.specs.declared.state.SearchState.{SearchState}
-use Rattle.optimal_query.specs.declared.state.SearchState.TheVariants.{Ask, Found, Narrowed, NothingWrong, Unclear}
-use Rattle.optimal_query.specs.Laws.{judged, mark_in}
+use Rattle.answer_book.specs.{Entries.entries_with, Entries.entry_saying, Entries.said_by, Entries.standing_answers, Marks.mark_by, Marks.mark_of}
+use Rattle.answer_book.specs.declared.entries.{Entry.Entry, Judgement.Judgement, What.What, What.TheVariants.Judged}
 use Rattle.optimal_query.proofs.OneMoreAnswer.{new_mark, old_mark}
+use Rattle.optimal_query.specs.{Laws.judged, Laws.mark_in, declared.state.SearchState.SearchState}
+use Rattle.optimal_query.specs.declared.state.SearchState.TheVariants.{Ask, Found, Narrowed, NothingWrong, Unclear}
 use Rattle.dialog_replies.specs.Subject.{Subject, state_after}
-use Rattle.made_program.specs.Answering.{answered_to, entries_answered, call_at_fault, judgement_of}
-use Rattle.made_program.specs.Laws.{IsSmallTree}
+use Rattle.made_program.specs.{Answering.answered_to, Answering.call_at_fault, Answering.entries_answered, Answering.judgement_of, Laws.IsSmallTree}
 
 -- a mark that says nothing, or whether the call at fault stands in the call's subtree
 abbrev pub IsFair : Mark → Bool → Type 0
@@ -49,7 +37,7 @@ fair_known Wrong within fair = refl
 fair_known Unknown within fair = absurd fair
 fair_known Trusted within fair = absurd fair
 
-fair_said : (within : Bool) → IsFair (mark_by (if within then judged_to_be.Wrong else judged_to_be.Right)) within
+fair_said : (within : Bool) → IsFair (mark_by (if within then Judgement.Wrong else Judgement.Right)) within
 fair_said true = refl
 fair_said false = refl
 
@@ -82,8 +70,8 @@ root_more : (s : Subject) (answers : List What) (call : ℕ) → IsSmallTree s �
 root_more s answers call small root =
     elim (cases_eq 0 call) [
       | inl same ↦
-          let said : judgement_of s call ≡ judged_to_be.Wrong =
-          ap (judgement_of s) (sym same) ∙ ap (λ (b : Bool). if b then judged_to_be.Wrong else judged_to_be.Right) (fault_in_root s small) in
+          let said : judgement_of s call ≡ Judgement.Wrong =
+          ap (judgement_of s) (sym same) ∙ ap (λ (b : Bool). if b then Judgement.Wrong else Judgement.Right) (fault_in_root s small) in
           ap (λ k. mark_in s.tree (judged answers call (judgement_of s call)) k) same
           ∙ new_mark s.tree.routine answers call (judgement_of s call) ∙ ap mark_by said
       | inr differs ↦ old_mark s.tree.routine answers call (judgement_of s call) 0 differs ∙ root
@@ -101,19 +89,19 @@ no_marks : (s : Subject) (call : ℕ) → mark_in s.tree [] call ≡ Unjudged
 unfolding mark_of
 no_marks s call = refl
 
-agreed_first : (s : Subject) → IsSmallTree s → AreAgreed s (judged [] 0 judged_to_be.Wrong)
+agreed_first : (s : Subject) → IsSmallTree s → AreAgreed s (judged [] 0 Judgement.Wrong)
 agreed_first s small =
     let within : ℕ → Bool = λ k. is_in s.tree.last k (call_at_fault s) in
     record {
-      root = new_mark s.tree.routine [] 0 judged_to_be.Wrong;
+      root = new_mark s.tree.routine [] 0 Judgement.Wrong;
       fair = λ other. elim (cases_eq other 0) [
         | inl same ↦
-            let mark : mark_in s.tree (judged [] 0 judged_to_be.Wrong) other ≡ Wrong =
-            ap (λ k. mark_in s.tree (judged [] 0 judged_to_be.Wrong) k) same ∙ new_mark s.tree.routine [] 0 judged_to_be.Wrong in
+            let mark : mark_in s.tree (judged [] 0 Judgement.Wrong) other ≡ Wrong =
+            ap (λ k. mark_in s.tree (judged [] 0 Judgement.Wrong) k) same ∙ new_mark s.tree.routine [] 0 Judgement.Wrong in
             subst (λ (m : Mark). IsFair m (within other)) (sym mark) (ap within same ∙ fault_in_root s small)
         | inr differs ↦
             subst (λ (m : Mark). IsFair m (within other))
-            (sym (old_mark s.tree.routine [] 0 judged_to_be.Wrong other differs ∙ no_marks s other)) tt
+            (sym (old_mark s.tree.routine [] 0 Judgement.Wrong other differs ∙ no_marks s other)) tt
       ];
     }
 

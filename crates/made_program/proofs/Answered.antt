@@ -1,17 +1,11 @@
 -- The entries after one more answer, and that they stay where no more is asked.
-use Rattle.std.proofs.Common.{◌≡◌, ℕ, zero, suc, ◌+◌, ◌-◌, ◌<◌, ◌≤◌, true, false, List, [], ◌∷◌, length, refl, sym, ap, ◌∙◌, arith}
-use Rattle.std.proofs.Common.{add-one, add-zero, add-suc, length-append}
-use Rattle.answer_book.specs.declared.entries.Entry.{Entry}
-use Rattle.answer_book.specs.declared.entries.What.TheVariants.{Judged}
-use Rattle.answer_book.specs.Answers.{Answers, judge_answer}
-use Rattle.answer_book.specs.Entries.{entry_saying, first_entries}
-use Rattle.std.specs.Prelude.{Ok}
-use Rattle.std.proofs.lemmas.Bool.{cond-false, lt-leb}
-use Rattle.optimal_query.specs.declared.state.SearchState.{SearchState}
+use Rattle.std.proofs.Common.{◌+◌, ◌-◌, ◌<◌, ◌∙◌, ◌∷◌, ◌≡◌, ◌≤◌, [], ℕ, List, Ok, add-one, add-suc, add-zero, ap, arith, false, length, length-append, refl}
+use Rattle.std.proofs.{Common.suc, Common.sym, Common.true, Common.zero, lemmas.Bool.cond-false, lemmas.Bool.lt-leb}
+use Rattle.answer_book.specs.{Answers.Answers, Answers.judge_answer, Entries.entry_saying, Entries.first_entries}
+use Rattle.answer_book.specs.declared.entries.{Entry.Entry, What.TheVariants.Judged}
+use Rattle.optimal_query.specs.{Search.Search, declared.state.SearchState.SearchState}
 use Rattle.optimal_query.specs.declared.state.SearchState.TheVariants.{Ask, Found, Narrowed, NothingWrong, Unclear}
-use Rattle.optimal_query.specs.Search.{Search}
-use Rattle.dialog_replies.specs.Kept.{IsSearchOf}
-use Rattle.dialog_replies.specs.Subject.{Subject, calls_recorded, state_after}
+use Rattle.dialog_replies.specs.{Kept.IsSearchOf, Subject.Subject, Subject.calls_recorded, Subject.state_after}
 use Rattle.made_program.specs.Answering.{answered_to, entries_answered, entries_at_end, judgement_of, most_answers, questions_of}
 use Rattle.made_program.specs.Asked.{asks}
 

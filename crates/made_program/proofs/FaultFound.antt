@@ -1,31 +1,17 @@
 -- The call that is found in the end is the one at fault.
-use Rattle.std.proofs.Common.{◌≡◌, ℕ, zero, suc, ◌+◌, ◌<◌, ◌≤◌, Bool, true, false, cond, List, [], ◌∷◌, length, Option, Some, None, inl, inr, refl, sym, ap}
-use Rattle.std.proofs.Common.{subst, ◌∙◌, arith}
-use Rattle.std.specs.Prelude.{filter, map, nat_le, slice_index, slice_index_or}
+use Rattle.std.proofs.Common.{◌+◌, ◌<◌, ◌∙◌, ◌∷◌, ◌≡◌, ◌≤◌, [], ℕ, Bool, List, None, Option, Some, ap, arith, cond, false, filter, inl, inr, length, map}
+use Rattle.std.proofs.Common.{nat_le, refl, slice_index, slice_index_or, subst, suc, sym, true, zero}
 use Rattle.std.proofs.lemmas.Bool.{and_from, and_parts, cases_eq, le-leb, leb-true, true≢false}
-use Rattle.call_tree.specs.Clear.{is_unknown}
-use Rattle.call_tree.specs.Numbering.{IsParent}
-use Rattle.call_tree.specs.declared.records.Mark.{Mark}
-use Rattle.call_tree.specs.declared.records.Mark.TheVariants.{Unjudged}
-use Rattle.answer_book.specs.declared.entries.What.{What}
-use Rattle.answer_book.specs.Accused.{accused_of}
-use Rattle.answer_book.specs.Entries.{standing_answers}
-use Rattle.answer_book.specs.Marks.{mark_of, marks_of}
-use Rattle.answer_book.specs.Numbers.{numbers_below}
+use Rattle.call_tree.specs.{Clear.is_unknown, Numbering.IsParent, declared.records.Mark.Mark, declared.records.Mark.TheVariants.Unjudged}
 use Rattle.subtree_weights.specs.Searched.{is_in, is_searched, mark_at}
-use Rattle.optimal_query.specs.declared.state.SearchState.{SearchState}
-use Rattle.optimal_query.specs.declared.state.SearchState.TheVariants.{Found}
+use Rattle.answer_book.specs.{Accused.accused_of, Entries.standing_answers, Marks.mark_of, Marks.marks_of, Numbers.numbers_below, declared.entries.What.What}
+use Rattle.optimal_query.specs.{Narrowing.AgreesWithMarks, Narrowing.FoundIsBuggy, Narrowing.IsBuggy, Question.question_of, Region.doubts_of, State.state_by}
+use Rattle.optimal_query.specs.{State.state_with, State.verdict_by, declared.state.SearchState.SearchState, declared.state.SearchState.TheVariants.Found}
 use Rattle.optimal_query.specs.Laws.{NothingWrongIsNothing, QuestionIsLeast, doubts_in, mark_in, state_in, suspects_in}
-use Rattle.optimal_query.specs.Narrowing.{AgreesWithMarks, FoundIsBuggy, IsBuggy}
-use Rattle.optimal_query.specs.Question.{question_of}
-use Rattle.optimal_query.specs.Region.{doubts_of}
-use Rattle.optimal_query.specs.State.{state_by, state_with, verdict_by}
 use Rattle.dialog_replies.specs.Subject.{Subject, calls_recorded}
-use Rattle.made_program.specs.Answering.{entries_at_end, call_at_fault, most_answers}
-use Rattle.made_program.specs.Asked.{asks}
-use Rattle.made_program.specs.Laws.{FaultIsFound, IsSmallTree}
 use Rattle.made_program.proofs.AgreedMarks.{AreAgreed, agreed, fair_clear, fair_known, fair_wrong}
 use Rattle.made_program.proofs.FewerSuspects.{none_at_end}
+use Rattle.made_program.specs.{Answering.call_at_fault, Answering.entries_at_end, Answering.most_answers, Asked.asks, Laws.FaultIsFound, Laws.IsSmallTree}
 
 -- ---- nothing is in doubt
 

@@ -1,9 +1,7 @@
 -- The lines, where the call at fault is found.
-use Rattle.std.proofs.Common.{◌≡◌, ◌<◌, ℕ, List, ap, ◌∙◌}
-use Rattle.std.specs.Prelude.{Result, Ok, Err, IfOk}
+use Rattle.std.proofs.Common.{◌<◌, ◌∙◌, ◌≡◌, ℕ, Err, IfOk, List, Ok, Result, ap}
 use Rattle.dialog_replies.specs.Subject.{Subject, calls_recorded}
-use Rattle.made_program.specs.Laws.{EndsAtTheFault}
-use Rattle.made_program.specs.Lines.{fault_lines, summary_lines, made_lines}
+use Rattle.made_program.specs.{Laws.EndsAtTheFault, Lines.fault_lines, Lines.made_lines, Lines.summary_lines}
 
 fault_named : (s : Subject) → EndsAtTheFault s → made_lines s ≡ fault_lines s
 unfolding made_lines

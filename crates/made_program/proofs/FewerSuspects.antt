@@ -1,29 +1,16 @@
 -- Each answer leaves fewer suspects, so that no more is asked in the end.
-use Rattle.std.proofs.Common.{◌≡◌, ℕ, zero, suc, ◌+◌, ◌<◌, ◌≤◌, Bool, true, false, List, length, Option, refl, sym, ap}
-use Rattle.std.proofs.Common.{◌∙◌, arith}
-use Rattle.std.specs.Prelude.{filter}
-use Rattle.std.proofs.lemmas.Bool.{true≢false}
-use Rattle.std.proofs.lemmas.List.FromFn.{length-range_with_len}
-use Rattle.std.proofs.lemmas.List.Sums.{count_by-le-length, length-filter}
-use Rattle.answer_book.specs.declared.entries.Entry.{Entry}
-use Rattle.answer_book.specs.declared.entries.What.{What}
-use Rattle.answer_book.specs.Accused.{accused_of}
-use Rattle.answer_book.specs.Entries.{standing_answers}
-use Rattle.answer_book.specs.Marks.{marks_of}
-use Rattle.answer_book.specs.Numbers.{numbers_below}
-use Rattle.call_tree.specs.Clear.{is_unjudged}
-use Rattle.call_tree.specs.declared.records.Mark.{Mark}
+use Rattle.std.proofs.Common.{◌+◌, ◌<◌, ◌∙◌, ◌≡◌, ◌≤◌, ℕ, Bool, List, Option, ap, arith, false, filter, length, refl, suc, sym, true, zero}
+use Rattle.std.proofs.lemmas.{Bool.true≢false, List.FromFn.length-range_with_len, List.Sums.count_by-le-length, List.Sums.length-filter}
+use Rattle.call_tree.specs.{Clear.is_unjudged, declared.records.Mark.Mark}
 use Rattle.subtree_weights.specs.Searched.{is_searched, mark_at}
-use Rattle.optimal_query.specs.declared.state.SearchState.{SearchState}
+use Rattle.answer_book.specs.{Accused.accused_of, Entries.standing_answers, Marks.marks_of, Numbers.numbers_below}
+use Rattle.answer_book.specs.declared.entries.{Entry.Entry, What.What}
+use Rattle.optimal_query.specs.{Laws.QuestionIsLeast, Laws.judged, Laws.suspects_in, Region.suspects_of, declared.state.SearchState.SearchState}
 use Rattle.optimal_query.specs.declared.state.SearchState.TheVariants.{Ask, Found, Narrowed, NothingWrong, Unclear}
-use Rattle.optimal_query.specs.Laws.{QuestionIsLeast, judged, suspects_in}
-use Rattle.optimal_query.specs.Region.{suspects_of}
 use Rattle.dialog_replies.specs.Subject.{Subject, calls_recorded, state_after}
+use Rattle.made_program.proofs.{AgreedMarks.one_more_stands, Answered.as_they_were}
+use Rattle.made_program.specs.{Asked.asks, Laws.IsSmallTree}
 use Rattle.made_program.specs.Answering.{answered_to, entries_answered, entries_at_end, judgement_of, most_answers}
-use Rattle.made_program.specs.Asked.{asks}
-use Rattle.made_program.specs.Laws.{IsSmallTree}
-use Rattle.made_program.proofs.AgreedMarks.{one_more_stands}
-use Rattle.made_program.proofs.Answered.{as_they_were}
 
 filtered_few : (p : ℕ → Bool) (xs : List ℕ) → length (filter p xs) ≤ length xs
 filtered_few p xs = omega (arith, length-filter p xs, count_by-le-length p xs)

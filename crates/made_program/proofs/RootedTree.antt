@@ -1,13 +1,10 @@
 -- The calls of a run stand in the subtree of call 0.
-use Rattle.std.proofs.Common.{◌≡◌, ℕ, zero, suc, ◌+◌, ◌-◌, ◌<◌, ◌≤◌, List, [], ◌∷◌, length, Option, Some, None, refl, sym, ap, subst, ◌∙◌, arith}
-use Rattle.std.specs.Prelude.{slice_get, slice_index}
-use Rattle.call_tree.specs.Nesting.{IsRooted}
-use Rattle.call_tree.specs.Numbering.{IsNumbered, IsParent}
+use Rattle.std.proofs.Common.{◌+◌, ◌-◌, ◌<◌, ◌∙◌, ◌∷◌, ◌≡◌, ◌≤◌, [], ℕ, List, None, Option, Some, ap, arith, length, refl, slice_get, slice_index, subst, suc}
+use Rattle.std.proofs.Common.{sym, zero}
+use Rattle.call_tree.specs.{Nesting.IsRooted, Numbering.IsNumbered, Numbering.IsParent}
 use Rattle.call_tree.specs.Recording.{Recording, depths_of, lasts_of, parents_of}
 use Rattle.optimal_query.specs.Laws.{CallTree}
-use Rattle.dialog_replies.specs.Kept.{AreCallsOf}
-use Rattle.dialog_replies.specs.Subject.{Subject, calls_recorded}
-use Rattle.dialog_replies.proofs.ColumnsOfCalls.{routines_counted}
+use Rattle.dialog_replies.{proofs.ColumnsOfCalls.routines_counted, specs.Kept.AreCallsOf, specs.Subject.Subject, specs.Subject.calls_recorded}
 use Rattle.made_program.specs.Laws.{IsSmallTree}
 
 one_there : {X : Type 0} (xs : List X) (k : ℕ) → k < length xs → slice_get xs k ≡ None → ⊥

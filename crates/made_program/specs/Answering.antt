@@ -1,14 +1,11 @@
 -- How a search is answered with no one asked: one call is agreed on as the one at fault, a call is wrong if that one
 -- stands in its subtree, and each question is answered so.
-use Rattle.std.specs.Prelude.{ℕ, zero, suc, ◌-◌, ◌/◌, if◌then◌else◌, List, length}
-use Rattle.answer_book.specs.declared.entries.Entry.{Entry}
-use Rattle.answer_book.specs.declared.entries.Judgement.{Judgement}
-use Rattle.answer_book.specs.declared.entries.Judgement.TheVariants.{Right, Wrong}
-use Rattle.answer_book.specs.declared.entries.What.TheVariants.{Judged}
-use Rattle.answer_book.specs.Entries.{entries_with, first_entries}
+use Rattle.std.specs.Prelude.{if◌then◌else◌, ◌-◌, ◌/◌, ℕ, List, length, suc, zero}
 use Rattle.subtree_weights.specs.Searched.{is_in}
-use Rattle.optimal_query.specs.declared.state.SearchState.{SearchState}
-use Rattle.optimal_query.specs.declared.state.SearchState.TheVariants.{Ask}
+use Rattle.answer_book.specs.Entries.{entries_with, first_entries}
+use Rattle.answer_book.specs.declared.entries.{Entry.Entry, What.TheVariants.Judged}
+use Rattle.answer_book.specs.declared.entries.Judgement.{Judgement, TheVariants.Right, TheVariants.Wrong}
+use Rattle.optimal_query.specs.declared.state.SearchState.{SearchState, TheVariants.Ask}
 use Rattle.dialog_replies.specs.Subject.{Subject, calls_recorded, state_after}
 
 -- the call at fault: a third of the calls were entered before it

@@ -1,7 +1,6 @@
 -- Whether something is asked.
-use Rattle.std.specs.Prelude.{Bool, true, false}
-use Rattle.optimal_query.specs.declared.state.SearchState.{SearchState}
-use Rattle.optimal_query.specs.declared.state.SearchState.TheVariants.{Ask}
+use Rattle.std.specs.Prelude.{Bool, false, true}
+use Rattle.optimal_query.specs.declared.state.SearchState.{SearchState, TheVariants.Ask}
 
 abbrev pub asks : SearchState → Bool
 asks (Ask call weight suspects left) = true

@@ -1,9 +1,8 @@
 -- That the search finds the call that it was to find.
-use Rattle.std.specs.Prelude.{◌≡◌, ◌+◌, ◌<◌, slice_index}
-use Rattle.optimal_query.specs.declared.state.SearchState.TheVariants.{Found}
-use Rattle.optimal_query.specs.Laws.{IsCallTree}
+use Rattle.std.specs.Prelude.{◌+◌, ◌<◌, ◌≡◌, slice_index}
+use Rattle.optimal_query.specs.{Laws.IsCallTree, declared.state.SearchState.TheVariants.Found}
 use Rattle.dialog_replies.specs.Subject.{Subject, calls_recorded, state_after}
-use Rattle.made_program.specs.Answering.{entries_at_end, call_at_fault}
+use Rattle.made_program.specs.Answering.{call_at_fault, entries_at_end}
 
 -- the calls of a run, fewer than 100,000, all of them in the subtree of call 0
 pub record IsSmallTree (s : Subject) : Type 0 where

@@ -1,10 +1,8 @@
 -- What is printed of the run of a made program.
-use Rattle.std.specs.Prelude.{ℕ, List, [], ◌++◌, codes, decimal}
-use Rattle.optimal_query.specs.declared.state.SearchState.{SearchState}
-use Rattle.optimal_query.specs.declared.state.SearchState.TheVariants.{Found}
-use Rattle.dialog_replies.specs.Subject.{Subject, calls_recorded, state_after}
-use Rattle.dialog_replies.specs.Texts.{named_call}
-use Rattle.made_program.specs.Answering.{entries_at_end, call_at_fault, questions_of}
+use Rattle.std.specs.Prelude.{◌++◌, [], ℕ, List, codes, decimal}
+use Rattle.optimal_query.specs.declared.state.SearchState.{SearchState, TheVariants.Found}
+use Rattle.dialog_replies.specs.{Subject.Subject, Subject.calls_recorded, Subject.state_after, Texts.named_call}
+use Rattle.made_program.specs.Answering.{call_at_fault, entries_at_end, questions_of}
 
 -- a word with a number
 abbrev pub counted_line : List ℕ → ℕ → List ℕ

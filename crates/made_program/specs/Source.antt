@@ -1,5 +1,5 @@
 -- The text of the made program: a procedure that calls itself twice, as deep as a number says.
-use Rattle.std.specs.Prelude.{ℕ, List, ◌++◌, codes, decimal}
+use Rattle.std.specs.Prelude.{◌++◌, ℕ, List, codes, decimal}
 
 abbrev pub heading : List ℕ
 heading = codes "program made;\n" ++ codes "var s: integer;\n"

@@ -1,9 +1,8 @@
 //! The search over a run, answered with no one asked.
-ghost use Rattle.std.specs.Prelude.{◌≡◌, ◌+◌, ◌<◌, length};
+ghost use Rattle.std.specs.Prelude.{◌+◌, ◌<◌, ◌≡◌, length};
 ghost use Rattle.answer_book.specs.Entries.{entries_with, first_entries};
 ghost use Rattle.answer_book.specs.declared.entries.What.TheVariants as what;
-ghost use Rattle.dialog_replies.specs.Kept.{IsSearchOf};
-ghost use Rattle.dialog_replies.specs.Subject.{calls_recorded, state_after};
+ghost use Rattle.dialog_replies.specs.{Kept.IsSearchOf, Subject.calls_recorded, Subject.state_after};
 ghost use Rattle.made_program.specs.Answering.{answered_to, entries_at_end, judgement_of, questions_of};
 ghost use Rattle.made_program.specs.Asked.{asks};
 

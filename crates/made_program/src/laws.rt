@@ -1,7 +1,7 @@
 //! Laws of the search that is answered with no one asked, each the contract of a call that does nothing.
 ghost use Rattle.std.specs.Prelude.{◌<◌};
 ghost use Rattle.dialog_replies.specs.Subject.{calls_recorded};
-ghost use Rattle.made_program.specs.Laws.{FaultIsFound, EndsAtTheFault};
+ghost use Rattle.made_program.specs.Laws.{EndsAtTheFault, FaultIsFound};
 
 use dialog_replies::Debugged;
 use optimal_query::laws::{buggy_is_left, nothing_wrong_is_nothing, question_is_least};

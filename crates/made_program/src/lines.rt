@@ -1,7 +1,6 @@
 //! What is printed of the run of a made program.
-ghost use Rattle.std.specs.Prelude.{◌≡◌, ◌++◌, ◌<◌, IfOk, OnOk};
-ghost use Rattle.dialog_replies.specs.Kept.{IsSearchOf};
-ghost use Rattle.dialog_replies.specs.Subject.{calls_recorded, state_after};
+ghost use Rattle.std.specs.Prelude.{◌++◌, ◌<◌, ◌≡◌, IfOk, OnOk};
+ghost use Rattle.dialog_replies.specs.{Kept.IsSearchOf, Subject.calls_recorded, Subject.state_after};
 ghost use Rattle.made_program.specs.Lines.{counted_line, fault_lines, found_line, made_lines};
 
 use crate::answering::answer_all;

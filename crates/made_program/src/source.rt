@@ -1,5 +1,5 @@
 //! The text of the made program.
-ghost use Rattle.std.specs.Prelude.{◌≡◌, ◌++◌, ◌≤◌, IfOk, OnOk};
+ghost use Rattle.std.specs.Prelude.{◌++◌, ◌≡◌, ◌≤◌, IfOk, OnOk};
 ghost use Rattle.made_program.specs.Source.{heading, made_source, procedure_t, statements};
 
 use dialog_replies::write_number;

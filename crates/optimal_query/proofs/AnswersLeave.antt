@@ -1,27 +1,16 @@
 -- What each answer on a suspect leaves.
-use Rattle.std.proofs.Common.{◌≡◌, ℕ, ◌+◌, ◌<◌, Bool, true, false, not, ◌&&◌, List, length, Option, Some, inl, inr, refl, sym, ap, ◌∙◌, arith}
-use Rattle.std.proofs.Math.Bool.{and-true}
-use Rattle.std.specs.Prelude.{◌==◌, Contains, filter}
+use Rattle.std.proofs.Common.{◌&&◌, ◌+◌, ◌<◌, ◌==◌, ◌∙◌, ◌≡◌, ℕ, Bool, Contains, List, Option, Some, ap, arith, false, filter, inl, inr, length, not, refl, sym}
+use Rattle.std.proofs.{Common.true, Math.Bool.and-true, lemmas.List.Filters.length-filter_both}
 use Rattle.std.proofs.lemmas.Bool.{and_from, and_right, cases_eq, eq-eqb, ne_eqb, not_from_false, not_from_true}
-use Rattle.std.proofs.lemmas.List.Filters.{length-filter_both}
-use Rattle.call_tree.specs.Numbering.{IsNumbered}
-use Rattle.call_tree.specs.declared.records.Mark.{Mark}
-use Rattle.call_tree.specs.declared.records.Mark.TheVariants.{Unjudged}
-use Rattle.answer_book.specs.declared.entries.Judgement.{Judgement}
-use Rattle.answer_book.specs.declared.entries.Judgement.TheVariants.{Right, Wrong, Unknown}
-use Rattle.answer_book.specs.declared.entries.What.{What}
-use Rattle.answer_book.specs.Accused.{accused_of}
-use Rattle.call_tree.specs.Clear.{is_unjudged}
-use Rattle.answer_book.specs.Marks.{mark_by, mark_of, marks_of}
-use Rattle.answer_book.specs.Numbers.{numbers_below}
-use Rattle.optimal_query.specs.Laws.{IsCallTree, CallTree, LeaveWhatIsCounted, judged, suspects_in}
-use Rattle.optimal_query.specs.Question.{weight_of}
-use Rattle.optimal_query.specs.Region.{suspects_of}
+use Rattle.call_tree.specs.{Clear.is_unjudged, Numbering.IsNumbered, declared.records.Mark.Mark, declared.records.Mark.TheVariants.Unjudged}
 use Rattle.subtree_weights.specs.Searched.{is_in, is_searched, mark_at}
-use Rattle.optimal_query.specs.State.{suspects_after}
+use Rattle.answer_book.specs.{Accused.accused_of, Marks.mark_by, Marks.mark_of, Marks.marks_of, Numbers.numbers_below, declared.entries.What.What}
+use Rattle.answer_book.specs.declared.entries.Judgement.{Judgement, TheVariants.Right, TheVariants.Unknown, TheVariants.Wrong}
 use Rattle.optimal_query.proofs.OneMoreAnswer.{Changes, accused_kept, accused_wrong, at_mark, changes, kept_test, right_test, weight_is, wrong_test}
 use Rattle.optimal_query.proofs.PassingNumbers.{filter_filter, filter_same, one_more}
 use Rattle.optimal_query.proofs.Searched.{Suspected, in_from, is_marked, searched_from, suspected_of, suspects_are}
+use Rattle.optimal_query.specs.{Question.weight_of, Region.suspects_of, State.suspects_after}
+use Rattle.optimal_query.specs.Laws.{CallTree, IsCallTree, LeaveWhatIsCounted, judged, suspects_in}
 
 exchanged : (a k u : Bool) → ((a && k) && u) ≡ ((a && u) && k)
 exchanged true true true = refl

@@ -1,29 +1,20 @@
 -- Verdicts, and that a buggy call is among those left.
-use Rattle.std.proofs.Common.{◌≡◌, ◌⊎◌, ℕ, ◌<◌, ◌≤◌, Bool, true, false, ◌&&◌, ◌||◌, List, [], ◌∷◌, length, Option, Some, None, inl, inr, refl, sym, subst}
-use Rattle.std.proofs.Common.{ap, ◌∙◌, arith}
-use Rattle.std.specs.Prelude.{◌==◌, Contains, slice_index}
+use Rattle.std.proofs.Common.{◌&&◌, ◌<◌, ◌==◌, ◌||◌, ◌∙◌, ◌∷◌, ◌≡◌, ◌≤◌, ◌⊎◌, [], ℕ, Bool, Contains, List, None, Option, Some, ap, arith, false, inl, inr}
+use Rattle.std.proofs.Common.{length, refl, slice_index, subst, sym, true}
 use Rattle.std.proofs.lemmas.Bool.{and_from, and_parts, both_ways, cases_order, eq-eqb, eqb-true, true≢false}
 use Rattle.std.proofs.lemmas.Option.{slice_get_within}
-use Rattle.call_tree.specs.Numbering.{IsParent}
-use Rattle.call_tree.specs.declared.records.Mark.{Mark}
-use Rattle.call_tree.specs.declared.records.Mark.TheVariants.{Unjudged, Right, Wrong, Unknown, Trusted}
-use Rattle.answer_book.specs.declared.entries.What.{What}
-use Rattle.answer_book.specs.Accused.{accused_of, is_wrong}
-use Rattle.call_tree.specs.Clear.{is_clear, is_unjudged, is_unknown}
-use Rattle.answer_book.specs.Marks.{mark_of, marks_of}
-use Rattle.answer_book.specs.Numbers.{last_where, numbers_below}
-use Rattle.answer_book.proofs.LastWhere.{IsLast, last_where_is, none_passes_where}
-use Rattle.optimal_query.specs.declared.state.SearchState.TheVariants.{Found, NothingWrong}
-use Rattle.optimal_query.specs.Laws.{IsCallTree, CallTree, IsAtFault, NothingIsWrong, doubts_in, mark_in, region_in, state_in, suspects_in}
-use Rattle.optimal_query.specs.Narrowing.{AgreesWithMarks, IsBuggy, IsLeft, Truth}
-use Rattle.optimal_query.specs.Region.{doubts_of, suspects_of}
+use Rattle.call_tree.specs.{Clear.is_clear, Clear.is_unjudged, Clear.is_unknown, Numbering.IsParent, declared.records.Mark.Mark}
+use Rattle.call_tree.specs.declared.records.Mark.TheVariants.{Right, Trusted, Unjudged, Unknown, Wrong}
 use Rattle.subtree_weights.specs.Searched.{is_below, is_searched, mark_at}
-use Rattle.optimal_query.specs.State.{verdict_by}
-use Rattle.optimal_query.proofs.LeastExists.{no_question}
+use Rattle.answer_book.proofs.LastWhere.{IsLast, last_where_is, none_passes_where}
+use Rattle.answer_book.specs.{Accused.accused_of, Accused.is_wrong, Marks.mark_of, Marks.marks_of, declared.entries.What.What}
+use Rattle.answer_book.specs.Numbers.{last_where, numbers_below}
+use Rattle.optimal_query.proofs.{LeastExists.no_question, PassingNumbers.passes_of_contains, StatesSay.ends}
 use Rattle.optimal_query.proofs.OneMoreAnswer.{accused_is_last, at_mark}
-use Rattle.optimal_query.proofs.PassingNumbers.{passes_of_contains}
 use Rattle.optimal_query.proofs.Searched.{Covers, Searched, below_from, below_parts, doubt_from, nested, searched_from, searched_parts, suspect_from}
-use Rattle.optimal_query.proofs.StatesSay.{ends}
+use Rattle.optimal_query.specs.{Narrowing.AgreesWithMarks, Narrowing.IsBuggy, Narrowing.IsLeft, Narrowing.Truth, Region.doubts_of, Region.suspects_of}
+use Rattle.optimal_query.specs.{State.verdict_by, declared.state.SearchState.TheVariants.Found, declared.state.SearchState.TheVariants.NothingWrong}
+use Rattle.optimal_query.specs.Laws.{CallTree, IsAtFault, IsCallTree, NothingIsWrong, doubts_in, mark_in, region_in, state_in, suspects_in}
 
 wrong_is : (mark : Mark) → is_wrong mark ≡ true → mark ≡ Wrong
 wrong_is Unjudged h = absurd (let l : ⊥ = cc in l)

@@ -1,11 +1,8 @@
 -- The best of one run, and of one run after another.
-use Rattle.std.proofs.Common.{◌≡◌, ◌≢◌, ◌⊎◌, ℕ, ◌+◌, ◌-◌, ◌<◌, ◌≤◌, max, Bool, true, false, cond, List, length, length-drop, take, drop, Option, Some, None}
-use Rattle.std.proofs.Common.{inl, inr, refl, sym, subst, ap, ◌∙◌, arith}
-use Rattle.std.specs.Prelude.{All, nat_lt, slice_index}
-use Rattle.std.proofs.lemmas.Bool.{cases_order, ltb-false, ltb-true}
-use Rattle.std.proofs.lemmas.List.{get_or-drop, get_or-take, length-take-le}
-use Rattle.weight_lanes.specs.declared.choice.Choice.{Choice}
-use Rattle.weight_lanes.specs.Places.{IsSet, left_at}
+use Rattle.std.proofs.Common.{◌+◌, ◌-◌, ◌<◌, ◌∙◌, ◌≡◌, ◌≢◌, ◌≤◌, ◌⊎◌, ℕ, All, Bool, List, None, Option, Some, ap, arith, cond, drop, false, inl, inr, length}
+use Rattle.std.proofs.Common.{length-drop, max, nat_lt, refl, slice_index, subst, sym, take, true}
+use Rattle.std.proofs.lemmas.{Bool.cases_order, Bool.ltb-false, Bool.ltb-true, List.get_or-drop, List.get_or-take, List.length-take-le}
+use Rattle.weight_lanes.specs.{Places.IsSet, Places.left_at, declared.choice.Choice.Choice}
 use Rattle.optimal_query.specs.Runs.{Field, IsBestAmong, IsBestFrom, IsField, MayBeAsked, better_of}
 
 pub cases_lt : (k b : ℕ) → (k < b) ⊎ (b ≤ k)

@@ -1,23 +1,14 @@
 -- The marks of the calls of one routine are looked up anew, from the first such call to the last.
-use Rattle.std.proofs.Common.{◌≡◌, ℕ, zero, suc, ◌+◌, ◌<◌, ◌≤◌, List, Some, None, length, get_or-set_other, get_or-set_same, inl, inr, refl}
-use Rattle.std.proofs.Common.{sym, ap, ◌∙◌, add-one, arith}
-use Rattle.std.specs.Prelude.{◌≢◌, slice_index, slice_set, sum_by}
+use Rattle.std.proofs.Common.{◌+◌, ◌<◌, ◌∙◌, ◌≡◌, ◌≢◌, ◌≤◌, ℕ, List, None, Some, add-one, ap, arith, get_or-set_other, get_or-set_same, inl, inr, length, refl}
+use Rattle.std.proofs.Common.{slice_index, slice_set, suc, sum_by, sym, zero}
 use Rattle.std.proofs.lemmas.Bool.{cases_eq, cases_lt, cond-false, cond-true, eq-eqb, ne_eqb, true≢false}
-use Rattle.std.proofs.lemmas.List.{length-set}
-use Rattle.std.proofs.lemmas.List.FromFn.{fill_by_all}
-use Rattle.std.proofs.lemmas.List.Sums.{sum_by_push}
-use Rattle.call_tree.specs.declared.records.Mark.{Mark}
-use Rattle.call_tree.specs.declared.records.Mark.TheVariants.{Unjudged}
-use Rattle.answer_book.specs.Answers.{Answers}
-use Rattle.answer_book.specs.Entries.{standing_answers}
-use Rattle.answer_book.specs.Marks.{mark_of, marks_of}
-use Rattle.answer_book.specs.Numbers.{numbers_below}
-use Rattle.subtree_weights.specs.Searched.{mark_at}
-use Rattle.subtree_weights.specs.Weighed.{Weighed, with_marks}
-use Rattle.weight_lanes.specs.Answers.{IsNext}
-use Rattle.weight_lanes.specs.Places.{Holds}
-use Rattle.optimal_query.specs.Changed.{ChangesCallsOf, way_up, ways_up}
+use Rattle.std.proofs.lemmas.List.{length-set, FromFn.fill_by_all, Sums.sum_by_push}
+use Rattle.call_tree.specs.declared.records.Mark.{Mark, TheVariants.Unjudged}
+use Rattle.weight_lanes.specs.{Answers.IsNext, Places.Holds}
+use Rattle.subtree_weights.specs.{Searched.mark_at, Weighed.Weighed, Weighed.with_marks}
+use Rattle.answer_book.specs.{Answers.Answers, Entries.standing_answers, Marks.mark_of, Marks.marks_of, Numbers.numbers_below}
 use Rattle.optimal_query.proofs.PassingNumbers.{numbers_suc}
+use Rattle.optimal_query.specs.Changed.{ChangesCallsOf, way_up, ways_up}
 
 -- each call before `from` has its mark, and so has each call of another routine
 pub record AreUpTo (book : Answers) (marks : List Mark) (routine from : ℕ) : Type 0 where

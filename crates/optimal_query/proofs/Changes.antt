@@ -1,39 +1,22 @@
 -- What an entry changes, when it is made and when it is taken back.
-use Rattle.std.proofs.Common.{◌≡◌, ℕ, zero, suc, ◌+◌, ◌-◌, ◌<◌, ◌≤◌, Bool, true, false, cond, ◌||◌, List, [], ◌∷◌, ◌++◌, length, Option, Some, None, Result}
-use Rattle.std.proofs.Common.{Ok, Err, inl, inr, replicate, refl, sym, ap, ◌∙◌, get_or-set_same, arith}
+use Rattle.std.proofs.Common.{◌++◌, ◌+◌, ◌-◌, ◌<◌, ◌==◌, ◌||◌, ◌∙◌, ◌∷◌, ◌≡◌, ◌≤◌, [], ℕ, Bool, Err, List, None, Ok, Option, Result, Some, ap, arith, cond}
+use Rattle.std.proofs.Common.{false, get_or-set_same, inl, inr, length, nat_le, refl, replicate, slice_get, slice_index, slice_set, suc, sym, true, zero}
 use Rattle.std.proofs.Math.Bool.{or-false}
-use Rattle.std.specs.Prelude.{◌==◌, nat_le, slice_get, slice_index, slice_set}
-use Rattle.std.proofs.lemmas.Bool.{cases_eq, false≢true, leb-false}
-use Rattle.std.proofs.lemmas.List.{get_or-replicate, length-map, length-replicate, length-set}
-use Rattle.std.proofs.lemmas.List.FromFn.{fill_by_all, length-map-range_with_len}
-use Rattle.std.proofs.lemmas.Option.{same_Some, slice_get-get_or, slice_get_within}
-use Rattle.call_tree.specs.Recording.{Recording, routines_of}
-use Rattle.call_tree.specs.declared.records.Call.{Call}
-use Rattle.call_tree.specs.declared.records.Mark.TheVariants.{Unjudged}
-use Rattle.answer_book.specs.declared.entries.BookFault.{BookFault}
-use Rattle.answer_book.specs.declared.entries.BookFault.TheVariants as fault
-use Rattle.answer_book.specs.declared.entries.Entry.{Entry}
-use Rattle.answer_book.specs.declared.entries.Judgement.{Judgement}
-use Rattle.answer_book.specs.declared.entries.Judgement.TheVariants.{Wrong}
-use Rattle.answer_book.specs.declared.entries.What.{What}
-use Rattle.answer_book.specs.declared.entries.What.TheVariants.{Judged, Trusted}
-use Rattle.answer_book.specs.Accused.{accused_of, is_wrong}
-use Rattle.answer_book.specs.Answers.{Answers, judge_answer, new_book, next_number, number_or_fault, take_back_answer, take_back_last_answer}
-use Rattle.answer_book.specs.Answers.{with_answer, without_answer}
-use Rattle.answer_book.specs.Entries.{entries_with, entries_without, entry_at, entry_saying, first_entries, is_standing, is_standing_entry, last_standing}
-use Rattle.answer_book.specs.Entries.{standing_answers, with_taken_back}
-use Rattle.answer_book.specs.InRange.{IsInRange}
-use Rattle.answer_book.specs.Marks.{is_trusted, last_judgement, mark_given, mark_of, marks_of}
+use Rattle.std.proofs.lemmas.{Bool.cases_eq, Bool.false≢true, Bool.leb-false, Option.same_Some, Option.slice_get-get_or, Option.slice_get_within}
+use Rattle.std.proofs.lemmas.List.{get_or-replicate, length-map, length-replicate, length-set, FromFn.fill_by_all, FromFn.length-map-range_with_len}
+use Rattle.call_tree.specs.{Recording.Recording, Recording.routines_of, declared.records.Call.Call, declared.records.Mark.TheVariants.Unjudged}
+use Rattle.subtree_weights.specs.{RunColumns.Columns, RunColumns.columns_of, Searched.mark_at, Weighed.Weighed, Weighed.call_count, Weighed.unjudged}
+use Rattle.answer_book.{proofs.KeptLemmas.column_set, proofs.LastWhere.last_where_is, specs.Entries.standing_answers, specs.Entries.with_taken_back}
 use Rattle.answer_book.proofs.EntryLemmas.{answers_with, in_another, last_with_other, on_another, trusted_with}
-use Rattle.answer_book.proofs.KeptLemmas.{column_set}
-use Rattle.answer_book.proofs.LastWhere.{last_where_is}
 use Rattle.answer_book.proofs.WithdrawnLemmas.{entry_is_withdrawn, same_judgement, same_trust}
-use Rattle.optimal_query.specs.Changed.{ChangesCallsOf, ChangesOne, WereMarks}
-use Rattle.optimal_query.specs.DebugKept.{AreKept}
+use Rattle.answer_book.specs.{Accused.accused_of, Accused.is_wrong, Answers.without_answer, InRange.IsInRange}
+use Rattle.answer_book.specs.Answers.{Answers, judge_answer, new_book, next_number, number_or_fault, take_back_answer, take_back_last_answer, with_answer}
+use Rattle.answer_book.specs.Entries.{entries_with, entries_without, entry_at, entry_saying, first_entries, is_standing, is_standing_entry, last_standing}
+use Rattle.answer_book.specs.Marks.{is_trusted, last_judgement, mark_given, mark_of, marks_of}
+use Rattle.answer_book.specs.declared.entries.{BookFault.BookFault, Entry.Entry, Judgement.Judgement, Judgement.TheVariants.Wrong}
+use Rattle.answer_book.specs.declared.entries.What.{What, TheVariants.Judged, TheVariants.Trusted}
 use Rattle.optimal_query.proofs.OneMoreAnswer.{accused_is_last, at_mark, old_mark}
-use Rattle.subtree_weights.specs.RunColumns.{Columns, columns_of}
-use Rattle.subtree_weights.specs.Searched.{mark_at}
-use Rattle.subtree_weights.specs.Weighed.{Weighed, call_count, unjudged}
+use Rattle.optimal_query.specs.{Changed.ChangesCallsOf, Changed.ChangesOne, Changed.WereMarks, DebugKept.AreKept}
 
 -- the columns of calls are of one length
 pub one_length : (calls : List Call) {routine : List ℕ} {columns : Columns} → routines_of calls ≡ routine → columns_of calls ≡ columns
@@ -54,7 +37,7 @@ accused_known run book weighed kept call h =
     omega (arith, found.inside, kept_length run book weighed kept)
 
 judged_by : (book : Answers) (call number : ℕ) (b : Bool) → nat_le (length book.routine) call ≡ b
-    → cond b (Err (fault.NoCall call)) (next_number book.entries) ≡ Ok number → call < length book.routine
+    → cond b (Err (BookFault.NoCall call)) (next_number book.entries) ≡ Ok number → call < length book.routine
 judged_by book call number true is h = absurd (let l : ⊥ = cc in l)
 judged_by book call number false is h = leb-false (length book.routine) call is
 
@@ -182,7 +165,7 @@ pub entry_before : (entries : List Entry) (number : ℕ) (after : Entry) → is_
     → entry_at (entries_without entries number) number ≡ Some after → entry_at entries number ≡ Some (entry_saying after.what)
 entry_before entries number after stands found = said_before entries number (entry_at entries number) after refl stands found
 
-taken_by : (number : ℕ) (b : Bool) → ◌≡◌ {A = Result (Unit {0}) BookFault} (cond b (Ok tt) (Err (fault.NotStanding number))) (Ok tt) → b ≡ true
+taken_by : (number : ℕ) (b : Bool) → ◌≡◌ {A = Result (Unit {0}) BookFault} (cond b (Ok tt) (Err (BookFault.NotStanding number))) (Ok tt) → b ≡ true
 taken_by number true h = refl
 taken_by number false h = absurd (let l : ⊥ = cc in l)
 

@@ -1,17 +1,11 @@
 -- The entries that a search begins with are those that their acts give, and they stand unless a command takes them back.
-use Rattle.std.proofs.Common.{◌≡◌, ◌≢◌, ℕ, suc, ◌+◌, ◌<◌, ◌≤◌, Bool, true, false, ◌||◌, if◌then◌else◌, List, [], ◌∷◌, length, refl, sym, ap, ◌∙◌, arith}
-use Rattle.std.specs.Prelude.{not}
-use Rattle.std.specs.List.{filter_map}
-use Rattle.std.proofs.lemmas.Bool.{eq-eqb, ne_eqb}
-use Rattle.std.proofs.lemmas.List.{length-map}
-use Rattle.answer_book.specs.declared.entries.Entry.{Entry}
-use Rattle.answer_book.specs.Entries.{said_by}
-use Rattle.call_tree.specs.declared.records.Call.{Call}
-use Rattle.call_tree.specs.Recording.{routines_of}
-use Rattle.optimal_query.specs.Accepted.{CommandAct, GivenEntriesStandUnlessTakenBack, TookBack, acts_from, acts_giving, acts_since, is_taken_back}
-use Rattle.optimal_query.specs.Accepted.{number_made}
-use Rattle.optimal_query.specs.Search.{search_over}
+use Rattle.std.proofs.Common.{if◌then◌else◌, ◌+◌, ◌<◌, ◌||◌, ◌∙◌, ◌∷◌, ◌≡◌, ◌≢◌, ◌≤◌, [], ℕ, Bool, List, ap, arith, false, length, not, refl, suc, sym, true}
+use Rattle.std.{proofs.lemmas.Bool.eq-eqb, proofs.lemmas.Bool.ne_eqb, proofs.lemmas.List.length-map, specs.List.filter_map}
+use Rattle.call_tree.specs.{Recording.routines_of, declared.records.Call.Call}
+use Rattle.answer_book.specs.{Entries.said_by, declared.entries.Entry.Entry}
 use Rattle.optimal_query.proofs.StandUnlessTakenBack.{AreNumbered, Follow, entries_by, entry, follow_commands, said_alike}
+use Rattle.optimal_query.specs.Accepted.{CommandAct, GivenEntriesStandUnlessTakenBack, TookBack, acts_from, acts_giving, acts_since, is_taken_back, number_made}
+use Rattle.optimal_query.specs.Search.{search_over}
 
 -- what follows the making of an entry
 abbrev and_if : (number : ℕ) → (standing : Bool) → List CommandAct → List CommandAct

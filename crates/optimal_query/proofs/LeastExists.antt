@@ -1,12 +1,10 @@
 -- There is a question wherever there is a suspect.
-use Rattle.std.proofs.Common.{◌≡◌, ℕ, suc, ◌<◌, ◌≤◌, Bool, true, false, cond, ◌&&◌, List, [], ◌∷◌, length, Option, Some, None, inl, inr, refl, ap, ◌∙◌, arith}
-use Rattle.std.specs.Prelude.{All, Contains, find, nat_le}
-use Rattle.std.specs.List.{AllByRecursion, list_all}
-use Rattle.std.proofs.lemmas.Bool.{both_ways, cases_order, le-leb}
-use Rattle.std.proofs.lemmas.List.Elements.{All-contains, All-from_recursion, All-head, All-tail}
-use Rattle.std.proofs.lemmas.List.Sums.{count_by-le-length}
-use Rattle.optimal_query.specs.Question.{leaves_least, left_of, question_of, weight_of}
+use Rattle.std.proofs.Common.{◌&&◌, ◌<◌, ◌∙◌, ◌∷◌, ◌≡◌, ◌≤◌, [], ℕ, All, Bool, Contains, List, None, Option, Some, ap, arith, cond, false, find, inl, inr}
+use Rattle.std.proofs.Common.{length, nat_le, refl, suc, true}
+use Rattle.std.{proofs.lemmas.Bool.both_ways, proofs.lemmas.Bool.cases_order, proofs.lemmas.Bool.le-leb, specs.List.AllByRecursion, specs.List.list_all}
+use Rattle.std.proofs.lemmas.List.{Elements.All-contains, Elements.All-from_recursion, Elements.All-head, Elements.All-tail, Sums.count_by-le-length}
 use Rattle.subtree_weights.specs.Searched.{is_in}
+use Rattle.optimal_query.specs.Question.{leaves_least, left_of, question_of, weight_of}
 
 -- an element with the least value
 pub record Least (value : ℕ → ℕ) (xs : List ℕ) : Type 0 where

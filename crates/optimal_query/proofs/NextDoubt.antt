@@ -1,20 +1,14 @@
 -- The calls below the accused in order, and the next doubt among them.
-use Rattle.std.proofs.Common.{◌≡◌, ℕ, ◌+◌, ◌<◌, ◌≤◌, Bool, true, false, cond, ◌&&◌, List, length, Option, Some, None, inl, inr, refl, sym, ap, ◌∙◌}
-use Rattle.std.proofs.Common.{arith}
-use Rattle.std.specs.Prelude.{find, slice_index}
+use Rattle.std.proofs.Common.{◌&&◌, ◌+◌, ◌<◌, ◌∙◌, ◌≡◌, ◌≤◌, ℕ, Bool, List, None, Option, Some, ap, arith, cond, false, find, inl, inr, length, refl}
+use Rattle.std.proofs.{Common.slice_index, Common.sym, Common.true, lemmas.Bool.and_from, lemmas.Bool.and_parts, lemmas.Bool.both_ways}
 use Rattle.std.specs.Option.{ForSome}
-use Rattle.std.proofs.lemmas.Bool.{and_from, and_parts, both_ways}
-use Rattle.call_tree.specs.Numbering.{IsNumbered}
-use Rattle.call_tree.specs.declared.records.Mark.{Mark}
-use Rattle.call_tree.specs.declared.records.Mark.TheVariants.{Unjudged, Right, Wrong, Unknown, Trusted}
-use Rattle.call_tree.specs.Clear.{is_clear, is_unknown}
-use Rattle.answer_book.specs.Numbers.{numbers_below}
-use Rattle.optimal_query.specs.Nested.{AreNested, end_below, start_below}
-use Rattle.optimal_query.specs.Region.{doubts_of, is_after, next_after}
+use Rattle.call_tree.specs.{Clear.is_clear, Clear.is_unknown, Numbering.IsNumbered, declared.records.Mark.Mark}
+use Rattle.call_tree.specs.declared.records.Mark.TheVariants.{Right, Trusted, Unjudged, Unknown, Wrong}
 use Rattle.subtree_weights.specs.Searched.{is_below, is_searched, mark_at}
-use Rattle.optimal_query.proofs.BestOfRuns.{cases_lt}
-use Rattle.optimal_query.proofs.PassingNumbers.{find_filter, first_from, none_to_find}
+use Rattle.answer_book.specs.Numbers.{numbers_below}
+use Rattle.optimal_query.proofs.{BestOfRuns.cases_lt, PassingNumbers.find_filter, PassingNumbers.first_from, PassingNumbers.none_to_find}
 use Rattle.optimal_query.proofs.Searched.{Searched, below_from, below_parts, doubts_are, is_marked, nested, searched_from, searched_parts}
+use Rattle.optimal_query.specs.{Nested.AreNested, Nested.end_below, Nested.start_below, Region.doubts_of, Region.is_after, Region.next_after}
 
 pub are_nested : (parent : List (Option ℕ)) (last : List ℕ) → IsNumbered parent last → AreNested last
 are_nested parent last numbered = record {

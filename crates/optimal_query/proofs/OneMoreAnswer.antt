@@ -1,34 +1,19 @@
 -- How one more judgement on a suspect changes the marks, the accused and the suspects.
-use Rattle.std.proofs.Common.{◌≡◌, ℕ, ◌<◌, ◌≤◌, Bool, true, false, not, ◌&&◌, List, [], ◌∷◌, ◌++◌, length, Option, Some, None, inl, inr, refl, sym}
-use Rattle.std.proofs.Common.{ap, ◌∙◌, append-nil, arith}
-use Rattle.std.proofs.Math.Bool.{or-false}
-use Rattle.std.specs.Prelude.{◌==◌, filter, slice_index}
-use Rattle.std.specs.List.{filter_map}
-use Rattle.std.proofs.lemmas.Bool.{and_from, and_parts, both_ways, cases_eq, cases_order, cond-false, cond-true, eq-eqb, eqb-false}
-use Rattle.std.proofs.lemmas.Bool.{false_from_ne_true, ne_eqb, not-true, not_from_false}
-use Rattle.std.proofs.lemmas.List.Elements.{filter_map-append}
-use Rattle.std.proofs.lemmas.List.Folds.{list_any-append}
-use Rattle.std.proofs.lemmas.List.FromFn.{get_or-map-range_with_len}
-use Rattle.std.proofs.lemmas.List.Sums.{length-filter}
-use Rattle.call_tree.specs.Numbering.{IsNumbered}
-use Rattle.call_tree.specs.declared.records.Mark.{Mark}
-use Rattle.call_tree.specs.declared.records.Mark.TheVariants.{Unjudged}
-use Rattle.answer_book.specs.declared.entries.Judgement.{Judgement}
-use Rattle.answer_book.specs.declared.entries.Judgement.TheVariants.{Wrong}
-use Rattle.answer_book.specs.declared.entries.What.{What}
-use Rattle.answer_book.specs.declared.entries.What.TheVariants.{Judged}
-use Rattle.answer_book.specs.Accused.{accused_of, is_wrong}
-use Rattle.call_tree.specs.Clear.{is_clear}
-use Rattle.answer_book.specs.Marks.{is_trusted, judgement_on, last_judgement, mark_by, mark_given, mark_of, marks_of, trusts}
-use Rattle.answer_book.specs.Numbers.{last_of, last_where, numbers_below}
+use Rattle.std.proofs.Common.{◌&&◌, ◌++◌, ◌<◌, ◌==◌, ◌∙◌, ◌∷◌, ◌≡◌, ◌≤◌, [], ℕ, Bool, List, None, Option, Some, ap, append-nil, arith, false, filter, inl, inr}
+use Rattle.std.proofs.Common.{length, not, refl, slice_index, sym, true}
+use Rattle.std.{proofs.Math.Bool.or-false, proofs.lemmas.Bool.not-true, proofs.lemmas.Bool.not_from_false, specs.List.filter_map}
+use Rattle.std.proofs.lemmas.Bool.{and_from, and_parts, both_ways, cases_eq, cases_order, cond-false, cond-true, eq-eqb, eqb-false, false_from_ne_true, ne_eqb}
+use Rattle.std.proofs.lemmas.List.{Elements.filter_map-append, Folds.list_any-append, FromFn.get_or-map-range_with_len, Sums.length-filter}
+use Rattle.call_tree.specs.{Clear.is_clear, Numbering.IsNumbered, declared.records.Mark.Mark, declared.records.Mark.TheVariants.Unjudged}
+use Rattle.subtree_weights.specs.Searched.{is_below, is_in, is_searched, mark_at}
 use Rattle.answer_book.proofs.FilterMaps.{gives_none, gives_one}
 use Rattle.answer_book.proofs.LastWhere.{last_of_more, last_where_from, last_where_is, last_where_same, none_passes_where}
-use Rattle.optimal_query.specs.Laws.{judged}
-use Rattle.optimal_query.specs.Question.{weight_of}
-use Rattle.subtree_weights.specs.Searched.{is_below, is_in, is_searched, mark_at}
-use Rattle.optimal_query.proofs.PassingNumbers.{filter_filter, same_test}
-use Rattle.optimal_query.proofs.Searched.{Covers, Searched, below_between, below_deeper, below_from, below_parts, in_from, in_parts}
-use Rattle.optimal_query.proofs.Searched.{searched_from, searched_parts}
+use Rattle.answer_book.specs.{Accused.accused_of, Accused.is_wrong, Numbers.last_of, Numbers.last_where, Numbers.numbers_below}
+use Rattle.answer_book.specs.Marks.{is_trusted, judgement_on, last_judgement, mark_by, mark_given, mark_of, marks_of, trusts}
+use Rattle.answer_book.specs.declared.entries.{Judgement.Judgement, Judgement.TheVariants.Wrong, What.What, What.TheVariants.Judged}
+use Rattle.optimal_query.proofs.{PassingNumbers.filter_filter, PassingNumbers.same_test, Searched.searched_parts}
+use Rattle.optimal_query.proofs.Searched.{Covers, Searched, below_between, below_deeper, below_from, below_parts, in_from, in_parts, searched_from}
+use Rattle.optimal_query.specs.{Laws.judged, Question.weight_of}
 
 -- marks in the column are those of the answers
 pub at_mark : (routine : List ℕ) (answers : List What) (call : ℕ) → call < length routine

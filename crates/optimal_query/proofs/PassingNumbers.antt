@@ -1,15 +1,10 @@
 -- The first numbers that pass a test: which they are, the first of them, whether there is one, and how many.
-use Rattle.std.proofs.Common.{◌≡◌, ℕ, zero, suc, ◌+◌, ◌<◌, ◌≤◌, Bool, true, false, cond, ◌&&◌, ◌||◌, List, [], ◌∷◌, ◌++◌, length, length-append, get_or}
-use Rattle.std.proofs.Common.{Option, Some, None, inl, inr, refl, sym, ap, ◌∙◌, append-nil, arith}
-use Rattle.std.proofs.Math.Bool.{or-false}
-use Rattle.std.specs.Prelude.{All, Contains, find, filter, count_by}
-use Rattle.std.specs.List.{list_any, range_with_len}
-use Rattle.std.proofs.lemmas.Bool.{cases_eq, cases_order, false≢true, true≢false}
+use Rattle.std.proofs.Common.{◌&&◌, ◌++◌, ◌+◌, ◌<◌, ◌||◌, ◌∙◌, ◌∷◌, ◌≡◌, ◌≤◌, [], ℕ, All, Bool, Contains, List, None, Option, Some, ap, append-nil, arith, cond}
+use Rattle.std.proofs.Common.{count_by, false, filter, find, get_or, inl, inr, length, length-append, refl, suc, sym, true, zero}
+use Rattle.std.{proofs.Math.Bool.or-false, specs.List.list_any, specs.List.range_with_len}
+use Rattle.std.proofs.lemmas.{Bool.cases_eq, Bool.cases_order, Bool.false≢true, Bool.true≢false, List.Folds.list_any_at, List.Folds.list_any_none}
+use Rattle.std.proofs.lemmas.{List.FromFn.get_or-range_with_len, List.FromFn.length-range_with_len, List.Recursion.or_push, List.Sums.sum_by-cons}
 use Rattle.std.proofs.lemmas.List.Elements.{All-contains, All-filter, All-from_get_or, Contains-append_left, Contains-push, filter-append, filter_passes}
-use Rattle.std.proofs.lemmas.List.Folds.{list_any_at, list_any_none}
-use Rattle.std.proofs.lemmas.List.FromFn.{get_or-range_with_len, length-range_with_len}
-use Rattle.std.proofs.lemmas.List.Recursion.{or_push}
-use Rattle.std.proofs.lemmas.List.Sums.{sum_by-cons}
 use Rattle.answer_book.specs.Numbers.{numbers_below}
 
 range_more : (a n j : ℕ) → a + n ≡ j → range_with_len a (suc n) ≡ range_with_len a n ++ j ∷ []

@@ -1,21 +1,15 @@
 -- The best of the calls that may be asked about is the question.
-use Rattle.std.proofs.Common.{◌≡◌, ℕ, ◌-◌, ◌<◌, ◌≤◌, max, Bool, true, false, ◌&&◌, List, [], ◌∷◌, length, get_or, Option, Some, None}
-use Rattle.std.proofs.Common.{refl, ap, ◌∙◌, arith}
-use Rattle.std.specs.Prelude.{All, find, nat_le, slice_index}
-use Rattle.std.specs.List.{list_all}
+use Rattle.std.proofs.Common.{◌&&◌, ◌-◌, ◌<◌, ◌∙◌, ◌∷◌, ◌≡◌, ◌≤◌, [], ℕ, All, Bool, List, None, Option, Some, ap, arith, false, find, get_or, length, max}
+use Rattle.std.{proofs.Common.nat_le, proofs.Common.refl, proofs.Common.slice_index, proofs.Common.true, specs.List.list_all}
 use Rattle.std.proofs.lemmas.Bool.{and_from, and_left, and_right, le-leb, lt-leb}
-use Rattle.std.proofs.lemmas.List.Elements.{All-head, All-tail, Contains-get_or}
-use Rattle.std.proofs.lemmas.List.Folds.{list_all_at}
-use Rattle.call_tree.specs.declared.records.Mark.{Mark}
-use Rattle.call_tree.specs.Clear.{is_unjudged}
+use Rattle.std.proofs.lemmas.List.{Elements.All-head, Elements.All-tail, Elements.Contains-get_or, Folds.list_all_at}
+use Rattle.call_tree.specs.{Clear.is_unjudged, declared.records.Mark.Mark}
+use Rattle.weight_lanes.specs.{Places.left_at, declared.choice.Choice.Choice}
 use Rattle.answer_book.specs.Numbers.{numbers_below}
-use Rattle.weight_lanes.specs.declared.choice.Choice.{Choice}
-use Rattle.weight_lanes.specs.Places.{left_at}
-use Rattle.optimal_query.specs.Question.{leaves_least, left_of, question_of, weight_of}
-use Rattle.optimal_query.specs.Region.{suspects_of}
-use Rattle.optimal_query.specs.Runs.{Field, IsBestAmong, IsBestFrom, MayBeAsked}
 use Rattle.optimal_query.proofs.PassingNumbers.{IsFirstFrom, find_filter, first_from, none_filtered}
 use Rattle.optimal_query.proofs.Searched.{is_marked, passes_of, suspect_contains, suspects_are}
+use Rattle.optimal_query.specs.{Region.suspects_of, Runs.Field, Runs.IsBestAmong, Runs.IsBestFrom, Runs.MayBeAsked}
+use Rattle.optimal_query.specs.Question.{leaves_least, left_of, question_of, weight_of}
 
 -- the field is that of the suspects: those of its calls that are open, with their weights
 pub record Describes (field : Field) (marks : List Mark) (accused : Option ℕ) : Type 0 where

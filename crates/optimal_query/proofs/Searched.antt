@@ -1,18 +1,14 @@
 -- What it takes to be searched, and to be a suspect or a doubt.
-use Rattle.std.proofs.Common.{◌≡◌, ℕ, zero, suc, ◌+◌, ◌<◌, ◌≤◌, Bool, true, false, not, ◌&&◌, List, length, Option, Some, None, inl, inr, refl, ap, arith}
-use Rattle.std.specs.Prelude.{All, Contains, filter, nat_lt, nat_le, slice_index}
+use Rattle.std.proofs.Common.{◌&&◌, ◌+◌, ◌<◌, ◌≡◌, ◌≤◌, ℕ, All, Bool, Contains, List, None, Option, Some, ap, arith, false, filter, inl, inr, length, nat_le}
+use Rattle.std.proofs.Common.{nat_lt, not, refl, slice_index, suc, true, zero}
 use Rattle.std.proofs.lemmas.Bool.{and_from, and_parts, both_ways, cases_eq, false_from_ne_true, le-leb, leb-true, lt-ltb, ltb-true, not-true, not_from_false}
-use Rattle.std.proofs.lemmas.List.Elements.{All-filter}
-use Rattle.std.proofs.lemmas.List.FromFn.{length-range_with_len}
-use Rattle.std.proofs.lemmas.List.Sums.{count_by-le-length, length-filter}
-use Rattle.call_tree.specs.Numbering.{IsNumbered}
-use Rattle.call_tree.specs.declared.records.Mark.{Mark}
-use Rattle.call_tree.specs.declared.records.Mark.TheVariants.{Unjudged, Right, Wrong, Unknown, Trusted}
-use Rattle.call_tree.specs.Clear.{is_clear, is_unjudged, is_unknown}
-use Rattle.answer_book.specs.Numbers.{numbers_below}
-use Rattle.optimal_query.specs.Region.{doubts_of, suspects_of}
+use Rattle.std.proofs.lemmas.List.{Elements.All-filter, FromFn.length-range_with_len, Sums.count_by-le-length, Sums.length-filter}
+use Rattle.call_tree.specs.{Clear.is_clear, Clear.is_unjudged, Clear.is_unknown, Numbering.IsNumbered, declared.records.Mark.Mark}
+use Rattle.call_tree.specs.declared.records.Mark.TheVariants.{Right, Trusted, Unjudged, Unknown, Wrong}
 use Rattle.subtree_weights.specs.Searched.{covers, is_below, is_cleared, is_in, is_searched, mark_at}
+use Rattle.answer_book.specs.Numbers.{numbers_below}
 use Rattle.optimal_query.proofs.PassingNumbers.{any_below, contains_of_passes, filter_filter, none_below, numbers_inside, passes_of_contains}
+use Rattle.optimal_query.specs.Region.{doubts_of, suspects_of}
 
 -- the call `above` is clear and has the call in its subtree
 pub record Covers (last : List ℕ) (marks : List Mark) (accused : Option ℕ) (call above : ℕ) : Type 0 where

@@ -1,30 +1,21 @@
 -- The entries of a book are those that accepted commands made, and stand unless one took them back.
-use Rattle.std.proofs.Common.{◌≡◌, ◌≢◌, ℕ, zero, suc, ◌+◌, ◌-◌, ◌<◌, Bool, true, false, cond, ◌&&◌, ◌||◌, List, [], ◌∷◌, ◌++◌, Option, Some, None, length}
-use Rattle.std.proofs.Common.{refl, Ok, Err, inl, inr, sym, ap, subst, ◌∙◌, append-nil, arith}
-use Rattle.std.specs.Prelude.{not, nat_le, ◌==◌, option_map, slice_get}
-use Rattle.std.specs.List.{cons_option, filter_map, list_any}
+use Rattle.std.proofs.Common.{◌&&◌, ◌++◌, ◌+◌, ◌-◌, ◌<◌, ◌==◌, ◌||◌, ◌∙◌, ◌∷◌, ◌≡◌, ◌≢◌, [], ℕ, Bool, Err, List, None, Ok, Option, Some, ap, append-nil, arith}
+use Rattle.std.proofs.Common.{cond, false, inl, inr, length, nat_le, not, option_map, refl, slice_get, subst, suc, sym, true, zero}
 use Rattle.std.proofs.lemmas.Bool.{cases_eq, eq-eqb, ne_eqb, true≢false}
-use Rattle.std.proofs.lemmas.List.{length-map}
-use Rattle.std.proofs.lemmas.List.Elements.{filter_map-append}
-use Rattle.std.proofs.lemmas.List.Folds.{list_any-append}
-use Rattle.answer_book.specs.declared.entries.BookFault.{BookFault}
-use Rattle.answer_book.specs.declared.entries.BookFault.TheVariants as fault
-use Rattle.answer_book.specs.declared.entries.Entry.{Entry}
-use Rattle.answer_book.specs.declared.entries.Judgement.TheVariants.{Wrong}
-use Rattle.answer_book.specs.declared.entries.What.{What}
-use Rattle.answer_book.specs.declared.entries.What.TheVariants.{Judged, Trusted}
-use Rattle.answer_book.specs.Answers.{number_or_fault}
-use Rattle.answer_book.specs.Entries.{entries_with, entries_without, entry_saying, first_entries, is_standing, is_standing_entry, last_standing, said_by}
-use Rattle.answer_book.specs.Entries.{with_taken_back}
-use Rattle.answer_book.specs.Numbers.{last_where, numbers_below}
+use Rattle.std.proofs.lemmas.List.{length-map, Elements.filter_map-append, Folds.list_any-append}
+use Rattle.std.specs.List.{cons_option, filter_map, list_any}
+use Rattle.call_tree.specs.{Recording.routines_of, declared.records.Call.Call}
 use Rattle.answer_book.proofs.LastWhere.{last_where_is}
-use Rattle.call_tree.specs.declared.records.Call.{Call}
-use Rattle.call_tree.specs.Recording.{routines_of}
+use Rattle.answer_book.specs.{Answers.number_or_fault, Entries.with_taken_back, Numbers.last_where, Numbers.numbers_below}
+use Rattle.answer_book.specs.Entries.{entries_with, entries_without, entry_saying, first_entries, is_standing, is_standing_entry, last_standing, said_by}
+use Rattle.answer_book.specs.declared.entries.{BookFault.BookFault, Entry.Entry, Judgement.TheVariants.Wrong}
+use Rattle.answer_book.specs.declared.entries.BookFault.TheVariants as fault
+use Rattle.answer_book.specs.declared.entries.What.{What, TheVariants.Judged, TheVariants.Trusted}
+use Rattle.optimal_query.proofs.WhatStands.{same_after_command}
 use Rattle.optimal_query.specs.Accepted.{CommandAct, EntriesStandUnlessTakenBack, Made, TookBack, act_of, acts_after, acts_in, and_then, entries_after}
 use Rattle.optimal_query.specs.Accepted.{entry_unless, is_taken_back, made, number_made, said_unless, stands, took_back}
 use Rattle.optimal_query.specs.Search.{Search, new_search, search_with, search_without}
 use Rattle.optimal_query.specs.Standing.{Command, Judge, TakeBack, TakeBackLast, Trust, after_command, after_commands, if_accepted, search_taken_back}
-use Rattle.optimal_query.proofs.WhatStands.{same_after_command}
 
 -- the entries are numbered from `from` on, in order
 abbrev pub AreNumbered : ℕ → List CommandAct → Type 0

@@ -1,28 +1,18 @@
 -- What each state of the search says.
-use Rattle.std.proofs.Common.{◌≡◌, ℕ, ◌<◌, ◌≤◌, Bool, true, false, ◌&&◌, List, [], ◌∷◌, length, get_or, Option, Some, None, inl, inr, refl, sym}
-use Rattle.std.proofs.Common.{ap, ◌∙◌, arith}
-use Rattle.std.specs.Prelude.{◌≢◌, Contains, filter, find, nat_le, slice_index}
-use Rattle.std.specs.List.{list_all}
+use Rattle.std.proofs.Common.{◌&&◌, ◌<◌, ◌∙◌, ◌∷◌, ◌≡◌, ◌≢◌, ◌≤◌, [], ℕ, Bool, Contains, List, None, Option, Some, ap, arith, false, filter, find, get_or, inl}
+use Rattle.std.proofs.Common.{inr, length, nat_le, refl, slice_index, sym, true}
+use Rattle.std.{proofs.lemmas.List.Elements.Contains-get_or, proofs.lemmas.List.Folds.list_all_at, specs.List.list_all}
 use Rattle.std.proofs.lemmas.Bool.{and_from, and_parts, both_ways, cases_order, leb-true}
-use Rattle.std.proofs.lemmas.List.Elements.{Contains-get_or}
-use Rattle.std.proofs.lemmas.List.Folds.{list_all_at}
-use Rattle.answer_book.specs.declared.entries.Judgement.{Judgement}
-use Rattle.answer_book.specs.declared.entries.Judgement.TheVariants.{Right, Wrong, Unknown}
-use Rattle.answer_book.specs.declared.entries.What.{What}
-use Rattle.answer_book.specs.Accused.{accused_of}
 use Rattle.call_tree.specs.Clear.{is_unjudged}
-use Rattle.answer_book.specs.Marks.{marks_of}
-use Rattle.answer_book.specs.Numbers.{numbers_below}
-use Rattle.optimal_query.specs.declared.state.SearchState.{SearchState}
-use Rattle.optimal_query.specs.declared.state.SearchState.TheVariants.{Ask}
-use Rattle.optimal_query.specs.Laws.{IsCallTree, CallTree, IsAsked, IsOptimal, doubts_in, left_after, state_in, suspects_in, worse_leaves}
-use Rattle.optimal_query.specs.Question.{leaves_least, left_of, question_of, weight_of}
 use Rattle.subtree_weights.specs.Searched.{is_in}
-use Rattle.optimal_query.specs.State.{state_by, state_with, verdict_by}
-use Rattle.optimal_query.proofs.AnswersLeave.{answers_leave}
-use Rattle.optimal_query.proofs.LeastExists.{at_most_all}
+use Rattle.answer_book.specs.{Accused.accused_of, Marks.marks_of, Numbers.numbers_below, declared.entries.What.What}
+use Rattle.answer_book.specs.declared.entries.Judgement.{Judgement, TheVariants.Right, TheVariants.Unknown, TheVariants.Wrong}
+use Rattle.optimal_query.proofs.{AnswersLeave.answers_leave, LeastExists.at_most_all}
 use Rattle.optimal_query.proofs.PassingNumbers.{contains_of_passes, counts_one, find_filter, first_is, passes_of_contains}
 use Rattle.optimal_query.proofs.Searched.{in_from, is_marked, suspected_of, suspects_are}
+use Rattle.optimal_query.specs.{Question.leaves_least, Question.left_of, Question.question_of, Question.weight_of, State.state_by, State.state_with}
+use Rattle.optimal_query.specs.{State.verdict_by, declared.state.SearchState.SearchState, declared.state.SearchState.TheVariants.Ask}
+use Rattle.optimal_query.specs.Laws.{CallTree, IsAsked, IsCallTree, IsOptimal, doubts_in, left_after, state_in, suspects_in, worse_leaves}
 
 -- what a state of the search is made of
 pub record Parts (calls : CallTree) (answers : List What) (state : SearchState) : Type 0 where

@@ -1,36 +1,22 @@
 -- What the weights tell of the suspects.
-use Rattle.std.proofs.Common.{◌≡◌, ◌≢◌, ◌⊎◌, ℕ, zero, suc, ◌<◌, ◌≤◌, true, false, ◌&&◌, List, [], ◌∷◌, length, map, Option, Some, None}
-use Rattle.std.proofs.Common.{inl, inr, refl, sym, ap, ◌∙◌, get_or, arith}
-use Rattle.std.specs.Prelude.{filter, slice_index}
-use Rattle.std.specs.Option.{ForSome}
-use Rattle.std.proofs.lemmas.Bool.{and_from, and_parts, both_ways, cases_eq}
-use Rattle.std.proofs.lemmas.List.{length-map}
-use Rattle.std.proofs.lemmas.List.FromFn.{get_or-map-range_with_len, length-map-range_with_len}
-use Rattle.std.proofs.lemmas.List.Sums.{length-filter}
-use Rattle.call_tree.specs.Numbering.{IsNumbered}
-use Rattle.call_tree.specs.declared.records.Mark.{Mark}
-use Rattle.call_tree.specs.declared.records.Mark.TheVariants.{Unjudged, Right, Wrong, Unknown, Trusted}
-use Rattle.call_tree.specs.Clear.{is_clear, is_unjudged}
-use Rattle.answer_book.specs.Numbers.{numbers_below}
-use Rattle.weight_lanes.specs.declared.choice.Choice.{Choice}
-use Rattle.weight_lanes.specs.Places.{left_at}
-use Rattle.subtree_weights.specs.Sums.{SuspectsAreWeighed}
+use Rattle.std.proofs.Common.{◌&&◌, ◌<◌, ◌∙◌, ◌∷◌, ◌≡◌, ◌≢◌, ◌≤◌, ◌⊎◌, [], ℕ, List, None, Option, Some, ap, arith, false, filter, get_or, inl, inr, length, map}
+use Rattle.std.proofs.Common.{refl, slice_index, suc, sym, true, zero}
+use Rattle.std.{proofs.lemmas.Bool.and_from, proofs.lemmas.Bool.and_parts, proofs.lemmas.Bool.both_ways, proofs.lemmas.Bool.cases_eq, specs.Option.ForSome}
+use Rattle.std.proofs.lemmas.List.{length-map, FromFn.get_or-map-range_with_len, FromFn.length-map-range_with_len, Sums.length-filter}
+use Rattle.call_tree.specs.{Clear.is_clear, Clear.is_unjudged, Numbering.IsNumbered, declared.records.Mark.Mark}
+use Rattle.call_tree.specs.declared.records.Mark.TheVariants.{Right, Trusted, Unjudged, Unknown, Wrong}
+use Rattle.weight_lanes.specs.{Places.left_at, declared.choice.Choice.Choice}
+use Rattle.subtree_weights.specs.{Searched.is_below, Searched.is_in, Searched.is_searched, Searched.mark_at, Sums.SuspectsAreWeighed}
 use Rattle.subtree_weights.specs.Weights.{suspects_below, under_of, weight_by, weight_of as weight_in_tree, weights_of}
-use Rattle.optimal_query.specs.declared.state.SearchState.TheVariants.{Ask}
-use Rattle.optimal_query.specs.Markings.{askable_flag, verdict_from}
-use Rattle.optimal_query.specs.Nested.{end_below, start_below}
-use Rattle.optimal_query.specs.Question.{question_of, weight_of}
-use Rattle.optimal_query.specs.Region.{doubts_of, next_after, suspects_of}
-use Rattle.subtree_weights.specs.Searched.{is_below, is_in, is_searched, mark_at}
-use Rattle.optimal_query.specs.Runs.{Field, IsBestAmong, IsField, MayBeAsked, field_of}
-use Rattle.optimal_query.specs.State.{state_by, state_with, verdict_by}
-use Rattle.optimal_query.proofs.BestOfRuns.{cases_lt}
-use Rattle.optimal_query.proofs.LeastExists.{at_most_all}
+use Rattle.answer_book.specs.Numbers.{numbers_below}
+use Rattle.optimal_query.proofs.{BestOfRuns.cases_lt, LeastExists.at_most_all, OneMoreAnswer.weight_is, PassingNumbers.none_passes, PassingNumbers.nothing_from}
 use Rattle.optimal_query.proofs.NextDoubt.{are_nested, below_of_bounds, bounds_of_below, end_inside, ends_inside, start_before_end}
-use Rattle.optimal_query.proofs.OneMoreAnswer.{weight_is}
-use Rattle.optimal_query.proofs.PassingNumbers.{none_passes, nothing_from}
 use Rattle.optimal_query.proofs.QuestionFound.{Describes, no_question_left, question_is_best}
 use Rattle.optimal_query.proofs.Searched.{Searched, below_from, below_parts, is_marked, searched_from, searched_parts, suspects_are}
+use Rattle.optimal_query.specs.{Markings.askable_flag, Markings.verdict_from, Nested.end_below, Nested.start_below, Question.question_of, Question.weight_of}
+use Rattle.optimal_query.specs.{State.state_by, State.state_with, State.verdict_by, declared.state.SearchState.TheVariants.Ask}
+use Rattle.optimal_query.specs.Region.{doubts_of, next_after, suspects_of}
+use Rattle.optimal_query.specs.Runs.{Field, IsBestAmong, IsField, MayBeAsked, field_of}
 
 -- a call weighs nothing where it is clear, or where it is judged and no suspect stands under it
 nothing_by : (mark : Mark) (under : ℕ) → weight_by mark under ≡ 0 → (is_clear mark ≡ true) ⊎ ((is_unjudged mark ≡ false) × (under ≡ 0))

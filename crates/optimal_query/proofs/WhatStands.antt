@@ -1,16 +1,11 @@
 -- No command changes the columns of a search.
-use Rattle.std.proofs.Common.{◌≡◌, ℕ, List, [], ◌∷◌, Result, Ok, Err, refl, ap, ◌∙◌}
-use Rattle.answer_book.specs.declared.entries.BookFault.{BookFault}
-use Rattle.answer_book.specs.declared.entries.What.TheVariants.{Judged, Trusted}
-use Rattle.answer_book.specs.Answers.{judge_answer, take_back_answer, take_back_last_answer, trust_answer}
-use Rattle.answer_book.specs.Marks.{marks_of}
+use Rattle.std.proofs.Common.{◌∙◌, ◌∷◌, ◌≡◌, [], ℕ, Err, List, Ok, Result, ap, refl}
 use Rattle.call_tree.specs.Recording.{lasts_of}
-use Rattle.optimal_query.specs.Region.{next_after}
+use Rattle.answer_book.specs.{Answers.judge_answer, Answers.take_back_answer, Answers.take_back_last_answer, Answers.trust_answer, Marks.marks_of}
+use Rattle.answer_book.specs.declared.entries.{BookFault.BookFault, What.TheVariants.Judged, What.TheVariants.Trusted}
+use Rattle.optimal_query.specs.{Region.next_after, Standing.if_accepted, Standing.search_taken_back, Standing.searched, State.doubts_after, State.state_of}
 use Rattle.optimal_query.specs.Search.{Search, new_search, search_with, search_without}
-use Rattle.optimal_query.specs.Standing.{Command, Judge, Trust, TakeBack, TakeBackLast, after_command, after_commands}
-use Rattle.optimal_query.specs.Standing.{SearchDependsOnWhatStands, answers_after, if_accepted}
-use Rattle.optimal_query.specs.Standing.{searched, search_taken_back}
-use Rattle.optimal_query.specs.State.{doubts_after, state_of}
+use Rattle.optimal_query.specs.Standing.{Command, Judge, SearchDependsOnWhatStands, TakeBack, TakeBackLast, Trust, after_command, after_commands, answers_after}
 
 pub record SameColumns (after before : Search) : Type 0 where
   pub last : after.last ≡ before.last

@@ -1,17 +1,14 @@
 -- What a list of commands leaves standing, read from the commands that were accepted: an entry stands if no accepted
 -- command took it back. No list of entries with flags is kept here, as a book keeps one.
-use Rattle.std.specs.Prelude.{◌≡◌, ℕ, Bool, true, false, not, ◌+◌, ◌==◌, ◌&&◌, nat_le, if◌then◌else◌}
-use Rattle.std.specs.Prelude.{List, [], ◌∷◌, ◌++◌, Option, Some, None, filter, length, option_map}
+use Rattle.std.specs.Prelude.{if◌then◌else◌, ◌&&◌, ◌++◌, ◌+◌, ◌==◌, ◌∷◌, ◌≡◌, [], ℕ, Bool, List, None, Option, Some}
+use Rattle.std.specs.Prelude.{false, filter, length, nat_le, not, option_map, true}
 use Rattle.std.specs.List.{filter_map, list_any}
-use Rattle.answer_book.specs.declared.entries.Entry.{Entry}
-use Rattle.answer_book.specs.declared.entries.Judgement.TheVariants.{Wrong}
-use Rattle.answer_book.specs.declared.entries.What.{What}
-use Rattle.answer_book.specs.declared.entries.What.TheVariants.{Judged, Trusted}
-use Rattle.answer_book.specs.Numbers.{last_where, numbers_below}
 use Rattle.call_tree.specs.Recording.{Recording}
-use Rattle.optimal_query.specs.Search.{answers_in, search_over}
-use Rattle.optimal_query.specs.Standing.{Command, Judge, Trust, TakeBack, TakeBackLast, after_commands, answers_after}
-use Rattle.optimal_query.specs.Standing.{searched}
+use Rattle.answer_book.specs.Numbers.{last_where, numbers_below}
+use Rattle.answer_book.specs.declared.entries.{Entry.Entry, Judgement.TheVariants.Wrong}
+use Rattle.answer_book.specs.declared.entries.What.{What, TheVariants.Judged, TheVariants.Trusted}
+use Rattle.optimal_query.specs.{Search.answers_in, Search.search_over, Standing.searched}
+use Rattle.optimal_query.specs.Standing.{Command, Judge, TakeBack, TakeBackLast, Trust, after_commands, answers_after}
 
 -- what an accepted command does: it makes the entry of this number, which says this, or takes back the entry of this
 -- number

@@ -1,16 +1,12 @@
 -- What an entry changes, and what its change costs.
-use Rattle.std.specs.Prelude.{◌≡◌, ◌≢◌, ℕ, Bool, ◌+◌, ◌*◌, ◌<◌, ◌==◌, nat_le, if◌then◌else◌, List, Option, Some, None}
-use Rattle.std.specs.Prelude.{length, sum_by, slice_index, slice_set}
-use Rattle.answer_book.specs.declared.entries.Entry.{Entry}
-use Rattle.answer_book.specs.declared.entries.What.{What}
-use Rattle.answer_book.specs.declared.entries.What.TheVariants.{Judged, Trusted}
-use Rattle.answer_book.specs.Answers.{Answers}
-use Rattle.answer_book.specs.Entries.{standing_answers}
-use Rattle.answer_book.specs.Marks.{mark_of, marks_of}
-use Rattle.answer_book.specs.Numbers.{numbers_below}
+use Rattle.std.specs.Prelude.{if◌then◌else◌, ◌*◌, ◌+◌, ◌<◌, ◌==◌, ◌≡◌, ◌≢◌, ℕ, Bool, List, None, Option, Some, length}
+use Rattle.std.specs.Prelude.{nat_le, slice_index, slice_set, sum_by}
 use Rattle.call_tree.specs.declared.records.Mark.{Mark}
-use Rattle.optimal_query.specs.Search.{Search}
 use Rattle.subtree_weights.specs.Searched.{mark_at}
+use Rattle.answer_book.specs.{Answers.Answers, Entries.standing_answers, Marks.mark_of, Marks.marks_of}
+use Rattle.answer_book.specs.{Numbers.numbers_below, declared.entries.Entry.Entry}
+use Rattle.answer_book.specs.declared.entries.What.{What, TheVariants.Judged, TheVariants.Trusted}
+use Rattle.optimal_query.specs.Search.{Search}
 
 -- a judgement changes no mark but that of its call
 pub record ChangesOne (book : Answers) (marks : List Mark) (call : ℕ) : Type 0 where

@@ -1,13 +1,9 @@
 -- How a search is kept: beside the calls a book, and the marks with their weights.
-use Rattle.std.specs.Prelude.{◌≡◌, ◌<◌, [], length}
-use Rattle.answer_book.specs.Answers.{Answers}
-use Rattle.answer_book.specs.Entries.{standing_answers}
-use Rattle.answer_book.specs.Marks.{marks_of}
+use Rattle.std.specs.Prelude.{◌<◌, ◌≡◌, [], length}
 use Rattle.call_tree.specs.Recording.{Recording, depths_of, lasts_of, routines_of}
-use Rattle.optimal_query.specs.declared.search.Debug.TheInside.{Inside}
-use Rattle.optimal_query.specs.Search.{Search}
-use Rattle.subtree_weights.specs.RunColumns.{columns_of}
-use Rattle.subtree_weights.specs.Weighed.{Weighed}
+use Rattle.subtree_weights.specs.{RunColumns.columns_of, Weighed.Weighed}
+use Rattle.answer_book.specs.{Answers.Answers, Entries.standing_answers, Marks.marks_of}
+use Rattle.optimal_query.specs.{Search.Search, declared.search.Debug.TheInside.Inside}
 
 abbrev pub search_of : Inside → Search
 search_of kept = record {

@@ -1,21 +1,13 @@
 -- What holds of the search, whichever answers stand.
-use Rattle.std.specs.Prelude.{◌≡◌, ◌≢◌, ◌⊎◌, ℕ, ◌+◌, ◌<◌, ◌≤◌, true, max, All, Contains}
-use Rattle.std.specs.Prelude.{List, [], ◌∷◌, ◌++◌, Option, length}
-use Rattle.call_tree.specs.Numbering.{IsNumbered, IsParent}
-use Rattle.call_tree.specs.declared.records.Mark.{Mark}
-use Rattle.call_tree.specs.declared.records.Mark.TheVariants as mark
-use Rattle.answer_book.specs.declared.entries.Judgement.{Judgement}
-use Rattle.answer_book.specs.declared.entries.Judgement.TheVariants.{Right, Wrong, Unknown}
-use Rattle.answer_book.specs.declared.entries.What.{What}
-use Rattle.answer_book.specs.declared.entries.What.TheVariants.{Judged}
-use Rattle.answer_book.specs.Accused.{accused_of}
-use Rattle.call_tree.specs.Clear.{is_clear}
-use Rattle.answer_book.specs.Marks.{mark_of, marks_of}
-use Rattle.optimal_query.specs.declared.state.SearchState.{SearchState}
-use Rattle.optimal_query.specs.declared.state.SearchState.TheVariants.{Ask, Found, NothingWrong}
-use Rattle.optimal_query.specs.Question.{weight_of}
-use Rattle.optimal_query.specs.Region.{region_of}
+use Rattle.std.specs.Prelude.{◌++◌, ◌+◌, ◌<◌, ◌∷◌, ◌≡◌, ◌≢◌, ◌≤◌, ◌⊎◌, [], ℕ, All, Contains, List, Option, length, max}
+use Rattle.std.specs.Prelude.{true}
+use Rattle.call_tree.specs.{Clear.is_clear, Numbering.IsNumbered, Numbering.IsParent, declared.records.Mark.Mark}
+use Rattle.answer_book.specs.{Accused.accused_of, Marks.mark_of, Marks.marks_of}
+use Rattle.answer_book.specs.declared.entries.{Judgement.Judgement, What.What, What.TheVariants.Judged}
+use Rattle.answer_book.specs.declared.entries.Judgement.TheVariants.{Right, Unknown, Wrong}
+use Rattle.optimal_query.specs.{Question.weight_of, Region.region_of, declared.state.SearchState.SearchState}
 use Rattle.optimal_query.specs.State.{doubts_after, state_of, suspects_after}
+use Rattle.optimal_query.specs.declared.state.SearchState.TheVariants.{Ask, Found, NothingWrong}
 
 -- the columns of the calls of a run: the parent of each call, the last call of its subtree, and its routine
 pub record CallTree : Type 0 where
@@ -100,7 +92,7 @@ QuestionIsLeast =
 -- ask, and nothing is in doubt
 pub record IsAtFault (calls : CallTree) (answers : List What) (call : ℕ) : Type 0 where
   pub a_call : call < length calls.last
-  pub judged_wrong : mark_in calls answers call ≡ mark.Wrong
+  pub judged_wrong : mark_in calls answers call ≡ Mark.Wrong
   pub children_clear : (child : ℕ) → IsParent calls.parent call child → is_clear (mark_in calls answers child) ≡ true
   pub no_suspect : suspects_in calls answers ≡ []
   pub no_doubt : doubts_in calls answers ≡ []
@@ -112,7 +104,7 @@ FoundIsAtFault =
 
 -- nothing is wrong: no call is judged wrong, nothing is left to ask, and nothing is in doubt
 pub record NothingIsWrong (calls : CallTree) (answers : List What) : Type 0 where
-  pub none_wrong : (call : ℕ) → call < length calls.last → mark_in calls answers call ≢ mark.Wrong
+  pub none_wrong : (call : ℕ) → call < length calls.last → mark_in calls answers call ≢ Mark.Wrong
   pub no_suspect : suspects_in calls answers ≡ []
   pub no_doubt : doubts_in calls answers ≡ []
 

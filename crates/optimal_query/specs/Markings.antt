@@ -1,12 +1,10 @@
 -- How the marks of a search are kept: with the weights of the calls, a flag for each that nothing is said of, and the
 -- depths.
-use Rattle.std.specs.Prelude.{◌≡◌, ℕ, List, Option, Some, None, length, map}
-use Rattle.call_tree.specs.declared.records.Mark.{Mark}
-use Rattle.call_tree.specs.declared.records.Mark.TheVariants.{Unjudged}
-use Rattle.optimal_query.specs.declared.markings.Markings.TheInside.{Inside}
-use Rattle.optimal_query.specs.declared.state.SearchState.{SearchState}
-use Rattle.optimal_query.specs.declared.state.SearchState.TheVariants.{Found, Narrowed, NothingWrong, Unclear}
+use Rattle.std.specs.Prelude.{◌≡◌, ℕ, List, None, Option, Some, length, map}
+use Rattle.call_tree.specs.declared.records.Mark.{Mark, TheVariants.Unjudged}
 use Rattle.subtree_weights.specs.Weighed.{Weighed, call_count}
+use Rattle.optimal_query.specs.declared.{markings.Markings.TheInside.Inside, state.SearchState.SearchState}
+use Rattle.optimal_query.specs.declared.state.SearchState.TheVariants.{Found, Narrowed, NothingWrong, Unclear}
 
 -- the flag of a call with this mark
 abbrev pub askable_flag : Mark → ℕ

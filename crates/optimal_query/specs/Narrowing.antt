@@ -1,13 +1,10 @@
 -- What the answers narrow the fault to. A call is buggy if it went wrong though each call that it made went right
 -- (Shapiro 1983).
-use Rattle.std.specs.Prelude.{◌≡◌, ◌⊎◌, ℕ, ◌<◌, Bool, true, false, Contains, List, Some, length}
-use Rattle.call_tree.specs.Numbering.{IsParent}
-use Rattle.call_tree.specs.declared.records.Mark.TheVariants as mark
-use Rattle.answer_book.specs.declared.entries.What.{What}
-use Rattle.answer_book.specs.Accused.{accused_of}
-use Rattle.call_tree.specs.Clear.{is_clear}
+use Rattle.std.specs.Prelude.{◌<◌, ◌≡◌, ◌⊎◌, ℕ, Bool, Contains, List, Some, false, length, true}
+use Rattle.call_tree.specs.{Clear.is_clear, Numbering.IsParent, declared.records.Mark.Mark}
+use Rattle.answer_book.specs.{Accused.accused_of, declared.entries.What.What}
+use Rattle.optimal_query.specs.Laws.{CallTree, IsCallTree, doubts_in, mark_in, state_in, suspects_in}
 use Rattle.optimal_query.specs.declared.state.SearchState.TheVariants.{Found}
-use Rattle.optimal_query.specs.Laws.{IsCallTree, CallTree, doubts_in, mark_in, state_in, suspects_in}
 
 -- for each call whether it went wrong
 abbrev pub Truth : Type 0
@@ -17,7 +14,7 @@ Truth = ℕ → Bool
 pub record AgreesWithMarks (calls : CallTree) (answers : List What) (went_wrong : Truth) : Type 0 where
   pub clear : (call : ℕ) → call < length calls.last → is_clear (mark_in calls answers call) ≡ true
       → went_wrong call ≡ false
-  pub wrong : (call : ℕ) → call < length calls.last → mark_in calls answers call ≡ mark.Wrong → went_wrong call ≡ true
+  pub wrong : (call : ℕ) → call < length calls.last → mark_in calls answers call ≡ Mark.Wrong → went_wrong call ≡ true
 
 -- the call went wrong, and each of its children went right
 pub record IsBuggy (calls : CallTree) (went_wrong : Truth) (call : ℕ) : Type 0 where

@@ -1,5 +1,5 @@
 -- Where the region stands among the calls, and the subtrees in it.
-use Rattle.std.specs.Prelude.{ℕ, ◌+◌, ◌≤◌, List, Option, Some, None, length, slice_index}
+use Rattle.std.specs.Prelude.{◌+◌, ◌≤◌, ℕ, List, None, Option, Some, length, slice_index}
 use Rattle.call_tree.specs.Numbering.{AreIntervals}
 
 -- the subtrees are intervals, one within another or apart

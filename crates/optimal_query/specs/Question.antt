@@ -1,6 +1,6 @@
 -- Which suspect to ask about: divide and query (Shapiro 1983), with this project's own measure, the number of suspects
 -- that the worse of the answers `right` and `wrong` leaves.
-use Rattle.std.specs.Prelude.{ℕ, Bool, ◌-◌, max, nat_le, List, Option, length, find, count_by}
+use Rattle.std.specs.Prelude.{◌-◌, ℕ, Bool, List, Option, count_by, find, length, max, nat_le}
 use Rattle.std.specs.List.{list_all}
 use Rattle.subtree_weights.specs.Searched.{is_in}
 

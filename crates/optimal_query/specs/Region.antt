@@ -2,11 +2,10 @@
 -- call that was judged wrong, and leaves out what was judged right with all below it. That the greatest such call is
 -- accused, whatever is said of the calls above it, and that trust leaves out as `right` does, is this project's own
 -- rule.
-use Rattle.std.specs.Prelude.{ℕ, Bool, true, nat_lt, List, Option, Some, None, length, filter, find}
-use Rattle.answer_book.specs.Numbers.{numbers_below}
-use Rattle.call_tree.specs.Clear.{is_unjudged, is_unknown}
-use Rattle.call_tree.specs.declared.records.Mark.{Mark}
+use Rattle.std.specs.Prelude.{ℕ, Bool, List, None, Option, Some, filter, find, length, nat_lt, true}
+use Rattle.call_tree.specs.{Clear.is_unjudged, Clear.is_unknown, declared.records.Mark.Mark}
 use Rattle.subtree_weights.specs.Searched.{is_searched, mark_at}
+use Rattle.answer_book.specs.Numbers.{numbers_below}
 
 -- the calls of the region, rising
 abbrev pub region_of : List ℕ → List Mark → Option ℕ → List ℕ

@@ -1,6 +1,6 @@
 -- The calls that may be asked about, from one number up to another, and the best of them. Runs of such calls stand
 -- between the subtrees in which no suspect stands, which are those of the calls that weigh nothing.
-use Rattle.std.specs.Prelude.{◌≡◌, ◌≢◌, ℕ, ◌<◌, ◌≤◌, nat_lt, if◌then◌else◌, List, Option, Some, None, length}
+use Rattle.std.specs.Prelude.{if◌then◌else◌, ◌<◌, ◌≡◌, ◌≢◌, ◌≤◌, ℕ, List, None, Option, Some, length, nat_lt}
 use Rattle.std.specs.Prelude.{slice_index}
 use Rattle.weight_lanes.specs.declared.choice.Choice.{Choice}
 

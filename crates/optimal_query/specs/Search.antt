@@ -1,17 +1,12 @@
 -- A search as clauses see it: the last call of each call's subtree, the depth of each call, and the book, which has the
 -- routine of each call.
 use Rattle.std.specs.Prelude.{ℕ, List, Option}
-use Rattle.answer_book.specs.declared.entries.Entry.{Entry}
-use Rattle.answer_book.specs.declared.entries.What.{What}
-use Rattle.answer_book.specs.Accused.{accused_of}
+use Rattle.call_tree.specs.{Recording.Recording, Recording.depths_of, Recording.lasts_of, declared.records.Mark.Mark}
+use Rattle.answer_book.specs.{Accused.accused_of, Entries.first_entries, Entries.standing_answers, Marks.mark_of}
+use Rattle.answer_book.specs.{Marks.marks_of, declared.entries.Entry.Entry, declared.entries.What.What}
 use Rattle.answer_book.specs.Answers.{Answers, book_with, with_answer, without_answer}
-use Rattle.answer_book.specs.Entries.{first_entries, standing_answers}
-use Rattle.answer_book.specs.Marks.{mark_of, marks_of}
-use Rattle.call_tree.specs.Recording.{Recording, depths_of, lasts_of}
-use Rattle.call_tree.specs.declared.records.Mark.{Mark}
+use Rattle.optimal_query.specs.{Region.next_after, State.doubts_after, State.state_of}
 use Rattle.optimal_query.specs.declared.state.SearchState.{SearchState}
-use Rattle.optimal_query.specs.Region.{next_after}
-use Rattle.optimal_query.specs.State.{doubts_after, state_of}
 
 pub record Search : Type 0 where
   pub last : List ℕ

@@ -1,17 +1,14 @@
 -- Lists of commands to a search, and that it depends on nothing but the answers that stand after them. A command that
 -- is refused changes nothing.
-use Rattle.std.specs.Prelude.{◌≡◌, ℕ, List, [], ◌∷◌, Option, Result, Ok, Err}
-use Rattle.answer_book.specs.declared.entries.BookFault.{BookFault}
-use Rattle.answer_book.specs.declared.entries.Judgement.{Judgement}
-use Rattle.answer_book.specs.declared.entries.What.{What}
-use Rattle.answer_book.specs.declared.entries.What.TheVariants.{Judged, Trusted}
+use Rattle.std.specs.Prelude.{◌∷◌, ◌≡◌, [], ℕ, Err, List, Ok, Option, Result}
+use Rattle.call_tree.specs.Recording.{Recording, lasts_of, routines_of}
 use Rattle.answer_book.specs.Answers.{judge_answer, take_back_answer, take_back_last_answer, trust_answer}
 use Rattle.answer_book.specs.Marks.{marks_of}
-use Rattle.call_tree.specs.Recording.{Recording, lasts_of, routines_of}
-use Rattle.optimal_query.specs.Region.{next_after}
+use Rattle.answer_book.specs.declared.entries.{BookFault.BookFault, Judgement.Judgement}
+use Rattle.answer_book.specs.declared.entries.What.{What, TheVariants.Judged, TheVariants.Trusted}
+use Rattle.optimal_query.specs.{Region.next_after, State.doubts_after, State.state_of}
 use Rattle.optimal_query.specs.Search.{Search, answers_in, marks_now, new_search, next_doubt, search_with}
 use Rattle.optimal_query.specs.Search.{search_without, state_now}
-use Rattle.optimal_query.specs.State.{doubts_after, state_of}
 
 pub data Command : Type 0 where
   Judge : (call : ℕ) (judgement : Judgement) → Command

@@ -1,14 +1,11 @@
 -- The state of the search, after the answers that stand. It depends on nothing else but the columns of the calls: the
 -- last call of each subtree, and the routine of each call.
-use Rattle.std.specs.Prelude.{ℕ, List, [], ◌∷◌, Option, Some, None, length}
+use Rattle.std.specs.Prelude.{◌∷◌, [], ℕ, List, None, Option, Some, length}
 use Rattle.call_tree.specs.declared.records.Mark.{Mark}
-use Rattle.answer_book.specs.declared.entries.What.{What}
-use Rattle.answer_book.specs.Accused.{accused_of}
-use Rattle.answer_book.specs.Marks.{marks_of}
-use Rattle.optimal_query.specs.declared.state.SearchState.{SearchState}
-use Rattle.optimal_query.specs.declared.state.SearchState.TheVariants.{Ask, Found, Narrowed, NothingWrong, Unclear}
+use Rattle.answer_book.specs.{Accused.accused_of, Marks.marks_of, declared.entries.What.What}
+use Rattle.optimal_query.specs.{Region.doubts_of, Region.suspects_of, declared.state.SearchState.SearchState}
 use Rattle.optimal_query.specs.Question.{left_of, question_of, weight_of}
-use Rattle.optimal_query.specs.Region.{doubts_of, suspects_of}
+use Rattle.optimal_query.specs.declared.state.SearchState.TheVariants.{Ask, Found, Narrowed, NothingWrong, Unclear}
 
 -- with no suspect left, by the accused and the doubts
 abbrev pub verdict_by : Option ℕ → List ℕ → SearchState

@@ -1,9 +1,8 @@
 //! Laws of the search, each the contract of a call that does nothing.
+ghost use Rattle.optimal_query.specs.{Laws.QuestionIsLeast, Laws.RegionIsLeft, Standing.SearchDependsOnWhatStands};
 ghost use Rattle.optimal_query.specs.Accepted.{EntriesStandUnlessTakenBack, GivenEntriesStandUnlessTakenBack};
 ghost use Rattle.optimal_query.specs.Laws.{AnswersLeaveWhatIsCounted, FoundIsAtFault, NothingWrongIsNothing};
-ghost use Rattle.optimal_query.specs.Laws.{QuestionIsLeast, RegionIsLeft};
 ghost use Rattle.optimal_query.specs.Narrowing.{BuggyIsLeft, FoundIsBuggy};
-ghost use Rattle.optimal_query.specs.Standing.{SearchDependsOnWhatStands};
 
 /// The suspects and the doubts are all calls of the region.
 pub fn region_is_left()

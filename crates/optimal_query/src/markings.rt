@@ -1,17 +1,14 @@
 //! The marks of the calls, with their weights.
-ghost use Rattle.std.specs.Prelude.{◌≡◌, ◌+◌, ◌*◌, ◌<◌, ◌≤◌, [], IfOk, length, map, slice_index};
+ghost use Rattle.std.specs.Prelude.{◌*◌, ◌+◌, ◌<◌, ◌≡◌, ◌≤◌, [], IfOk, length, map, slice_index};
 ghost use Rattle.std.specs.Option.{ForSome};
-ghost use Rattle.answer_book.specs.Entries.{standing_answers};
-ghost use Rattle.answer_book.specs.Marks.{marks_of};
-ghost use Rattle.answer_book.specs.declared.entries.What.TheVariants as what;
 ghost use Rattle.call_tree.specs.Recording.{depths_of, routines_of};
+ghost use Rattle.subtree_weights.specs.{RunColumns.columns_of, Weights.suspects_below};
+ghost use Rattle.subtree_weights.specs.Weighed.{call_count, unjudged, with_mark, with_marks};
+ghost use Rattle.answer_book.specs.{Entries.standing_answers, Marks.marks_of};
+ghost use Rattle.answer_book.specs.declared.entries.What.TheVariants as what;
+ghost use Rattle.optimal_query.specs.{Region.doubts_of, Region.next_after, State.state_with};
 ghost use Rattle.optimal_query.specs.Changed.{ChangesCallsOf, change_steps, ways_up};
 ghost use Rattle.optimal_query.specs.Markings.{askable_flag, verdict_from};
-ghost use Rattle.optimal_query.specs.Region.{doubts_of, next_after};
-ghost use Rattle.optimal_query.specs.State.{state_with};
-ghost use Rattle.subtree_weights.specs.RunColumns.{columns_of};
-ghost use Rattle.subtree_weights.specs.Weighed.{call_count, unjudged, with_mark, with_marks};
-ghost use Rattle.subtree_weights.specs.Weights.{suspects_below};
 
 use crate::region::{end, next_doubt, start};
 use crate::routine_calls::{has_few, next_call};

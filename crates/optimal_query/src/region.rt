@@ -1,10 +1,10 @@
 //! The region as an interval of calls, and the doubts in it, with the subtrees of clear calls left out.
-ghost use Rattle.std.specs.Prelude.{◌≡◌, ◌+◌, ◌&&◌, ◌<◌, ◌≤◌, ◌^◌, if◌then◌else◌, length, slice_index};
+ghost use Rattle.std.specs.Prelude.{if◌then◌else◌, ◌&&◌, ◌+◌, ◌<◌, ◌^◌, ◌≡◌, ◌≤◌, length, slice_index};
 ghost use Rattle.std.specs.Option.{ForSome};
 ghost use Rattle.call_tree.specs.Clear.{is_clear, is_unknown};
+ghost use Rattle.subtree_weights.specs.Searched.{mark_at};
 ghost use Rattle.optimal_query.specs.Nested.{AreNested, end_below, start_below};
 ghost use Rattle.optimal_query.specs.Region.{doubts_of, is_after, next_after};
-ghost use Rattle.subtree_weights.specs.Searched.{mark_at};
 
 use call_tree::Mark;
 

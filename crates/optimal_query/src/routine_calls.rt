@@ -1,8 +1,8 @@
 //! The calls of a routine.
 ghost use Rattle.std.specs.Prelude.{◌≡◌, ◌≤◌, length};
 ghost use Rattle.call_tree.specs.Recording.{depths_of, routines_of};
-ghost use Rattle.optimal_query.specs.Changed.{are_few};
 ghost use Rattle.weight_lanes.specs.Answers.{IsNext};
+ghost use Rattle.optimal_query.specs.Changed.{are_few};
 
 use call_tree::Calls;
 use weight_lanes::next_of;

@@ -1,8 +1,8 @@
 //! The question, found run by run: the kernel `best` looks at each run of calls between the subtrees
 //! in which no suspect stands.
-ghost use Rattle.std.specs.Prelude.{◌≡◌, ◌≢◌, ℕ, ◌+◌, ◌<◌, ◌≤◌, if◌then◌else◌, length, nat_lt, slice_index};
-ghost use Rattle.optimal_query.specs.Runs.{IsBestAmong, IsField, MayBeAsked, better_of, field_of};
+ghost use Rattle.std.specs.Prelude.{if◌then◌else◌, ◌+◌, ◌<◌, ◌≡◌, ◌≢◌, ◌≤◌, ℕ, length, nat_lt, slice_index};
 ghost use Rattle.weight_lanes.specs.Places.{left_at};
+ghost use Rattle.optimal_query.specs.Runs.{IsBestAmong, IsField, MayBeAsked, better_of, field_of};
 
 use weight_lanes::{Choice, best, next_of};
 

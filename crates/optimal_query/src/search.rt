@@ -1,18 +1,15 @@
 //! A search over the calls of one run.
-ghost use Rattle.std.specs.Prelude.{◌≡◌, ◌+◌, ◌*◌, ◌<◌, ◌≤◌, [], All, Contains, IfOk, OnErr, OnOk, length};
+ghost use Rattle.std.specs.Prelude.{◌*◌, ◌+◌, ◌<◌, ◌≡◌, ◌≤◌, [], All, Contains, IfOk, OnErr, OnOk, length};
 ghost use Rattle.std.specs.Option.{ForSome};
-ghost use Rattle.answer_book.specs.Accused.{accused_of};
+ghost use Rattle.call_tree.specs.Recording.{routines_of};
+ghost use Rattle.subtree_weights.specs.{RunColumns.columns_of, Weighed.with_marks};
+ghost use Rattle.answer_book.specs.{Accused.accused_of, InRange.IsInRange, Marks.marks_of};
 ghost use Rattle.answer_book.specs.Answers.{judge_answer, take_back_answer, take_back_last_answer, trust_answer};
 ghost use Rattle.answer_book.specs.Entries.{entry_at, standing_answers};
-ghost use Rattle.answer_book.specs.InRange.{IsInRange};
-ghost use Rattle.answer_book.specs.Marks.{marks_of};
 ghost use Rattle.answer_book.specs.declared.entries.What.TheVariants as what;
-ghost use Rattle.call_tree.specs.Recording.{routines_of};
 ghost use Rattle.optimal_query.specs.Changed.{WereMarks, change_steps, most_steps_at};
 ghost use Rattle.optimal_query.specs.Search.{mark_now, new_search, next_doubt, search_over, search_with};
 ghost use Rattle.optimal_query.specs.Search.{search_without, state_now};
-ghost use Rattle.subtree_weights.specs.RunColumns.{columns_of};
-ghost use Rattle.subtree_weights.specs.Weighed.{with_marks};
 
 use crate::markings::Markings;
 use crate::state::SearchState;

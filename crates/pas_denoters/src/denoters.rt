@@ -1,21 +1,18 @@
 //! Reading type denoters.
 
-ghost use Rattle.std.specs.Prelude.{◌≡◌, ◌≤◌, ◌<◌, [], ◌∷◌, map, IfOk};
-ghost use Rattle.grammar.specs.declared.terminals.Terminal.TheVariants as k;
-ghost use Rattle.grammar.specs.Terminals.{passes};
-ghost use Rattle.grammar.specs.Nodes.{chain, next, row};
+ghost use Rattle.std.specs.Prelude.{◌<◌, ◌∷◌, ◌≡◌, ◌≤◌, [], IfOk, map};
+ghost use Rattle.grammar.specs.{Deciding.expects, Reading.levels, Reading.read, Terminals.passes};
 ghost use Rattle.grammar.specs.Grammars.{choice, denoter, many, nothing, seq, series, variant_part, word};
-ghost use Rattle.grammar.specs.Reading.{levels, read};
-ghost use Rattle.grammar.specs.Deciding.{expects};
+ghost use Rattle.grammar.specs.Nodes.{chain, next, row};
+ghost use Rattle.grammar.specs.declared.terminals.Terminal.TheVariants as k;
+ghost use Rattle.pas_tree.specs.{FirstFollow.first_of, FirstFollow.pascal, Operators.token_node};
 ghost use Rattle.pas_tree.specs.Denoters.{arm_node, arm_step, array_node, denoter_node, enumeration_node, fields_node};
 ghost use Rattle.pas_tree.specs.Denoters.{last_semicolon_node, next_denoter_node, record_node, section_node};
 ghost use Rattle.pas_tree.specs.Denoters.{section_step, set_node, structure_node, tag_node, variants_node};
-ghost use Rattle.pas_tree.specs.Operators.{token_node};
 ghost use Rattle.pas_tree.specs.Rules.{arm_rule, array_rule, constant_starts, denoter_rule, enumeration_rule};
-ghost use Rattle.pas_tree.specs.Rules.{fields_rule, named_denoter_rule, next_denoter_rule, optional, record_rule};
-ghost use Rattle.pas_tree.specs.Rules.{section_rule, set_rule, structure_rule, subrange_rule};
-ghost use Rattle.pas_tree.specs.Rules.{limit_starts, tag_rule, variant_part_rule, variants_rule};
-ghost use Rattle.pas_tree.specs.FirstFollow.{first_of, pascal};
+ghost use Rattle.pas_tree.specs.Rules.{fields_rule, limit_starts, named_denoter_rule, next_denoter_rule, optional};
+ghost use Rattle.pas_tree.specs.Rules.{record_rule, section_rule, set_rule, structure_rule, subrange_rule, tag_rule};
+ghost use Rattle.pas_tree.specs.Rules.{variant_part_rule, variants_rule};
 ghost use Rattle.pas_phrases.specs.Items.{ReadsAs, items_from, optional_token};
 ghost use Rattle.pas_denoters.specs.Ends.{sections_end_node};
 

@@ -1,16 +1,14 @@
 //! Reading headings of procedures and functions.
 
-ghost use Rattle.std.specs.Prelude.{◌≡◌, ◌≤◌, ◌<◌, [], ◌∷◌, map, length, IfOk, IsTrue};
-ghost use Rattle.grammar.specs.declared.terminals.Terminal.TheVariants as k;
-ghost use Rattle.grammar.specs.Nodes.{next, row};
+ghost use Rattle.std.specs.Prelude.{◌<◌, ◌∷◌, ◌≡◌, ◌≤◌, [], IfOk, IsTrue, length, map};
+ghost use Rattle.grammar.specs.{Deciding.expects, Nodes.next, Nodes.row, Reading.levels, Reading.read};
 ghost use Rattle.grammar.specs.Grammars.{heading, many};
-ghost use Rattle.grammar.specs.Reading.{levels, read};
-ghost use Rattle.grammar.specs.Deciding.{expects};
+ghost use Rattle.grammar.specs.declared.terminals.Terminal.TheVariants as k;
+ghost use Rattle.pas_tree.specs.FirstFollow.{first_of, pascal};
 ghost use Rattle.pas_tree.specs.Headings.{formal_names_node, formal_node, formals_node, function_node, heading_node};
 ghost use Rattle.pas_tree.specs.Headings.{next_formal_node, procedure_node, result_node};
 ghost use Rattle.pas_tree.specs.Rules.{formal_rule, formals_rule, function_rule, heading_rule, next_formal_rule};
 ghost use Rattle.pas_tree.specs.Rules.{procedure_rule, result_rule, variables_formal_rule};
-ghost use Rattle.pas_tree.specs.FirstFollow.{first_of, pascal};
 ghost use Rattle.pas_phrases.specs.Items.{ReadsAs, items_from};
 
 use grammar::Terminal;

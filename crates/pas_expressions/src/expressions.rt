@@ -1,19 +1,16 @@
 //! Reading expressions and accesses of variables.
 
-ghost use Rattle.std.specs.Prelude.{◌≡◌, ◌≤◌, ◌<◌, [], ◌∷◌, map, IfOk};
-ghost use Rattle.grammar.specs.declared.terminals.Terminal.TheVariants as k;
-ghost use Rattle.grammar.specs.Nodes.{next, row};
+ghost use Rattle.std.specs.Prelude.{◌<◌, ◌∷◌, ◌≡◌, ◌≤◌, [], IfOk, map};
+ghost use Rattle.grammar.specs.{Deciding.expects, Nodes.next, Nodes.row, Reading.levels, Reading.read};
 ghost use Rattle.grammar.specs.Grammars.{factor, many};
-ghost use Rattle.grammar.specs.Reading.{levels, read};
-ghost use Rattle.grammar.specs.Deciding.{expects};
+ghost use Rattle.grammar.specs.declared.terminals.Terminal.TheVariants as k;
+ghost use Rattle.pas_tree.specs.{FirstFollow.first_of, FirstFollow.pascal, Rules.term_rule};
 ghost use Rattle.pas_tree.specs.Expressions.{access_node, arguments_node, expression_node, factor_node, index_node};
-ghost use Rattle.pas_tree.specs.Expressions.{member_node, members_node, next_expression_node};
-ghost use Rattle.pas_tree.specs.Expressions.{next_member_node, selector_node, simple_node, term_node};
+ghost use Rattle.pas_tree.specs.Expressions.{member_node, members_node, next_expression_node, next_member_node};
+ghost use Rattle.pas_tree.specs.Expressions.{selector_node, simple_node, term_node};
 ghost use Rattle.pas_tree.specs.Rules.{access_rule, arguments_rule, expression_rule, factor_rule, index_rule};
 ghost use Rattle.pas_tree.specs.Rules.{member_rule, members_rule, named_factor_rule, next_expression_rule};
-ghost use Rattle.pas_tree.specs.Rules.{next_member_rule, selector_rule};
-ghost use Rattle.pas_tree.specs.Rules.{selector_starts, selectors_rule, simple_rule, term_rule};
-ghost use Rattle.pas_tree.specs.FirstFollow.{first_of, pascal};
+ghost use Rattle.pas_tree.specs.Rules.{next_member_rule, selector_rule, selector_starts, selectors_rule, simple_rule};
 ghost use Rattle.pas_phrases.specs.Items.{ReadsAs, items_from};
 
 use grammar::Terminal;

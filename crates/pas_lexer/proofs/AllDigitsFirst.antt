@@ -1,57 +1,12 @@
 -- Bytes, and the digits that stand first.
-use Rattle.std.proofs.Common.{
-  ◌≡◌,
-  ℕ,
-  ◌<◌,
-  ◌≤◌,
-  Bool,
-  true,
-  false,
-  nat_eq,
-  nat_lt,
-  List,
-  [],
-  ◌∷◌,
-  ◌++◌,
-  length,
-  take,
-  drop,
-  Some,
-  None,
-  refl,
-  sym,
-  ap,
-  subst,
-  ◌∙◌,
-  arith,
-  inl,
-  inr,
-}
-use Rattle.std.proofs.lemmas.Option.{same_Some}
-use Rattle.std.proofs.lemmas.Bool.{le-ltb, lt-ltb, ltb-true, ltb-false}
+use Rattle.std.proofs.Common.{◌++◌, ◌<◌, ◌∙◌, ◌∷◌, ◌≡◌, ◌≤◌, [], ℕ, Bool, List, None, Some, ap, arith, drop, false, inl, inr, length, nat_eq, nat_lt, refl}
+use Rattle.std.proofs.{Common.subst, Common.sym, Common.take, Common.true, Math.Seq.drop-append_seam, Math.Seq.take-append_seam}
+use Rattle.std.proofs.lemmas.{Bool.le-ltb, Bool.lt-ltb, Bool.ltb-false, Bool.ltb-true, Bool.Decides.nat_tests, List.take-append-drop, Option.same_Some}
 use Rattle.std.specs.List.{AllPass}
-use Rattle.std.proofs.lemmas.Bool.Decides.{nat_tests}
-use Rattle.std.proofs.lemmas.List.{take-append-drop}
-use Rattle.std.proofs.Math.Seq.{take-append_seam, drop-append_seam}
-use Rattle.pas_lexer.specs.Lexis.{
-  letter,
-  digit,
-  letter_or_digit,
-  separator,
-  digit_first,
-  letter_first,
-  real_follows,
-  next_is,
-  opens_comment,
-  IsDigitSequence,
-  decimal,
-  maxint,
-  FirstDigits,
-  BeginsReal,
-  BeginsJoined,
-}
-use Rattle.pas_lexer.specs.Reading.{run_length, number_in, number_before, number_at, piece_at}
-use Rattle.pas_lexer.proofs.LongestRun.{chosen, pass_cons, pass_more, Stops, run_again, run_passes, run_stops, head_is}
+use Rattle.pas_lexer.proofs.LongestRun.{Stops, chosen, head_is, pass_cons, pass_more, run_again, run_passes, run_stops}
+use Rattle.pas_lexer.specs.Lexis.{BeginsJoined, BeginsReal, FirstDigits, IsDigitSequence, decimal, digit, digit_first, letter, letter_first, letter_or_digit}
+use Rattle.pas_lexer.specs.Lexis.{maxint, next_is, opens_comment, real_follows, separator}
+use Rattle.pas_lexer.specs.Reading.{number_at, number_before, number_in, piece_at, run_length}
 
 -- ---- bytes
 

@@ -1,33 +1,7 @@
 -- Decimal notation, digit by digit.
-use Rattle.std.proofs.Common.{
-  ◌≡◌,
-  ℕ,
-  suc,
-  ◌+◌,
-  ◌-◌,
-  ◌*◌,
-  ◌^◌,
-  ◌<◌,
-  ◌≤◌,
-  true,
-  nat_lt,
-  List,
-  [],
-  ◌∷◌,
-  length,
-  drop,
-  get_or,
-  None,
-  refl,
-  ap,
-  ◌∙◌,
-  arith,
-  drop-cons,
-}
-use Rattle.std.proofs.Math.Nat.{pow-suc}
-use Rattle.std.proofs.lemmas.Bool.Decides.{nat_tests}
-use Rattle.pas_lexer.specs.Lexis.{decimal, maxint}
-use Rattle.pas_lexer.specs.Reading.{number_in}
+use Rattle.std.proofs.Common.{◌*◌, ◌+◌, ◌-◌, ◌<◌, ◌^◌, ◌∙◌, ◌∷◌, ◌≡◌, ◌≤◌, [], ℕ, List, None, ap, arith, drop, drop-cons, get_or, length, nat_lt, refl, suc}
+use Rattle.std.proofs.{Common.true, Math.Nat.pow-suc, lemmas.Bool.Decides.nat_tests}
+use Rattle.pas_lexer.specs.{Lexis.decimal, Lexis.maxint, Reading.number_in}
 
 -- the value so far, followed by the digits that are left
 abbrev pub then_digits : ℕ → List ℕ → ℕ

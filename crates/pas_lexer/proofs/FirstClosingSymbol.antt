@@ -1,39 +1,9 @@
 -- What stands after a comment's opening symbol.
-use Rattle.std.proofs.Common.{
-  ◌≡◌,
-  ℕ,
-  zero,
-  suc,
-  ◌+◌,
-  ◌≤◌,
-  Bool,
-  true,
-  false,
-  nat_eq,
-  List,
-  [],
-  ◌∷◌,
-  ◌++◌,
-  length,
-  take,
-  Option,
-  Some,
-  None,
-  refl,
-  sym,
-  ap,
-  subst,
-  ◌∙◌,
-  arith,
-  inl,
-  inr,
-}
-use Rattle.std.proofs.lemmas.Option.{same_Some}
-use Rattle.std.specs.Prelude.{◌&&◌}
-use Rattle.std.proofs.lemmas.Bool.{eqb-true, and_parts, or_from, or_parts}
-use Rattle.pas_lexer.specs.Lexis.{next_is, IsClosed}
-use Rattle.pas_lexer.specs.Reading.{more_by, closing}
+use Rattle.std.proofs.Common.{◌&&◌, ◌++◌, ◌+◌, ◌∙◌, ◌∷◌, ◌≡◌, ◌≤◌, [], ℕ, Bool, List, None, Option, Some, ap, arith, false, inl, inr, length, nat_eq, refl}
+use Rattle.std.proofs.Common.{subst, suc, sym, take, true, zero}
+use Rattle.std.proofs.lemmas.{Bool.and_parts, Bool.eqb-true, Bool.or_from, Bool.or_parts, Option.same_Some}
 use Rattle.pas_lexer.proofs.LongestRun.{chosen}
+use Rattle.pas_lexer.specs.{Lexis.IsClosed, Lexis.next_is, Reading.closing, Reading.more_by}
 
 -- the second byte of a closing symbol stands in what is closed
 two_same : (l rest : List ℕ) → IsClosed l → next_is 41 (l ++ rest) ≡ next_is 41 l

@@ -1,38 +1,10 @@
 -- What stands after a string's first apostrophe.
-use Rattle.std.proofs.Common.{
-  ◌≡◌,
-  ℕ,
-  suc,
-  ◌+◌,
-  ◌<◌,
-  Bool,
-  true,
-  false,
-  cond,
-  nat_eq,
-  List,
-  [],
-  ◌∷◌,
-  ◌++◌,
-  length,
-  Option,
-  Some,
-  None,
-  refl,
-  sym,
-  ap,
-  subst,
-  ◌∙◌,
-  arith,
-  inl,
-  inr,
-}
-use Rattle.std.proofs.lemmas.Option.{same_Some}
-use Rattle.std.specs.List.{AllPass}
-use Rattle.std.proofs.lemmas.Bool.{eqb-true, not-true, not_from_false}
-use Rattle.pas_lexer.specs.Lexis.{ends_line, in_line, apostrophe, ends_first, doubled, IsCharacters}
+use Rattle.std.proofs.Common.{◌++◌, ◌+◌, ◌<◌, ◌∙◌, ◌∷◌, ◌≡◌, [], ℕ, Bool, List, None, Option, Some, ap, arith, cond, false, inl, inr, length, nat_eq, refl}
+use Rattle.std.{proofs.Common.subst, proofs.Common.suc, proofs.Common.sym, proofs.Common.true, specs.List.AllPass}
+use Rattle.std.proofs.lemmas.{Bool.eqb-true, Bool.not-true, Bool.not_from_false, Option.same_Some}
+use Rattle.pas_lexer.proofs.LongestRun.{chosen, fact_of, pass_cons, pass_head, pass_nil, pass_tail}
+use Rattle.pas_lexer.specs.Lexis.{IsCharacters, apostrophe, doubled, ends_first, ends_line, in_line}
 use Rattle.pas_lexer.specs.Reading.{more_by, or_else, string_end}
-use Rattle.pas_lexer.proofs.LongestRun.{chosen, fact_of, pass_nil, pass_cons, pass_head, pass_tail}
 
 -- characters end at an apostrophe, this many bytes on
 pub record Ended (l : List ℕ) (n : ℕ) : Type 0 where

@@ -1,110 +1,18 @@
 -- The two tables: what each row has, and that what is found in a table is right.
-use Rattle.std.proofs.Common.{
-  ◌≡◌,
-  ℕ,
-  suc,
-  ◌+◌,
-  ◌<◌,
-  ◌≤◌,
-  Bool,
-  true,
-  false,
-  nat_eq,
-  List,
-  [],
-  ◌∷◌,
-  ◌++◌,
-  length,
-  drop,
-  get_or,
-  Option,
-  None,
-  Some,
-  refl,
-  sym,
-  ap,
-  subst,
-  ◌∙◌,
-  arith,
-  drop-cons,
-  inl,
-  inr,
-  ◌⊎◌,
-}
-use Rattle.std.proofs.lemmas.Option.{same_Some}
-use Rattle.std.proofs.lemmas.Bool.{and_parts, leb-true}
-use Rattle.std.specs.Prelude.{nat_le, ◌&&◌}
-use Rattle.std.specs.List.{starts_with, list_all}
-use Rattle.std.specs.Str.{bytes_eq}
-use Rattle.std.proofs.lemmas.Bool.Decides.{Decides-eqb}
-use Rattle.std.proofs.lemmas.Slice.Eq.{bytes_eq-Decides, starts_is}
-use Rattle.pas_lexer.specs.declared.kinds.Word.{Word}
-use Rattle.pas_lexer.specs.declared.kinds.Word.TheVariants.{
-  WAnd,
-  WArray,
-  WBegin,
-  WCase,
-  WConst,
-  WDiv,
-  WDo,
-  WDownto,
-  WElse,
-  WEnd,
-  WFile,
-  WFor,
-  WFunction,
-  WGoto,
-  WIf,
-  WIn,
-  WLabel,
-  WMod,
-  WNil,
-  WNot,
-  WOf,
-  WOr,
-  WPacked,
-  WProcedure,
-  WProgram,
-  WRecord,
-  WRepeat,
-  WSet,
-  WThen,
-  WTo,
-  WType,
-  WUntil,
-  WVar,
-  WWhile,
-  WWith,
-}
-use Rattle.pas_lexer.specs.declared.kinds.Symbol.{Symbol}
-use Rattle.pas_lexer.specs.declared.kinds.Symbol.TheVariants.{
-  Plus,
-  Minus,
-  Star,
-  Equal,
-  Less,
-  Greater,
-  LeftBracket,
-  RightBracket,
-  Dot,
-  Comma,
-  Colon,
-  Semicolon,
-  Caret,
-  LeftParen,
-  RightParen,
-  NotEqual,
-  AtMost,
-  AtLeast,
-  Becomes,
-  Range,
-}
-use Rattle.pas_lexer.specs.declared.symbols.Written.{Written}
-use Rattle.pas_lexer.specs.declared.symbols.Written.TheVariants.{Usual, Other}
-use Rattle.pas_lexer.specs.Lexicon.{word_text, symbol_text}
-use Rattle.pas_lexer.specs.Lexis.{letter, digit, letter_or_digit, separator, apostrophe, lower_case}
-use Rattle.pas_lexer.specs.Reading.{all_words, all_symbols, word_among, symbol_among, written_text, symbol_of}
+use Rattle.std.proofs.Common.{◌&&◌, ◌++◌, ◌+◌, ◌<◌, ◌∙◌, ◌∷◌, ◌≡◌, ◌≤◌, ◌⊎◌, [], ℕ, Bool, List, None, Option, Some, ap, arith, drop, drop-cons, false, get_or}
+use Rattle.std.proofs.Common.{inl, inr, length, nat_eq, nat_le, refl, subst, suc, sym, true}
+use Rattle.std.proofs.lemmas.{Bool.and_parts, Bool.leb-true, Bool.Decides.Decides-eqb, Option.same_Some, Slice.Eq.bytes_eq-Decides, Slice.Eq.starts_is}
+use Rattle.std.specs.{List.list_all, List.starts_with, Str.bytes_eq}
 use Rattle.pas_lexer.proofs.LongestRun.{chosen}
+use Rattle.pas_lexer.specs.{Lexicon.symbol_text, Lexicon.word_text, declared.kinds.Symbol.Symbol, declared.kinds.Word.Word}
+use Rattle.pas_lexer.specs.Lexis.{apostrophe, digit, letter, letter_or_digit, lower_case, separator}
+use Rattle.pas_lexer.specs.Reading.{all_symbols, all_words, symbol_among, symbol_of, word_among, written_text}
+use Rattle.pas_lexer.specs.declared.kinds.Symbol.TheVariants.{AtLeast, AtMost, Becomes, Caret, Colon, Comma, Dot, Equal, Greater, LeftBracket, LeftParen, Less}
+use Rattle.pas_lexer.specs.declared.kinds.Symbol.TheVariants.{Minus, NotEqual, Plus, Range, RightBracket, RightParen, Semicolon, Star}
+use Rattle.pas_lexer.specs.declared.kinds.Word.TheVariants.{WAnd, WArray, WBegin, WCase, WConst, WDiv, WDo, WDownto, WElse, WEnd, WFile, WFor, WFunction, WGoto}
+use Rattle.pas_lexer.specs.declared.kinds.Word.TheVariants.{WIf, WIn, WLabel, WMod, WNil, WNot, WOf, WOr, WPacked, WProcedure, WProgram, WRecord, WRepeat, WSet}
+use Rattle.pas_lexer.specs.declared.kinds.Word.TheVariants.{WThen, WTo, WType, WUntil, WVar, WWhile, WWith}
+use Rattle.pas_lexer.specs.declared.symbols.Written.{Written, TheVariants.Other, TheVariants.Usual}
 
 -- ---- the rows
 

@@ -1,35 +1,7 @@
 -- Choices, and how far bytes pass a test.
-use Rattle.std.proofs.Common.{
-  ◌≡◌,
-  ℕ,
-  zero,
-  suc,
-  ◌-◌,
-  ◌≤◌,
-  Bool,
-  true,
-  false,
-  cond,
-  List,
-  [],
-  ◌∷◌,
-  ◌++◌,
-  length,
-  take,
-  drop,
-  refl,
-  sym,
-  ap,
-  subst,
-  ◌∙◌,
-  arith,
-  length-drop,
-  inl,
-  inr,
-  ◌⊎◌,
-}
-use Rattle.std.proofs.lemmas.List.{take_all}
-use Rattle.std.specs.List.{AllPass}
+use Rattle.std.proofs.Common.{◌++◌, ◌-◌, ◌∙◌, ◌∷◌, ◌≡◌, ◌≤◌, ◌⊎◌, [], ℕ, Bool, List, ap, arith, cond, drop, false, inl, inr, length, length-drop, refl, subst}
+use Rattle.std.proofs.Common.{suc, sym, take, true, zero}
+use Rattle.std.{proofs.lemmas.List.take_all, specs.List.AllPass}
 use Rattle.pas_lexer.specs.Reading.{run_length}
 
 pub chosen : {A : Type 0} (b : Bool) (x y z : A) → cond b x y ≡ z → ((b ≡ true) × (x ≡ z)) ⊎ ((b ≡ false) × (y ≡ z))

@@ -1,10 +1,7 @@
 -- One byte further in a comment, and in a string.
-use Rattle.std.proofs.Common.{◌≡◌, ℕ, suc, ◌+◌, ◌<◌, Bool, false, nat_eq, List, ◌∷◌, length, get_or, drop, Option, Some, None, refl, sym, ap, ◌∙◌, arith}
-use Rattle.std.specs.Prelude.{◌&&◌}
-use Rattle.std.proofs.Math.Seq.{drop-cons}
-use Rattle.std.proofs.lemmas.Bool.{ne_eqb}
-use Rattle.pas_lexer.specs.Lexis.{next_is}
-use Rattle.pas_lexer.specs.Reading.{closing, more_by, or_else, string_end}
+use Rattle.std.proofs.Common.{◌&&◌, ◌+◌, ◌<◌, ◌∙◌, ◌∷◌, ◌≡◌, ℕ, Bool, List, None, Option, Some, ap, arith, drop, false, get_or, length, nat_eq, refl, suc, sym}
+use Rattle.std.proofs.{Math.Seq.drop-cons, lemmas.Bool.ne_eqb}
+use Rattle.pas_lexer.specs.{Lexis.next_is, Reading.closing, Reading.more_by, Reading.or_else, Reading.string_end}
 
 -- the list from a place on
 cut : (l : List ℕ) (at : ℕ) → at < length l → drop at l ≡ get_or l at 0 ∷ drop (at + 1) l

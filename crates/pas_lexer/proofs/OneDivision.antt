@@ -1,80 +1,22 @@
 -- Divisions of a source, and its tokens.
-use Rattle.std.proofs.Common.{
-  ◌≡◌,
-  ℕ,
-  zero,
-  suc,
-  ◌+◌,
-  ◌-◌,
-  ◌<◌,
-  ◌≤◌,
-  nat_eq,
-  List,
-  [],
-  ◌∷◌,
-  ◌++◌,
-  length,
-  take,
-  drop,
-  Option,
-  Some,
-  None,
-  Result,
-  Ok,
-  Err,
-  refl,
-  sym,
-  ap,
-  subst,
-  ◌∙◌,
-  append_assoc,
-  arith,
-  length-append,
-  length-drop,
-  inl,
-  inr,
-  ◌⊎◌,
-}
-use Rattle.std.specs.Prelude.{◌≢◌, IfOk, IfErr, All, count_by}
-use Rattle.std.proofs.lemmas.List.{append-nil, take_at, drop_at, drop-drop}
-use Rattle.std.proofs.lemmas.List.Sums.{sum_by-append}
-use Rattle.std.proofs.Math.ListN.{drop_of_length-le}
-use Rattle.std.proofs.Math.Seq.{take-add}
-use Rattle.pas_lexer.specs.declared.kinds.TokenKind.{TokenKind}
-use Rattle.pas_lexer.specs.declared.kinds.TokenKind.TheVariants.{Word as WordKind, Name, Number, Text, Symbol as SymbolKind, End}
-use Rattle.pas_lexer.specs.declared.kinds.Token.{Token}
-use Rattle.pas_lexer.specs.declared.kinds.LexFault.{LexFault}
-use Rattle.pas_lexer.specs.declared.kinds.LexFault.TheVariants.{BadByte, OpenComment, OpenString, EmptyString, RealWord, TooLarge, Joined, Memory}
-use Rattle.pas_lexer.specs.declared.kinds.LexReason.{LexReason}
-use Rattle.pas_lexer.specs.declared.kinds.LexReason.TheVariants as reason
-use Rattle.pas_lexer.specs.Lexis.{Fits, NothingFits, IsReason}
-use Rattle.pas_lexer.specs.Reading.{Reading, piece_at}
-use Rattle.pas_lexer.specs.Lexed.{Lexed, IsPlaced, EndsOnce}
-use Rattle.pas_lexer.specs.Division.{
-  Piece,
-  Divides,
-  size,
-  line_feed,
-  line_at,
-  token_of,
-  tokens_from,
-  tokens_of,
-  IsLexed,
-  FailsFor,
-  FailsAt,
-  lex_fault,
-  IsFault,
-  GivesTokens,
-  RefusesWith,
-}
-use Rattle.pas_lexer.proofs.ReadPieceFits.{piece_cut, piece_again, nothing_fits, failed, pair_is}
+use Rattle.std.proofs.Common.{◌++◌, ◌+◌, ◌-◌, ◌<◌, ◌∙◌, ◌∷◌, ◌≡◌, ◌≢◌, ◌≤◌, ◌⊎◌, [], ℕ, All, Err, IfErr, IfOk, List, None, Ok, Option, Result, Some, ap}
+use Rattle.std.proofs.Common.{append_assoc, arith, count_by, drop, inl, inr, length, length-append, length-drop, nat_eq, refl, subst, suc, sym, take, zero}
+use Rattle.std.proofs.Math.{ListN.drop_of_length-le, Seq.take-add}
+use Rattle.std.proofs.lemmas.List.{append-nil, drop-drop, drop_at, take_at, Sums.sum_by-append}
 use Rattle.pas_lexer.proofs.OneReason.{piece_fails, reason_again, reason_is}
+use Rattle.pas_lexer.proofs.ReadPieceFits.{failed, nothing_fits, pair_is, piece_again, piece_cut}
+use Rattle.pas_lexer.specs.{Lexed.EndsOnce, Lexed.IsPlaced, Lexed.Lexed, Lexis.Fits, Lexis.IsReason, Lexis.NothingFits, Reading.Reading, Reading.piece_at}
+use Rattle.pas_lexer.specs.Division.{Divides, FailsAt, FailsFor, GivesTokens, IsFault, IsLexed, Piece, RefusesWith, lex_fault, line_at, line_feed, size}
+use Rattle.pas_lexer.specs.Division.{token_of, tokens_from, tokens_of}
+use Rattle.pas_lexer.specs.declared.kinds.{LexFault.LexFault, LexReason.LexReason, Token.Token, TokenKind.TokenKind}
+use Rattle.pas_lexer.specs.declared.kinds.LexFault.TheVariants.{BadByte, EmptyString, Joined, Memory, OpenComment, OpenString, RealWord, TooLarge}
+use Rattle.pas_lexer.specs.declared.kinds.TokenKind.TheVariants.{End, Name, Number, Symbol as SymbolKind, Text, Word as WordKind}
 
 -- ---- one division
 
 pub nil_fits : NothingFits []
 unfolding piece_at
-nil_fits = nothing_fits [] reason.BadByte refl
+nil_fits = nothing_fits [] LexReason.BadByte refl
 
 piece_of : List ℕ → Option TokenKind → Piece
 piece_of text kind = record { text = text; kind = kind }
@@ -122,10 +64,10 @@ never_nil : (r : LexReason) → IsReason r [] → ⊥
 unfolding piece_at
 never_nil r h = nothing_there r h (reason_again r [] nil_fits h)
   where
-    nothing_there : (r : LexReason) → IsReason r [] → failed reason.BadByte ≡ Err r → ⊥
-    nothing_there r h e = bad (subst (λ (x : LexReason). IsReason x []) (sym (reason_is reason.BadByte r e)) h)
+    nothing_there : (r : LexReason) → IsReason r [] → failed LexReason.BadByte ≡ Err r → ⊥
+    nothing_there r h e = bad (subst (λ (x : LexReason). IsReason x []) (sym (reason_is LexReason.BadByte r e)) h)
       where
-        bad : IsReason reason.BadByte [] → ⊥
+        bad : IsReason LexReason.BadByte [] → ⊥
         bad h = let never : [] ≡ h.0.0 ∷ h.0.1 = h.0.2 in cc
 
 pub never_for : (source : List ℕ) (tokens : List Token) (r : LexReason) (n : ℕ) → IsLexed source tokens → FailsFor source r n → ⊥
@@ -233,23 +175,23 @@ fails source at tokens r lt so_far e = (
 
 -- the fault for the reason is the fault of the source
 pub fault_is : (source : List ℕ) (r : LexReason) (n : ℕ) → FailsFor source r n → IsFault source (lex_fault r n)
-fault_is source reason.BadByte n h = h
-fault_is source reason.OpenComment n h = h
-fault_is source reason.OpenString n h = h
-fault_is source reason.EmptyString n h = h
-fault_is source reason.RealWord n h = h
-fault_is source reason.TooLarge n h = h
-fault_is source reason.Joined n h = h
+fault_is source LexReason.BadByte n h = h
+fault_is source LexReason.OpenComment n h = h
+fault_is source LexReason.OpenString n h = h
+fault_is source LexReason.EmptyString n h = h
+fault_is source LexReason.RealWord n h = h
+fault_is source LexReason.TooLarge n h = h
+fault_is source LexReason.Joined n h = h
 
 -- a fault of the source is that memory ran out, or the fault for a reason
 is_fault : (source : List ℕ) (e : LexFault) → IsFault source e → ((r : LexReason) × (n : ℕ) × (e ≡ lex_fault r n) × FailsFor source r n) ⊎ (e ≡ Memory)
-is_fault source (BadByte n) h = inl (reason.BadByte, n, refl, h)
-is_fault source (OpenComment n) h = inl (reason.OpenComment, n, refl, h)
-is_fault source (OpenString n) h = inl (reason.OpenString, n, refl, h)
-is_fault source (EmptyString n) h = inl (reason.EmptyString, n, refl, h)
-is_fault source (RealWord n) h = inl (reason.RealWord, n, refl, h)
-is_fault source (TooLarge n) h = inl (reason.TooLarge, n, refl, h)
-is_fault source (Joined n) h = inl (reason.Joined, n, refl, h)
+is_fault source (BadByte n) h = inl (LexReason.BadByte, n, refl, h)
+is_fault source (OpenComment n) h = inl (LexReason.OpenComment, n, refl, h)
+is_fault source (OpenString n) h = inl (LexReason.OpenString, n, refl, h)
+is_fault source (EmptyString n) h = inl (LexReason.EmptyString, n, refl, h)
+is_fault source (RealWord n) h = inl (LexReason.RealWord, n, refl, h)
+is_fault source (TooLarge n) h = inl (LexReason.TooLarge, n, refl, h)
+is_fault source (Joined n) h = inl (LexReason.Joined, n, refl, h)
 is_fault source Memory h = inr refl
 
 pub only : (source : List ℕ) (r : Result Lexed LexFault) → IfOk r (λ t. IsLexed source t.tokens) → IfErr r (IsFault source) → (tokens : List Token)

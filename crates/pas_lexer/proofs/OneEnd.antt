@@ -1,10 +1,7 @@
 -- The last token.
-use Rattle.std.proofs.Common.{◌≡◌, ℕ, zero, suc, ◌+◌, ◌<◌, List, [], ◌∷◌, ◌++◌, length, get_or, slice_get, Some, sym, ap, subst, ◌∙◌, arith, length-append}
-use Rattle.std.proofs.lemmas.Option.{none-some, same_Some}
-use Rattle.std.specs.Prelude.{◌≢◌, ◌↔◌, All}
-use Rattle.pas_lexer.specs.declared.kinds.TokenKind.TheVariants.{End}
-use Rattle.pas_lexer.specs.declared.kinds.Token.{Token}
-use Rattle.pas_lexer.specs.Lexed.{Lexed, EndsOnce}
+use Rattle.std.proofs.Common.{◌++◌, ◌+◌, ◌<◌, ◌↔◌, ◌∙◌, ◌∷◌, ◌≡◌, ◌≢◌, [], ℕ, All, List, Some, ap, arith, get_or, length, length-append, slice_get, subst, suc}
+use Rattle.std.proofs.{Common.sym, Common.zero, lemmas.Option.none-some, lemmas.Option.same_Some}
+use Rattle.pas_lexer.specs.{Lexed.EndsOnce, Lexed.Lexed, declared.kinds.Token.Token, declared.kinds.TokenKind.TheVariants.End}
 
 last_of : (front : List Token) (last t : Token) (i : ℕ) → last.kind ≡ End → All (λ u. u.kind ≢ End) front → slice_get (front ++ last ∷ []) i ≡ Some t
     → (t.kind ≡ End) ↔ (i + 1 ≡ length (front ++ last ∷ []))

@@ -1,113 +1,21 @@
 -- Why nothing fits: the reason that is read is the one, and no other is.
-use Rattle.std.proofs.Common.{
-  ◌≡◌,
-  ℕ,
-  suc,
-  ◌+◌,
-  ◌<◌,
-  ◌≤◌,
-  Bool,
-  true,
-  false,
-  cond,
-  nat_eq,
-  nat_lt,
-  List,
-  [],
-  ◌∷◌,
-  ◌++◌,
-  length,
-  take,
-  drop,
-  Option,
-  Some,
-  None,
-  Ok,
-  Err,
-  refl,
-  sym,
-  ap,
-  subst,
-  ◌∙◌,
-  arith,
-  inl,
-  inr,
-}
-use Rattle.std.proofs.lemmas.Option.{none-some, same_Some}
-use Rattle.std.specs.Prelude.{◌&&◌}
-use Rattle.std.proofs.lemmas.Bool.{eqb-true, lt-ltb, eq-eqb}
-use Rattle.std.proofs.lemmas.Bool.Decides.{nat_tests}
-use Rattle.std.proofs.lemmas.List.{take-append-drop}
-use Rattle.pas_lexer.specs.declared.kinds.TokenKind.{TokenKind}
-use Rattle.pas_lexer.specs.declared.kinds.TokenKind.TheVariants.{Number, Text, Symbol as SymbolKind}
-use Rattle.pas_lexer.specs.declared.kinds.Symbol.TheVariants.{LeftParen}
-use Rattle.pas_lexer.specs.declared.kinds.LexReason.{LexReason}
-use Rattle.pas_lexer.specs.declared.kinds.LexReason.TheVariants.{BadByte, OpenComment, OpenString, EmptyString, RealWord, TooLarge, Joined}
-use Rattle.pas_lexer.specs.declared.symbols.Written.{Written}
-use Rattle.pas_lexer.specs.declared.symbols.Written.TheVariants.{Usual}
-use Rattle.pas_lexer.specs.Lexis.{
-  letter,
-  digit,
-  separator,
-  in_line,
-  apostrophe,
-  ends_line,
-  ends_first,
-  letter_first,
-  next_is,
-  real_follows,
-  decimal,
-  maxint,
-  doubled,
-  IsClosed,
-  IsOpened,
-  IsLongest,
-  Fits,
-  NothingFits,
-  FirstDigits,
-  BeginsReal,
-  BeginsJoined,
-  IsReason,
-}
-use Rattle.pas_lexer.specs.Reading.{
-  all_symbols,
-  symbol_among,
-  written_text,
-  symbol_of,
-  run_length,
-  more_by,
-  or_else,
-  Reading,
-  symbol_piece,
-  identifier_at,
-  number_in,
-  number_piece,
-  number_before,
-  comment_piece,
-  closing,
-  string_piece,
-  string_end,
-  string_at,
-  symbol_in,
-  mark_piece,
-  piece_at,
-}
-use Rattle.pas_lexer.proofs.LongestRun.{chosen, fact_of, pass_nil, pass_cons, head_is, tail_is}
-use Rattle.pas_lexer.proofs.LongestInTable.{opened, symbol_is, some_symbol}
-use Rattle.pas_lexer.proofs.AllDigitsFirst.{
-  both_ways,
-  first_digits,
-  number_read,
-  digit_here,
-  not_real,
-  not_joined,
-  large_number,
-  number_large,
-  digit_opens_none,
-}
-use Rattle.pas_lexer.proofs.FirstClosingSymbol.{closing_sound, never_closed}
-use Rattle.pas_lexer.proofs.LastApostrophe.{Ended, ended_sound, open_found, doubled_apostrophe, doubled_other}
-use Rattle.pas_lexer.proofs.ReadPieceFits.{piece_again, piece_cut, mark_read, symbol_read, star_there, failed}
+use Rattle.std.proofs.Common.{◌&&◌, ◌++◌, ◌+◌, ◌<◌, ◌∙◌, ◌∷◌, ◌≡◌, ◌≤◌, [], ℕ, Bool, Err, List, None, Ok, Option, Some, ap, arith, cond, drop, false, inl, inr}
+use Rattle.std.proofs.Common.{length, nat_eq, nat_lt, refl, subst, suc, sym, take, true}
+use Rattle.std.proofs.lemmas.{Bool.eq-eqb, Bool.eqb-true, Bool.lt-ltb, Bool.Decides.nat_tests, List.take-append-drop, Option.none-some, Option.same_Some}
+use Rattle.pas_lexer.proofs.{AllDigitsFirst.number_read, FirstClosingSymbol.closing_sound, FirstClosingSymbol.never_closed}
+use Rattle.pas_lexer.proofs.AllDigitsFirst.{both_ways, digit_here, digit_opens_none, first_digits, large_number, not_joined, not_real, number_large}
+use Rattle.pas_lexer.proofs.LastApostrophe.{Ended, doubled_apostrophe, doubled_other, ended_sound, open_found}
+use Rattle.pas_lexer.proofs.LongestInTable.{opened, some_symbol, symbol_is}
+use Rattle.pas_lexer.proofs.LongestRun.{chosen, fact_of, head_is, pass_cons, pass_nil, tail_is}
+use Rattle.pas_lexer.proofs.ReadPieceFits.{failed, mark_read, piece_again, piece_cut, star_there, symbol_read}
+use Rattle.pas_lexer.specs.Lexis.{BeginsJoined, BeginsReal, FirstDigits, Fits, IsClosed, IsLongest, IsOpened, IsReason, NothingFits, apostrophe, decimal, digit}
+use Rattle.pas_lexer.specs.Lexis.{doubled, ends_first, ends_line, in_line, letter, letter_first, maxint, next_is, real_follows, separator}
+use Rattle.pas_lexer.specs.Reading.{Reading, all_symbols, closing, comment_piece, identifier_at, mark_piece, more_by, number_before, number_in, number_piece}
+use Rattle.pas_lexer.specs.Reading.{or_else, piece_at, run_length, string_at, string_end, string_piece, symbol_among, symbol_in, symbol_of, symbol_piece}
+use Rattle.pas_lexer.specs.Reading.{written_text}
+use Rattle.pas_lexer.specs.declared.{kinds.LexReason.LexReason, kinds.Symbol.TheVariants.LeftParen, symbols.Written.Written, symbols.Written.TheVariants.Usual}
+use Rattle.pas_lexer.specs.declared.kinds.LexReason.TheVariants.{BadByte, EmptyString, Joined, OpenComment, OpenString, RealWord, TooLarge}
+use Rattle.pas_lexer.specs.declared.kinds.TokenKind.{TokenKind, TheVariants.Number, TheVariants.Symbol as SymbolKind, TheVariants.Text}
 
 abbrev read : Option TokenKind × ℕ → Reading
 read x = Ok x

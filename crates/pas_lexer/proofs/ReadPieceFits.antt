@@ -1,137 +1,24 @@
 -- What is read as a piece fits, and what fits is read.
-use Rattle.std.proofs.Common.{
-  ◌≡◌,
-  ℕ,
-  suc,
-  ◌+◌,
-  ◌<◌,
-  ◌≤◌,
-  Bool,
-  true,
-  false,
-  cond,
-  nat_eq,
-  nat_lt,
-  List,
-  [],
-  ◌∷◌,
-  ◌++◌,
-  length,
-  take,
-  drop,
-  Option,
-  Some,
-  None,
-  Ok,
-  Err,
-  refl,
-  sym,
-  ap,
-  subst,
-  ◌∙◌,
-  append_assoc,
-  arith,
-  length-append,
-  length-take,
-  inl,
-  inr,
-}
-use Rattle.std.proofs.lemmas.Option.{same_Some}
-use Rattle.std.specs.Prelude.{◌&&◌}
-use Rattle.std.proofs.lemmas.Bool.{eqb-true, and_parts, or_from, or_parts, ltb-true, lt-ltb, eq-eqb}
-use Rattle.std.proofs.lemmas.List.{take-append-drop, append-nil}
-use Rattle.std.proofs.Math.Seq.{take-append_seam}
-use Rattle.pas_lexer.specs.declared.kinds.Word.{Word}
-use Rattle.pas_lexer.specs.declared.kinds.Symbol.{Symbol}
-use Rattle.pas_lexer.specs.declared.kinds.TokenKind.{TokenKind}
-use Rattle.pas_lexer.specs.declared.kinds.TokenKind.TheVariants.{Word as WordKind, Name, Number, Text, Symbol as SymbolKind, End}
-use Rattle.pas_lexer.specs.declared.kinds.LexReason.{LexReason}
-use Rattle.pas_lexer.specs.declared.kinds.LexReason.TheVariants.{BadByte, OpenComment, OpenString, EmptyString, RealWord, TooLarge, Joined}
-use Rattle.pas_lexer.specs.declared.symbols.Written.{Written}
-use Rattle.pas_lexer.specs.declared.symbols.Written.TheVariants.{Usual, Other}
-use Rattle.pas_lexer.specs.Lexis.{
-  letter,
-  digit,
-  letter_or_digit,
-  separator,
-  apostrophe,
-  letter_first,
-  next_is,
-  real_follows,
-  IsIdentifier,
-  IsDigitSequence,
-  decimal,
-  maxint,
-  doubled,
-  quoted,
-  IsCharacters,
-  Spells,
-  opens_comment,
-  IsClosed,
-  IsOpened,
-  IsLongest,
-  IsAllowed,
-  Fits,
-  NothingFits,
-}
-use Rattle.pas_lexer.specs.Reading.{
-  all_symbols,
-  symbol_among,
-  word_in,
-  symbol_in,
-  written_text,
-  symbol_of,
-  run_length,
-  Reading,
-  word_or_name,
-  symbol_piece,
-  identifier_at,
-  number_in,
-  number_piece,
-  number_before,
-  comment_piece,
-  closing,
-  string_piece,
-  string_end,
-  string_at,
-  mark_piece,
-  piece_at,
-}
-use Rattle.pas_lexer.proofs.LongestRun.{
-  chosen,
-  fact_of,
-  pass_head,
-  pass_rest,
-  Stops,
-  stops,
-  next_fails,
-  run_again,
-  run_passes,
-  run_stops,
-  run_len,
-  split,
-  head_is,
-  tail_is,
-}
-use Rattle.pas_lexer.proofs.LongestInTable.{opened, symbol_is, longest_symbol, some_symbol, one_symbol}
-use Rattle.pas_lexer.proofs.AllDigitsFirst.{
-  digit_no_letter,
-  letter_passes,
-  separator_no_letter,
-  separator_no_digit,
-  letter_opens_none,
-  digit_opens_none,
-  both_ways,
-  digits_more,
-  stops_first,
-  first_digits,
-  number_read,
-  small_number,
-  number_small,
-}
-use Rattle.pas_lexer.proofs.WordsBeforeNames.{identifier_all, identifier_more, word_spelled, identifier_spells, word_again, name_again}
-use Rattle.pas_lexer.proofs.FirstClosingSymbol.{closing_again, closing_sound}
-use Rattle.pas_lexer.proofs.LastApostrophe.{Ended, ended_sound, ended_found, characters_are, characters_on_line, characters_some}
+use Rattle.std.proofs.Common.{◌&&◌, ◌++◌, ◌+◌, ◌<◌, ◌∙◌, ◌∷◌, ◌≡◌, ◌≤◌, [], ℕ, Bool, Err, List, None, Ok, Option, Some, ap, append_assoc, arith, cond, drop}
+use Rattle.std.proofs.Common.{false, inl, inr, length, length-append, length-take, nat_eq, nat_lt, refl, subst, suc, sym, take, true}
+use Rattle.std.proofs.{Math.Seq.take-append_seam, lemmas.List.append-nil, lemmas.List.take-append-drop, lemmas.Option.same_Some}
+use Rattle.std.proofs.lemmas.Bool.{and_parts, eq-eqb, eqb-true, lt-ltb, ltb-true, or_from, or_parts}
+use Rattle.pas_lexer.proofs.{FirstClosingSymbol.closing_again, FirstClosingSymbol.closing_sound, LongestRun.stops, LongestRun.tail_is}
+use Rattle.pas_lexer.proofs.AllDigitsFirst.{both_ways, digit_no_letter, digit_opens_none, digits_more, first_digits, letter_opens_none, letter_passes}
+use Rattle.pas_lexer.proofs.AllDigitsFirst.{number_read, number_small, separator_no_digit, separator_no_letter, small_number, stops_first}
+use Rattle.pas_lexer.proofs.LastApostrophe.{Ended, characters_are, characters_on_line, characters_some, ended_found, ended_sound}
+use Rattle.pas_lexer.proofs.LongestInTable.{longest_symbol, one_symbol, opened, some_symbol, symbol_is}
+use Rattle.pas_lexer.proofs.LongestRun.{Stops, chosen, fact_of, head_is, next_fails, pass_head, pass_rest, run_again, run_len, run_passes, run_stops, split}
+use Rattle.pas_lexer.proofs.WordsBeforeNames.{identifier_all, identifier_more, identifier_spells, name_again, word_again, word_spelled}
+use Rattle.pas_lexer.specs.{Lexis.separator, Reading.written_text}
+use Rattle.pas_lexer.specs.Lexis.{Fits, IsAllowed, IsCharacters, IsClosed, IsDigitSequence, IsIdentifier, IsLongest, IsOpened, NothingFits, Spells, apostrophe}
+use Rattle.pas_lexer.specs.Lexis.{decimal, digit, doubled, letter, letter_first, letter_or_digit, maxint, next_is, opens_comment, quoted, real_follows}
+use Rattle.pas_lexer.specs.Reading.{Reading, all_symbols, closing, comment_piece, identifier_at, mark_piece, number_before, number_in, number_piece, piece_at}
+use Rattle.pas_lexer.specs.Reading.{run_length, string_at, string_end, string_piece, symbol_among, symbol_in, symbol_of, symbol_piece, word_in, word_or_name}
+use Rattle.pas_lexer.specs.declared.kinds.{LexReason.LexReason, Symbol.Symbol, TokenKind.TokenKind, Word.Word}
+use Rattle.pas_lexer.specs.declared.kinds.LexReason.TheVariants.{BadByte, EmptyString, Joined, OpenComment, OpenString, RealWord, TooLarge}
+use Rattle.pas_lexer.specs.declared.kinds.TokenKind.TheVariants.{End, Name, Number, Symbol as SymbolKind, Text, Word as WordKind}
+use Rattle.pas_lexer.specs.declared.symbols.Written.{Written, TheVariants.Other, TheVariants.Usual}
 
 abbrev read : Option TokenKind → ℕ → Reading
 read k n = Ok (k, n)

@@ -1,48 +1,14 @@
 -- The source again, from its tokens and what stands between them; and a string, from its characters.
-use Rattle.std.proofs.Common.{
-  ◌≡◌,
-  ℕ,
-  ◌+◌,
-  ◌-◌,
-  ◌≤◌,
-  true,
-  false,
-  nat_eq,
-  List,
-  [],
-  ◌∷◌,
-  ◌++◌,
-  length,
-  take,
-  drop,
-  Option,
-  Some,
-  None,
-  refl,
-  sym,
-  ap,
-  subst,
-  ◌∙◌,
-  append_assoc,
-  arith,
-  length-append,
-  length-drop,
-  inl,
-  inr,
-  ◌⊎◌,
-}
-use Rattle.pas_lexer.proofs.LastApostrophe.{doubled_apostrophe, doubled_other}
-use Rattle.std.specs.Prelude.{◌≢◌, slice_range, All}
-use Rattle.std.proofs.lemmas.List.{append-nil, take_at, drop_at, drop-drop, take-append-drop}
+use Rattle.std.proofs.Common.{◌++◌, ◌+◌, ◌-◌, ◌∙◌, ◌∷◌, ◌≡◌, ◌≢◌, ◌≤◌, ◌⊎◌, [], ℕ, All, List, None, Option, Some, ap, append_assoc, arith, drop, false, inl}
+use Rattle.std.proofs.Common.{inr, length, length-append, length-drop, nat_eq, refl, slice_range, subst, sym, take, true}
 use Rattle.std.proofs.Math.Seq.{take-add}
-use Rattle.pas_lexer.specs.declared.kinds.TokenKind.{TokenKind}
-use Rattle.pas_lexer.specs.declared.kinds.TokenKind.TheVariants.{Text, End}
-use Rattle.pas_lexer.specs.declared.kinds.Token.{Token}
-use Rattle.pas_lexer.specs.Lexis.{IsSeparator, IsComment, Fits, apostrophe, doubled, quoted}
-use Rattle.pas_lexer.specs.Lexed.{text_of, characters, spelled_as}
-use Rattle.pas_lexer.specs.Division.{Piece, Divides, line_at, token_of, tokens_from, IsLexed, rejoined, Gaps, IsGap, InOrder}
-use Rattle.pas_lexer.proofs.OneDivision.{all_nil, all_cons, all_append}
-use Rattle.pas_lexer.proofs.LongestRun.{fact_of, rest_is}
+use Rattle.std.proofs.lemmas.List.{append-nil, drop-drop, drop_at, take-append-drop, take_at}
+use Rattle.pas_lexer.proofs.{LastApostrophe.doubled_apostrophe, LastApostrophe.doubled_other, LongestRun.fact_of, LongestRun.rest_is}
+use Rattle.pas_lexer.proofs.OneDivision.{all_append, all_cons, all_nil}
+use Rattle.pas_lexer.specs.Division.{Divides, Gaps, InOrder, IsGap, IsLexed, Piece, line_at, rejoined, token_of, tokens_from}
+use Rattle.pas_lexer.specs.Lexed.{characters, spelled_as, text_of}
+use Rattle.pas_lexer.specs.Lexis.{Fits, IsComment, IsSeparator, apostrophe, doubled, quoted}
+use Rattle.pas_lexer.specs.declared.kinds.{Token.Token, TokenKind.TokenKind, TokenKind.TheVariants.End, TokenKind.TheVariants.Text}
 
 -- ---- parts of a source
 

@@ -1,44 +1,9 @@
 -- The spellings of tokens, one after the other.
-use Rattle.std.proofs.Common.{
-  ◌≡◌,
-  ℕ,
-  zero,
-  suc,
-  ◌+◌,
-  ◌-◌,
-  ◌<◌,
-  ◌≤◌,
-  List,
-  [],
-  ◌∷◌,
-  ◌++◌,
-  length,
-  take,
-  drop,
-  get_or,
-  slice_get,
-  Option,
-  Some,
-  None,
-  refl,
-  sym,
-  ap,
-  subst,
-  ◌∙◌,
-  arith,
-  length-append,
-  length-drop,
-  inl,
-  inr,
-  ◌⊎◌,
-}
-use Rattle.std.specs.Prelude.{slice_range}
-use Rattle.std.proofs.lemmas.List.{take-append-le, drop-append-le, drop_at, take_all}
-use Rattle.std.proofs.lemmas.Option.{slice_get_within, slice_get_read, none-some, same_Some}
-use Rattle.std.proofs.Math.Seq.{take-suc}
-use Rattle.pas_lexer.specs.declared.kinds.Token.{Token}
-use Rattle.pas_lexer.specs.declared.spellings.Place.{Place}
-use Rattle.pas_lexer.specs.Lexed.{Lexed, spelling_of, IsSpelled, AreSpelled}
+use Rattle.std.proofs.Common.{◌++◌, ◌+◌, ◌-◌, ◌<◌, ◌∙◌, ◌∷◌, ◌≡◌, ◌≤◌, ◌⊎◌, [], ℕ, List, None, Option, Some, ap, arith, drop, get_or, inl, inr, length}
+use Rattle.std.proofs.Common.{length-append, length-drop, refl, slice_get, slice_range, subst, suc, sym, take, zero}
+use Rattle.std.proofs.{Math.Seq.take-suc, lemmas.List.drop-append-le, lemmas.List.drop_at, lemmas.List.take-append-le, lemmas.List.take_all}
+use Rattle.std.proofs.lemmas.Option.{none-some, same_Some, slice_get_read, slice_get_within}
+use Rattle.pas_lexer.specs.{Lexed.AreSpelled, Lexed.IsSpelled, Lexed.Lexed, Lexed.spelling_of, declared.kinds.Token.Token, declared.spellings.Place.Place}
 
 -- a part of the front stays where it is
 part_stays : (l m : List ℕ) (a b : ℕ) → a ≤ b → b ≤ length l → slice_range (l ++ m) a b ≡ slice_range l a b

@@ -1,17 +1,12 @@
 -- Identifiers, and the words and names that they spell.
-use Rattle.std.proofs.Common.{◌≡◌, ℕ, true, List, [], ◌∷◌, ◌++◌, Option, Some, None, refl, sym, ap, subst, ◌∙◌, arith}
-use Rattle.std.proofs.lemmas.Bool.{and_parts}
-use Rattle.std.specs.List.{AllPass, list_all}
-use Rattle.std.specs.Char.{to_ascii_lowercase}
-use Rattle.std.proofs.lemmas.List.Sums.{AllPass-from_list_all}
-use Rattle.std.proofs.lemmas.Bool.Decides.{nat_tests}
-use Rattle.pas_lexer.specs.declared.kinds.Word.{Word}
-use Rattle.pas_lexer.specs.Lexicon.{word_text}
-use Rattle.pas_lexer.specs.Lexis.{letter, letter_or_digit, lower_case, IsIdentifier, Spells}
-use Rattle.pas_lexer.specs.Reading.{all_words, word_among, word_in, word_or_name}
-use Rattle.pas_lexer.proofs.LongestRun.{pass_nil, pass_cons, pass_head, pass_tail, pass_more}
-use Rattle.pas_lexer.proofs.LongestInTable.{word_found, identifier, word_identifier, word_is}
+use Rattle.std.proofs.Common.{◌++◌, ◌∙◌, ◌∷◌, ◌≡◌, [], ℕ, List, None, Option, Some, ap, arith, refl, subst, sym, true}
+use Rattle.std.proofs.lemmas.{Bool.and_parts, Bool.Decides.nat_tests, List.Sums.AllPass-from_list_all}
+use Rattle.std.specs.{Char.to_ascii_lowercase, List.AllPass, List.list_all}
 use Rattle.pas_lexer.proofs.AllDigitsFirst.{letter_passes}
+use Rattle.pas_lexer.proofs.LongestInTable.{identifier, word_found, word_identifier, word_is}
+use Rattle.pas_lexer.proofs.LongestRun.{pass_cons, pass_head, pass_more, pass_nil, pass_tail}
+use Rattle.pas_lexer.specs.{Lexicon.word_text, Reading.all_words, Reading.word_among, Reading.word_in, Reading.word_or_name, declared.kinds.Word.Word}
+use Rattle.pas_lexer.specs.Lexis.{IsIdentifier, Spells, letter, letter_or_digit, lower_case}
 
 lower_letter : (c : ℕ) → letter (to_ascii_lowercase c) ≡ true → letter c ≡ true
 lower_letter c h = grind (arith, nat_tests)

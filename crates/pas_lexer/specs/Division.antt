@@ -1,44 +1,13 @@
 -- A source as a row of pieces, and the tokens of a source: ISO 7185 clause 6.1.
-use Rattle.std.specs.Prelude.{
-  ◌≡◌,
-  ℕ,
-  ◌+◌,
-  ◌≤◌,
-  nat_eq,
-  List,
-  [],
-  ◌∷◌,
-  ◌++◌,
-  length,
-  take,
-  slice_range,
-  count_by,
-  Option,
-  Some,
-  None,
-  Result,
-  Ok,
-  Err,
-  ◌⊎◌,
-}
-use Rattle.pas_lexer.specs.declared.kinds.TokenKind.{TokenKind}
-use Rattle.pas_lexer.specs.declared.kinds.TokenKind.TheVariants.{End}
-use Rattle.pas_lexer.specs.declared.kinds.Token.{Token}
-use Rattle.pas_lexer.specs.declared.kinds.LexReason.{LexReason}
-use Rattle.pas_lexer.specs.declared.kinds.LexReason.TheVariants as reason
-use Rattle.pas_lexer.specs.declared.kinds.LexFault.{LexFault}
-use Rattle.pas_lexer.specs.declared.kinds.LexFault.TheVariants.{
-  BadByte,
-  OpenComment,
-  OpenString,
-  EmptyString,
-  RealWord,
-  TooLarge,
-  Joined,
-  Memory,
-}
-use Rattle.pas_lexer.specs.Lexis.{Fits, NothingFits, IsReason, IsSeparator, IsComment}
+use Rattle.std.specs.Prelude.{◌++◌, ◌+◌, ◌∷◌, ◌≡◌, ◌≤◌, ◌⊎◌, [], ℕ, Err, List, None, Ok, Option, Result, Some, count_by}
+use Rattle.std.specs.Prelude.{length, nat_eq, slice_range, take}
 use Rattle.pas_lexer.specs.Lexed.{Lexed, text_of}
+use Rattle.pas_lexer.specs.Lexis.{Fits, IsComment, IsReason, IsSeparator, NothingFits}
+use Rattle.pas_lexer.specs.declared.kinds.{LexFault.LexFault, LexReason.LexReason, Token.Token}
+use Rattle.pas_lexer.specs.declared.kinds.LexFault.TheVariants.{BadByte, EmptyString, Joined, Memory, OpenComment}
+use Rattle.pas_lexer.specs.declared.kinds.LexFault.TheVariants.{OpenString, RealWord, TooLarge}
+use Rattle.pas_lexer.specs.declared.kinds.LexReason.TheVariants as reason
+use Rattle.pas_lexer.specs.declared.kinds.TokenKind.{TokenKind, TheVariants.End}
 
 -- a separator or a comment, which have no kind, or a token
 pub record Piece : Type 0 where

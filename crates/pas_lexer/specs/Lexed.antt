@@ -1,34 +1,9 @@
 -- A source with its tokens, as callers see it.
-use Rattle.std.specs.Prelude.{
-  ◌≡◌,
-  ◌≢◌,
-  ℕ,
-  ◌<◌,
-  ◌≤◌,
-  ◌^◌,
-  Bool,
-  true,
-  false,
-  not,
-  nat_eq,
-  ◌&&◌,
-  if◌then◌else◌,
-  List,
-  [],
-  ◌∷◌,
-  ◌++◌,
-  length,
-  drop,
-  slice_range,
-  slice_get,
-  Some,
-  All,
-}
-use Rattle.pas_lexer.specs.declared.kinds.TokenKind.{TokenKind}
-use Rattle.pas_lexer.specs.declared.kinds.TokenKind.TheVariants.{Name, Text, End}
-use Rattle.pas_lexer.specs.declared.kinds.Token.{Token}
-use Rattle.pas_lexer.specs.declared.spellings.Place.{Place}
+use Rattle.std.specs.Prelude.{if◌then◌else◌, ◌&&◌, ◌++◌, ◌<◌, ◌^◌, ◌∷◌, ◌≡◌, ◌≢◌, ◌≤◌, [], ℕ, All, Bool, List, Some}
+use Rattle.std.specs.Prelude.{drop, false, length, nat_eq, not, slice_get, slice_range, true}
 use Rattle.pas_lexer.specs.Lexis.{apostrophe, lower_case}
+use Rattle.pas_lexer.specs.declared.{kinds.Token.Token, spellings.Place.Place}
+use Rattle.pas_lexer.specs.declared.kinds.TokenKind.{TokenKind, TheVariants.End, TheVariants.Name, TheVariants.Text}
 
 pub record Lexed : Type 0 where
   pub tokens : List Token

@@ -1,66 +1,14 @@
 -- The two tables of the lexis, ISO 7185 clause 6.1.2: how the word symbols and the special symbols are spelled.
 use Rattle.std.specs.Prelude.{ℕ, List, codes}
-use Rattle.pas_lexer.specs.declared.kinds.Word.{Word}
-use Rattle.pas_lexer.specs.declared.kinds.Word.TheVariants.{
-  WAnd,
-  WArray,
-  WBegin,
-  WCase,
-  WConst,
-  WDiv,
-  WDo,
-  WDownto,
-  WElse,
-  WEnd,
-  WFile,
-  WFor,
-  WFunction,
-  WGoto,
-  WIf,
-  WIn,
-  WLabel,
-  WMod,
-  WNil,
-  WNot,
-  WOf,
-  WOr,
-  WPacked,
-  WProcedure,
-  WProgram,
-  WRecord,
-  WRepeat,
-  WSet,
-  WThen,
-  WTo,
-  WType,
-  WUntil,
-  WVar,
-  WWhile,
-  WWith,
-}
 use Rattle.pas_lexer.specs.declared.kinds.Symbol.{Symbol}
-use Rattle.pas_lexer.specs.declared.kinds.Symbol.TheVariants.{
-  Plus,
-  Minus,
-  Star,
-  Equal,
-  Less,
-  Greater,
-  LeftBracket,
-  RightBracket,
-  Dot,
-  Comma,
-  Colon,
-  Semicolon,
-  Caret,
-  LeftParen,
-  RightParen,
-  NotEqual,
-  AtMost,
-  AtLeast,
-  Becomes,
-  Range,
-}
+use Rattle.pas_lexer.specs.declared.kinds.Symbol.TheVariants.{AtLeast, AtMost, Becomes, Caret, Colon, Comma, Dot, Equal}
+use Rattle.pas_lexer.specs.declared.kinds.Symbol.TheVariants.{Greater, LeftBracket, LeftParen, Less, Minus, NotEqual}
+use Rattle.pas_lexer.specs.declared.kinds.Symbol.TheVariants.{Plus, Range, RightBracket, RightParen, Semicolon, Star}
+use Rattle.pas_lexer.specs.declared.kinds.Word.{Word, TheVariants.WVar, TheVariants.WWhile, TheVariants.WWith}
+use Rattle.pas_lexer.specs.declared.kinds.Word.TheVariants.{WAnd, WArray, WBegin, WCase, WConst, WDiv, WDo, WDownto}
+use Rattle.pas_lexer.specs.declared.kinds.Word.TheVariants.{WElse, WEnd, WFile, WFor, WFunction, WGoto, WIf, WIn}
+use Rattle.pas_lexer.specs.declared.kinds.Word.TheVariants.{WLabel, WMod, WNil, WNot, WOf, WOr, WPacked, WProcedure}
+use Rattle.pas_lexer.specs.declared.kinds.Word.TheVariants.{WProgram, WRecord, WRepeat, WSet, WThen, WTo, WType, WUntil}
 
 -- the word symbols, in lower case
 abbrev pub word_text : Word → List ℕ

@@ -1,58 +1,14 @@
 -- The lexis of Pascal, ISO 7185 clause 6.1: which texts are tokens and separators, where each of them fits, and why
 -- nothing fits.
-use Rattle.std.specs.Prelude.{
-  ◌≡◌,
-  ◌≢◌,
-  ℕ,
-  ◌+◌,
-  ◌-◌,
-  ◌*◌,
-  ◌^◌,
-  ◌<◌,
-  ◌≤◌,
-  Bool,
-  true,
-  false,
-  not,
-  nat_eq,
-  ◌&&◌,
-  ◌||◌,
-  if◌then◌else◌,
-  List,
-  [],
-  ◌∷◌,
-  ◌++◌,
-  length,
-  map,
-  codes,
-  Option,
-  Some,
-  None,
-  ◌⊎◌,
-}
+use Rattle.std.specs.Prelude.{if◌then◌else◌, ◌&&◌, ◌*◌, ◌++◌, ◌+◌, ◌-◌, ◌<◌, ◌^◌, ◌||◌, ◌∷◌, ◌≡◌, ◌≢◌, ◌≤◌, ◌⊎◌, [], ℕ}
+use Rattle.std.specs.Prelude.{Bool, List, None, Option, Some, codes, false, length, map, nat_eq, not, true}
+use Rattle.std.specs.Char.{is_ascii_alphabetic, is_ascii_alphanumeric, is_ascii_digit, to_ascii_lowercase}
 use Rattle.std.specs.List.{AllPass}
-use Rattle.std.specs.Char.{is_ascii_digit, is_ascii_alphabetic, is_ascii_alphanumeric, to_ascii_lowercase}
-use Rattle.pas_lexer.specs.declared.kinds.Word.{Word}
-use Rattle.pas_lexer.specs.declared.kinds.TokenKind.{TokenKind}
-use Rattle.pas_lexer.specs.declared.kinds.TokenKind.TheVariants.{
-  Word as WordKind,
-  Name,
-  Number,
-  Text,
-  Symbol as SymbolKind,
-  End,
-}
-use Rattle.pas_lexer.specs.declared.kinds.LexReason.{LexReason}
-use Rattle.pas_lexer.specs.declared.kinds.LexReason.TheVariants.{
-  BadByte,
-  OpenComment,
-  OpenString,
-  EmptyString,
-  RealWord,
-  TooLarge,
-  Joined,
-}
-use Rattle.pas_lexer.specs.Lexicon.{word_text, symbol_text, other_text}
+use Rattle.pas_lexer.specs.Lexicon.{other_text, symbol_text, word_text}
+use Rattle.pas_lexer.specs.declared.kinds.{TokenKind.TokenKind, TokenKind.TheVariants.Word as WordKind, Word.Word}
+use Rattle.pas_lexer.specs.declared.kinds.LexReason.{LexReason, TheVariants.RealWord, TheVariants.TooLarge}
+use Rattle.pas_lexer.specs.declared.kinds.LexReason.TheVariants.{BadByte, EmptyString, Joined, OpenComment, OpenString}
+use Rattle.pas_lexer.specs.declared.kinds.TokenKind.TheVariants.{End, Name, Number, Symbol as SymbolKind, Text}
 
 -- ---- bytes
 

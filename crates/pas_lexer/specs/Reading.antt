@@ -1,122 +1,24 @@
 -- Reading one piece: what stands first, and how many bytes it takes. Only the private readers speak of it; the public
 -- contracts speak of Lexis and Division, and proofs show that what is read fits and what fits is read.
-use Rattle.std.specs.Prelude.{
-  ℕ,
-  suc,
-  ◌+◌,
-  Bool,
-  true,
-  false,
-  nat_eq,
-  nat_lt,
-  ◌&&◌,
-  if◌then◌else◌,
-  List,
-  [],
-  ◌∷◌,
-  length,
-  Option,
-  Some,
-  None,
-  Result,
-  Ok,
-  Err,
-  take,
-  drop,
-}
-use Rattle.std.specs.List.{starts_with}
-use Rattle.std.specs.Str.{bytes_eq}
-use Rattle.pas_lexer.specs.declared.kinds.Word.{Word}
-use Rattle.pas_lexer.specs.declared.kinds.Word.TheVariants.{
-  WAnd,
-  WArray,
-  WBegin,
-  WCase,
-  WConst,
-  WDiv,
-  WDo,
-  WDownto,
-  WElse,
-  WEnd,
-  WFile,
-  WFor,
-  WFunction,
-  WGoto,
-  WIf,
-  WIn,
-  WLabel,
-  WMod,
-  WNil,
-  WNot,
-  WOf,
-  WOr,
-  WPacked,
-  WProcedure,
-  WProgram,
-  WRecord,
-  WRepeat,
-  WSet,
-  WThen,
-  WTo,
-  WType,
-  WUntil,
-  WVar,
-  WWhile,
-  WWith,
-}
-use Rattle.pas_lexer.specs.declared.kinds.Symbol.{Symbol}
-use Rattle.pas_lexer.specs.declared.kinds.Symbol.TheVariants.{
-  Plus,
-  Minus,
-  Star,
-  Equal,
-  Less,
-  Greater,
-  LeftBracket,
-  RightBracket,
-  Dot,
-  Comma,
-  Colon,
-  Semicolon,
-  Caret,
-  LeftParen,
-  RightParen,
-  NotEqual,
-  AtMost,
-  AtLeast,
-  Becomes,
-  Range,
-}
-use Rattle.pas_lexer.specs.declared.kinds.TokenKind.{TokenKind}
-use Rattle.pas_lexer.specs.declared.kinds.TokenKind.TheVariants.{Word as WordKind, Name, Number, Text}
-use Rattle.pas_lexer.specs.declared.kinds.TokenKind.TheVariants.{Symbol as SymbolKind}
-use Rattle.pas_lexer.specs.declared.kinds.LexReason.{LexReason}
-use Rattle.pas_lexer.specs.declared.kinds.LexReason.TheVariants.{
-  BadByte,
-  OpenComment,
-  OpenString,
-  EmptyString,
-  RealWord,
-  TooLarge,
-  Joined,
-}
-use Rattle.pas_lexer.specs.declared.symbols.Written.{Written}
-use Rattle.pas_lexer.specs.declared.symbols.Written.TheVariants.{Usual, Other}
-use Rattle.pas_lexer.specs.Lexicon.{word_text, symbol_text, other_text}
-use Rattle.pas_lexer.specs.Lexis.{
-  letter,
-  digit,
-  letter_or_digit,
-  separator,
-  ends_line,
-  apostrophe,
-  next_is,
-  letter_first,
-  real_follows,
-  lower_case,
-  decimal,
-  maxint,
-}
+use Rattle.std.specs.Prelude.{if◌then◌else◌, ◌&&◌, ◌+◌, ◌∷◌, [], ℕ, Bool, Err, List, None, Ok, Option, Result, Some}
+use Rattle.std.specs.Prelude.{drop, false, length, nat_eq, nat_lt, suc, take, true}
+use Rattle.std.specs.{List.starts_with, Str.bytes_eq}
+use Rattle.pas_lexer.specs.Lexicon.{other_text, symbol_text, word_text}
+use Rattle.pas_lexer.specs.Lexis.{apostrophe, decimal, digit, ends_line, letter, letter_first, letter_or_digit}
+use Rattle.pas_lexer.specs.Lexis.{lower_case, maxint, next_is, real_follows, separator}
+use Rattle.pas_lexer.specs.declared.kinds.{Symbol.Symbol, TokenKind.TokenKind, TokenKind.TheVariants.Word as WordKind}
+use Rattle.pas_lexer.specs.declared.kinds.LexReason.{LexReason, TheVariants.RealWord, TheVariants.TooLarge}
+use Rattle.pas_lexer.specs.declared.kinds.LexReason.TheVariants.{BadByte, EmptyString, Joined, OpenComment, OpenString}
+use Rattle.pas_lexer.specs.declared.kinds.Symbol.TheVariants.{AtLeast, AtMost, Becomes, Caret, Colon, Comma, Dot, Equal}
+use Rattle.pas_lexer.specs.declared.kinds.Symbol.TheVariants.{Greater, LeftBracket, LeftParen, Less, Minus, NotEqual}
+use Rattle.pas_lexer.specs.declared.kinds.Symbol.TheVariants.{Plus, Range, RightBracket, RightParen, Semicolon, Star}
+use Rattle.pas_lexer.specs.declared.kinds.TokenKind.TheVariants.{Name, Number, Symbol as SymbolKind, Text}
+use Rattle.pas_lexer.specs.declared.kinds.Word.{Word, TheVariants.WVar, TheVariants.WWhile, TheVariants.WWith}
+use Rattle.pas_lexer.specs.declared.kinds.Word.TheVariants.{WAnd, WArray, WBegin, WCase, WConst, WDiv, WDo, WDownto}
+use Rattle.pas_lexer.specs.declared.kinds.Word.TheVariants.{WElse, WEnd, WFile, WFor, WFunction, WGoto, WIf, WIn}
+use Rattle.pas_lexer.specs.declared.kinds.Word.TheVariants.{WLabel, WMod, WNil, WNot, WOf, WOr, WPacked, WProcedure}
+use Rattle.pas_lexer.specs.declared.kinds.Word.TheVariants.{WProgram, WRecord, WRepeat, WSet, WThen, WTo, WType, WUntil}
+use Rattle.pas_lexer.specs.declared.symbols.Written.{Written, TheVariants.Other, TheVariants.Usual}
 
 -- each word symbol, in the order of `WORDS`
 abbrev pub all_words : List Word

@@ -1,18 +1,9 @@
 //! The bytes of a source, ISO 7185 clause 6.1.
 
-ghost use Rattle.std.specs.Prelude.{◌≡◌, ◌+◌, ◌<◌, ◌≤◌, ◌&&◌, length, false, nat_eq, IfSome, IsTrue};
-ghost use Rattle.pas_lexer.specs.Lexis.{
-  letter,
-  digit,
-  letter_or_digit,
-  separator,
-  letter_first,
-  digit_first,
-  next_is,
-  scale_first,
-  real_follows,
-};
-ghost use Rattle.pas_lexer.specs.Reading.{run_length, closing, string_end};
+ghost use Rattle.std.specs.Prelude.{◌&&◌, ◌+◌, ◌<◌, ◌≡◌, ◌≤◌, IfSome, IsTrue, false, length, nat_eq};
+ghost use Rattle.pas_lexer.specs.Lexis.{digit, digit_first, letter, letter_first, letter_or_digit, next_is};
+ghost use Rattle.pas_lexer.specs.Lexis.{real_follows, scale_first, separator};
+ghost use Rattle.pas_lexer.specs.Reading.{closing, run_length, string_end};
 
 /// A tab, a line feed, a form feed, a carriage return or a space.
 pub fn is_separator(c: u8) -> bool

@@ -1,8 +1,7 @@
 //! The tokens of a source, ISO 7185 clause 6.1, and the faults of reading them.
 
 ghost use Rattle.std.specs.Prelude.{◌≡◌};
-ghost use Rattle.pas_lexer.specs.declared.kinds.LexFault.TheVariants.{Memory};
-ghost use Rattle.pas_lexer.specs.Division.{lex_fault};
+ghost use Rattle.pas_lexer.specs.{Division.lex_fault, declared.kinds.LexFault.TheVariants.Memory};
 
 use std::alloc::{AllocError, AllocFailed};
 use thiserror::Error;

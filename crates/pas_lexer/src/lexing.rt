@@ -1,51 +1,13 @@
 //! A whole source.
 
-ghost use Rattle.std.specs.Prelude.{
-  ◌≡◌,
-  ◌≢◌,
-  ◌⊎◌,
-  ℕ,
-  ◌+◌,
-  ◌<◌,
-  ◌≤◌,
-  ◌^◌,
-  ◌++◌,
-  List,
-  [],
-  IfOk,
-  IfErr,
-  OnOk,
-  All,
-  length,
-  drop,
-  nat_eq,
-  count_by,
-  vec_len,
-};
-ghost use Rattle.pas_lexer.specs.declared.kinds.TokenKind.TheVariants.{Text, End};
-ghost use Rattle.pas_lexer.specs.declared.kinds.LexFault.TheVariants.{Memory};
-ghost use Rattle.pas_lexer.specs.declared.kinds.LexReason.{LexReason};
-ghost use Rattle.pas_lexer.specs.declared.kinds.Token.{Token};
-ghost use Rattle.pas_lexer.specs.Limits.{source_bytes};
-ghost use Rattle.pas_lexer.specs.Lexis.{quoted, Fits};
-ghost use Rattle.pas_lexer.specs.Reading.{piece_at};
-ghost use Rattle.pas_lexer.specs.Lexed.{IsPlaced, EndsOnce, text_of, spelled_as};
-ghost use Rattle.pas_lexer.specs.Division.{
-  Piece,
-  Divides,
-  token_of,
-  line_feed,
-  line_at,
-  IsLexed,
-  FailsFor,
-  FailsAt,
-  lex_fault,
-  IsFault,
-  GivesTokens,
-  RefusesWith,
-  rejoined,
-  InOrder,
-};
+ghost use Rattle.std.specs.Prelude.{◌++◌, ◌+◌, ◌<◌, ◌^◌, ◌≡◌, ◌≢◌, ◌≤◌, ◌⊎◌, [], ℕ, All, IfErr, IfOk, List, OnOk};
+ghost use Rattle.std.specs.Prelude.{count_by, drop, length, nat_eq, vec_len};
+ghost use Rattle.pas_lexer.specs.{Lexis.Fits, Lexis.quoted, Limits.source_bytes, Reading.piece_at};
+ghost use Rattle.pas_lexer.specs.Division.{Divides, FailsAt, FailsFor, GivesTokens, InOrder, IsFault, IsLexed, Piece};
+ghost use Rattle.pas_lexer.specs.Division.{RefusesWith, lex_fault, line_at, line_feed, rejoined, token_of};
+ghost use Rattle.pas_lexer.specs.Lexed.{EndsOnce, IsPlaced, spelled_as, text_of};
+ghost use Rattle.pas_lexer.specs.declared.kinds.{LexFault.TheVariants.Memory, LexReason.LexReason, Token.Token};
+ghost use Rattle.pas_lexer.specs.declared.kinds.TokenKind.TheVariants.{End, Text};
 
 use crate::kinds::{LexFault, LexReason, Token, TokenKind};
 use crate::piece::piece;

@@ -1,18 +1,8 @@
 //! One piece of a source: a separator, a comment or a token, ISO 7185 clause 6.1.
 
-ghost use Rattle.std.specs.Prelude.{◌≡◌, ◌∷◌, ◌≤◌};
-ghost use Rattle.std.specs.List.{AllPass};
-ghost use Rattle.pas_lexer.specs.Lexis.{digit};
-ghost use Rattle.pas_lexer.specs.Reading.{
-  identifier_at,
-  number_in,
-  number_at,
-  comment_piece,
-  closing,
-  string_at,
-  mark_piece,
-  piece_at,
-};
+ghost use Rattle.std.specs.{Prelude.◌∷◌, Prelude.◌≡◌, Prelude.◌≤◌, List.AllPass};
+ghost use Rattle.pas_lexer.specs.{Lexis.digit, Reading.piece_at, Reading.string_at};
+ghost use Rattle.pas_lexer.specs.Reading.{closing, comment_piece, identifier_at, mark_piece, number_at, number_in};
 
 use crate::bytes::{
     begins_with, begins_with_letter, comment_end, digits_length, identifier_length, is_pair,

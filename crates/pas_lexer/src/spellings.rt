@@ -1,8 +1,8 @@
 //! How tokens are spelled.
 
-ghost use Rattle.std.specs.Prelude.{◌≡◌, ◌++◌, false, IfOk, OnOk, All};
+ghost use Rattle.std.specs.Prelude.{◌++◌, ◌≡◌, All, IfOk, OnOk, false};
+ghost use Rattle.pas_lexer.specs.Lexed.{AreSpelled, IsPlaced, characters, spelled_as};
 ghost use Rattle.pas_lexer.specs.Lexis.{lower_case};
-ghost use Rattle.pas_lexer.specs.Lexed.{characters, spelled_as, IsPlaced, AreSpelled};
 
 use crate::kinds::{Token, TokenKind};
 use std::alloc::{AllocError, Global};

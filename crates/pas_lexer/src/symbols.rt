@@ -1,8 +1,8 @@
 //! The special symbols, ISO 7185 clauses 6.1.2 and 6.1.9.
 
 ghost use Rattle.std.specs.Prelude.{◌≡◌};
-ghost use Rattle.pas_lexer.specs.Lexicon.{symbol_text, other_text};
-ghost use Rattle.pas_lexer.specs.Reading.{written_text, symbol_of, symbol_among, symbol_in};
+ghost use Rattle.pas_lexer.specs.Lexicon.{other_text, symbol_text};
+ghost use Rattle.pas_lexer.specs.Reading.{symbol_among, symbol_in, symbol_of, written_text};
 
 use crate::kinds::Symbol;
 

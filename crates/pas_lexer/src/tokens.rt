@@ -1,9 +1,8 @@
 //! A source with its tokens.
 
-ghost use Rattle.std.specs.Prelude.{◌≡◌, ◌↔◌, ℕ, ◌+◌, ◌<◌, ◌^◌, IfOk, length, slice_get, All, vec_len};
-ghost use Rattle.pas_lexer.specs.declared.kinds.TokenKind.TheVariants.{End};
-ghost use Rattle.pas_lexer.specs.declared.kinds.Token.{Token};
-ghost use Rattle.pas_lexer.specs.Lexed.{text_of, spelling_of, IsPlaced, EndsOnce};
+ghost use Rattle.std.specs.Prelude.{◌+◌, ◌<◌, ◌^◌, ◌↔◌, ◌≡◌, ℕ, All, IfOk, length, slice_get, vec_len};
+ghost use Rattle.pas_lexer.specs.Lexed.{EndsOnce, IsPlaced, spelling_of, text_of};
+ghost use Rattle.pas_lexer.specs.declared.kinds.{Token.Token, TokenKind.TheVariants.End};
 
 use crate::kinds::Token;
 use crate::spellings::{Place, spell};
@@ -23,7 +22,7 @@ pub struct Tokens {
 }
 
 impl Model for Tokens {
-    ghost use Rattle.pas_lexer.specs.Lexed.{Lexed, IsKept};
+    ghost use Rattle.pas_lexer.specs.Lexed.{IsKept, Lexed};
 
     ghost Value = { Lexed };
 

@@ -1,9 +1,7 @@
 //! The word symbols, ISO 7185 clause 6.1.2.
 
 ghost use Rattle.std.specs.Prelude.{◌≡◌};
-ghost use Rattle.pas_lexer.specs.Lexicon.{word_text};
-ghost use Rattle.pas_lexer.specs.Lexis.{lower_case};
-ghost use Rattle.pas_lexer.specs.Reading.{word_among, word_in};
+ghost use Rattle.pas_lexer.specs.{Lexicon.word_text, Lexis.lower_case, Reading.word_among, Reading.word_in};
 
 use crate::kinds::Word;
 

@@ -1,20 +1,12 @@
 -- The token that is refused is exactly the one that the answer tells of.
-use Rattle.std.proofs.Common.{◌≡◌, ℕ, zero, suc, ◌+◌, ◌<◌, ◌≤◌, List, [], ◌∷◌, length, drop, Ok, Err, refl, ap, ◌∙◌, arith, inl, inr}
+use Rattle.std.proofs.Common.{◌+◌, ◌<◌, ◌∙◌, ◌∷◌, ◌≡◌, ◌≤◌, [], ℕ, Err, List, Ok, ap, arith, drop, inl, inr, length, refl, suc, zero}
 use Rattle.std.proofs.lemmas.List.{length-map}
-use Rattle.grammar.specs.declared.terminals.Terminal.{Terminal}
-use Rattle.grammar.specs.Nodes.{Item, Node}
-use Rattle.grammar.specs.Reading.{Unfit, Deep}
-use Rattle.pas_lexer.specs.declared.kinds.Token.{Token}
-use Rattle.pas_lexer.specs.Lexed.{EndsOnce}
-use Rattle.pas_phrases.specs.declared.fault.ParseFault.{ParseFault}
-use Rattle.pas_phrases.specs.declared.fault.ParseFault.TheVariants as faults
-use Rattle.pas_phrases.specs.Items.{numbered, items_from, Fails}
-use Rattle.pas_phrases.proofs.NextToken.{items_end}
-use Rattle.pas_tree.specs.FirstRefused.{HasNeither}
-use Rattle.pas_tree.proofs.FirstRefused.{deep_is_first, stop_is_first, whole_has_neither}
-use Rattle.pas_parser.specs.Kinds.{terminal_of, terminals_of}
-use Rattle.pas_parser.specs.Exact.{IsExact}
-use Rattle.pas_parser.proofs.WholePrograms.{program_read, IsRead, length-numbered, refused_there}
+use Rattle.pas_lexer.specs.{Lexed.EndsOnce, declared.kinds.Token.Token}
+use Rattle.grammar.specs.{Nodes.Item, Nodes.Node, Reading.Deep, Reading.Unfit, declared.terminals.Terminal.Terminal}
+use Rattle.pas_tree.{proofs.FirstRefused.deep_is_first, proofs.FirstRefused.stop_is_first, proofs.FirstRefused.whole_has_neither, specs.FirstRefused.HasNeither}
+use Rattle.pas_phrases.{proofs.NextToken.items_end, specs.Items.Fails, specs.Items.items_from, specs.Items.numbered, specs.declared.fault.ParseFault.ParseFault}
+use Rattle.pas_parser.proofs.WholePrograms.{IsRead, length-numbered, program_read, refused_there}
+use Rattle.pas_parser.specs.{Exact.IsExact, Kinds.terminal_of, Kinds.terminals_of}
 
 numbered_drop : (ks : List Terminal) (i m : ℕ) → numbered (m + i) (drop i ks) ≡ drop i (numbered m ks)
 numbered_drop ks zero m = let e : m + 0 ≡ m = omega arith in ap (λ (n : ℕ). numbered n ks) e
@@ -43,22 +35,22 @@ inside_tokens tokens i h = omega (arith, length-terminals tokens)
 -- a token that is refused
 pub exactly_there : (tokens : List Token) (e : ParseFault) → EndsOnce tokens → Fails (terminals_of tokens) e (program_read (terminals_of tokens))
     → IsExact tokens (Err e)
-exactly_there tokens (faults.NotProgram i) ended given =
+exactly_there tokens (ParseFault.NotProgram i) ended given =
     let ks = terminals_of tokens in
-    let h = (refused_there tokens (faults.NotProgram i) ended given).0 in (
+    let h = (refused_there tokens (ParseFault.NotProgram i) ended given).0 in (
       inside_tokens tokens i h,
       stop_is_first 200 (items_from ks 0) i (inside_all ks i h)
           (inl (given ∙ ap (λ (l : List Item). Err (Unfit l)) (items_drop ks i))),
     )
-exactly_there tokens (faults.TooDeep i) ended given =
+exactly_there tokens (ParseFault.TooDeep i) ended given =
     let ks = terminals_of tokens in
-    let h = (refused_there tokens (faults.TooDeep i) ended given).0 in
+    let h = (refused_there tokens (ParseFault.TooDeep i) ended given).0 in
     (inside_tokens tokens i h, deep_is_first 200 (items_from ks 0) i (inside_all ks i h) (given ∙ ap (λ (l : List Item). Err (Deep l)) (items_drop ks i)))
-exactly_there tokens faults.Memory ended given = tt
+exactly_there tokens ParseFault.Memory ended given = tt
 
 -- one that stands after a whole program
 pub exactly_after : (tokens : List Token) (y : Node) (after : ℕ) → IsRead (terminals_of tokens) y after → after < length (terminals_of tokens)
-    → IsExact tokens (Err (faults.NotProgram after))
+    → IsExact tokens (Err (ParseFault.NotProgram after))
 exactly_after tokens y after given h =
     let ks = terminals_of tokens in (
       inside_tokens tokens after h,

@@ -1,8 +1,6 @@
 -- The terminals of tokens, one more at a time.
-use Rattle.std.proofs.Common.{◌≡◌, ℕ, ◌+◌, List, [], ◌∷◌, ◌++◌, take, get_or, Some, ap, ◌∙◌}
-use Rattle.std.specs.Prelude.{slice_get}
-use Rattle.std.proofs.lemmas.List.{map_push, take_more}
-use Rattle.std.proofs.lemmas.Option.{slice_get_within, get_or_from_slice_get}
+use Rattle.std.proofs.Common.{◌++◌, ◌+◌, ◌∙◌, ◌∷◌, ◌≡◌, [], ℕ, List, Some, ap, get_or, slice_get, take}
+use Rattle.std.proofs.lemmas.{List.map_push, List.take_more, Option.get_or_from_slice_get, Option.slice_get_within}
 use Rattle.pas_lexer.specs.declared.kinds.Token.{Token}
 use Rattle.pas_parser.specs.Kinds.{terminal_of, terminals_of}
 

@@ -1,29 +1,18 @@
 -- What reading says of whole programs.
-use Rattle.std.proofs.Common.{◌≡◌, ℕ, zero, suc, ◌+◌, ◌<◌, ◌≤◌, true, List, [], ◌∷◌, ◌++◌, length, take, drop, get_or, Ok, Err, refl, sym, ap, subst, ◌∙◌}
-use Rattle.std.proofs.Common.{append_assoc, arith, inl, inr, length-append, length-drop}
-use Rattle.std.proofs.lemmas.List.{take_at, map_push}
-use Rattle.grammar.specs.declared.terminals.Terminal.{Terminal}
-use Rattle.grammar.specs.Nodes.{Item, Node, spell, next}
-use Rattle.grammar.specs.Reading.{Read, Refusal, Unfit, Deep, unread_of, read}
-use Rattle.grammar.specs.Laws.{NoneGoesOn}
-use Rattle.grammar.specs.Ending.{IsLast, Has}
-use Rattle.grammar.proofs.Ending.{refused_inside}
+use Rattle.std.proofs.Common.{◌++◌, ◌+◌, ◌<◌, ◌∙◌, ◌∷◌, ◌≡◌, ◌≤◌, [], ℕ, Err, List, Ok, ap, append_assoc, arith, drop, get_or, inl, inr, length, length-append}
+use Rattle.std.proofs.Common.{length-drop, refl, subst, suc, sym, take, true, zero}
+use Rattle.std.proofs.lemmas.List.{map_push, take_at}
+use Rattle.pas_lexer.specs.{Lexed.EndsOnce, declared.kinds.Token.Token, declared.kinds.TokenKind.TokenKind}
+use Rattle.grammar.proofs.{Ending.refused_inside, Exact.ok_is, Exact.ok_no_err, Texts.formed_found, Texts.found, Texts.refused_wrong, Texts.surplus_wrong}
+use Rattle.grammar.specs.{Ending.Has, Ending.IsLast, Laws.NoneGoesOn, Nodes.Item, Nodes.Node, Nodes.next, Nodes.spell, declared.terminals.Terminal.Terminal}
+use Rattle.grammar.specs.Reading.{Deep, Read, Refusal, Unfit, read, unread_of}
 use Rattle.grammar.specs.declared.terminals.Terminal.TheVariants as k
-use Rattle.pas_lexer.specs.declared.kinds.TokenKind.{TokenKind}
-use Rattle.pas_lexer.specs.declared.kinds.Token.{Token}
-use Rattle.pas_lexer.specs.Lexed.{EndsOnce}
+use Rattle.pas_tree.{proofs.Decided.pascal_decided, specs.FirstFollow.pascal, specs.Rules.program_rule}
 use Rattle.pas_tree.specs.Rules as r
-use Rattle.pas_parser.specs.Kinds.{terminal_of, terminals_of}
-use Rattle.grammar.proofs.Exact.{ok_is, ok_no_err}
-use Rattle.grammar.proofs.Texts.{found, formed_found, refused_wrong, surplus_wrong}
-use Rattle.pas_tree.specs.Rules.{program_rule}
-use Rattle.pas_tree.specs.FirstFollow.{pascal}
-use Rattle.pas_tree.proofs.Decided.{pascal_decided}
-use Rattle.pas_phrases.specs.declared.fault.ParseFault.{ParseFault}
-use Rattle.pas_phrases.specs.declared.fault.ParseFault.TheVariants as faults
-use Rattle.pas_phrases.specs.Items.{numbered, items_from, Fails}
 use Rattle.pas_phrases.proofs.NextToken.{items_cons, items_end}
-use Rattle.pas_parser.specs.Formed.{IsFormed, IsRefusedAt, IsRefusal, IsTheTree, NoFormedGoesOn}
+use Rattle.pas_phrases.specs.{Items.Fails, Items.items_from, Items.numbered, declared.fault.ParseFault.ParseFault}
+use Rattle.pas_parser.specs.Formed.{IsFormed, IsRefusal, IsRefusedAt, IsTheTree, NoFormedGoesOn}
+use Rattle.pas_parser.specs.Kinds.{terminal_of, terminals_of}
 
 -- what the reader makes of the terminals of a source
 abbrev pub program_read : List Terminal → Read
@@ -117,19 +106,19 @@ at_token ks i r left h given =
 
 pub refused_there : (tokens : List Token) (e : ParseFault) → EndsOnce tokens → Fails (terminals_of tokens) e (program_read (terminals_of tokens))
     → IsRefusal tokens (Err e)
-refused_there tokens (faults.NotProgram i) ended given = at_token (terminals_of tokens) i (Unfit (items_from (terminals_of tokens) i)) refl
+refused_there tokens (ParseFault.NotProgram i) ended given = at_token (terminals_of tokens) i (Unfit (items_from (terminals_of tokens) i)) refl
     (ends_there tokens ended) given
-refused_there tokens (faults.TooDeep i) ended given = at_token (terminals_of tokens) i (Deep (items_from (terminals_of tokens) i)) refl
+refused_there tokens (ParseFault.TooDeep i) ended given = at_token (terminals_of tokens) i (Deep (items_from (terminals_of tokens) i)) refl
     (ends_there tokens ended) given
-refused_there tokens faults.Memory ended given = tt
+refused_there tokens ParseFault.Memory ended given = tt
 
 again : (ks : List Terminal) (x : Node) → IsFormed x → spell x ≡ items_from ks 0 → program_read ks ≡ Ok (x, [])
 again ks x formed same = ap (read pascal 200 program_rule) (sym same) ∙ formed_found pascal program_rule pascal_decided 200 x formed
 
 pub not_that : (ks : List Terminal) (e : ParseFault) (x : Node) → Fails ks e (program_read ks) → IsFormed x → spell x ≡ items_from ks 0 → IsTheTree x (Err e)
-not_that ks (faults.NotProgram i) x given formed same = ok_no_err (x, []) (Unfit (items_from ks i)) (sym (again ks x formed same) ∙ given)
-not_that ks (faults.TooDeep i) x given formed same = ok_no_err (x, []) (Deep (items_from ks i)) (sym (again ks x formed same) ∙ given)
-not_that ks faults.Memory x given formed same = tt
+not_that ks (ParseFault.NotProgram i) x given formed same = ok_no_err (x, []) (Unfit (items_from ks i)) (sym (again ks x formed same) ∙ given)
+not_that ks (ParseFault.TooDeep i) x given formed same = ok_no_err (x, []) (Deep (items_from ks i)) (sym (again ks x formed same) ∙ given)
+not_that ks ParseFault.Memory x given formed same = tt
 
 pub that : (ks : List Terminal) (y x : Node) (after : ℕ) → IsRead ks y after → IsFormed x → spell x ≡ items_from ks 0 → y ≡ x
 that ks y x after given formed same = ap (λ (z : Node × List Item). z.0) (ok_is (y, items_from ks after) (x, []) (sym given ∙ again ks x formed same))

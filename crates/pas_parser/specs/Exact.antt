@@ -1,10 +1,10 @@
 -- What an answer of the parser says of the tokens: exactly which one is refused, and why.
-use Rattle.std.specs.Prelude.{◌<◌, List, length, Result, Ok, Err}
+use Rattle.std.specs.Prelude.{◌<◌, Err, List, Ok, Result, length}
 use Rattle.pas_lexer.specs.declared.kinds.Token.{Token}
+use Rattle.pas_tree.specs.FirstRefused.{HasNeither, IsFirstHopeless, IsFirstTooDeep}
 use Rattle.pas_tree.specs.declared.blocks.Tree.{Tree}
 use Rattle.pas_phrases.specs.declared.fault.ParseFault.{ParseFault}
-use Rattle.pas_phrases.specs.declared.fault.ParseFault.TheVariants.{NotProgram, TooDeep, Memory}
-use Rattle.pas_tree.specs.FirstRefused.{IsFirstTooDeep, IsFirstHopeless, HasNeither}
+use Rattle.pas_phrases.specs.declared.fault.ParseFault.TheVariants.{Memory, NotProgram, TooDeep}
 use Rattle.pas_parser.specs.Formed.{items_of}
 
 -- `TooDeep(i)`: token i is the first that is too deep, at a nesting of 201. `NotProgram(i)`: none is too deep, and

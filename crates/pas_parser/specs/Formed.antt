@@ -1,16 +1,10 @@
 -- Which trees are formed, and what they spell.
-use Rattle.std.specs.Prelude.{◌≡◌, ℕ, ◌+◌, ◌<◌, List, ◌++◌, take, length, Result, Ok, Err}
-use Rattle.grammar.specs.declared.terminals.Terminal.{Terminal}
-use Rattle.grammar.specs.Nodes.{Item, Node, spell}
-use Rattle.grammar.specs.Laws.{IsFormedBy}
+use Rattle.std.specs.Prelude.{◌++◌, ◌+◌, ◌<◌, ◌≡◌, ℕ, Err, List, Ok, Result, length, take}
 use Rattle.pas_lexer.specs.declared.kinds.Token.{Token}
-use Rattle.pas_tree.specs.declared.blocks.Tree.{Tree}
-use Rattle.pas_tree.specs.Blocks.{tree_node}
-use Rattle.pas_tree.specs.Rules.{program_rule}
-use Rattle.pas_tree.specs.FirstFollow.{pascal}
-use Rattle.pas_phrases.specs.declared.fault.ParseFault.{ParseFault}
-use Rattle.pas_phrases.specs.declared.fault.ParseFault.TheVariants.{NotProgram, TooDeep, Memory}
-use Rattle.pas_phrases.specs.Items.{items_from}
+use Rattle.grammar.specs.{Laws.IsFormedBy, Nodes.Item, Nodes.Node, Nodes.spell, declared.terminals.Terminal.Terminal}
+use Rattle.pas_tree.specs.{Blocks.tree_node, FirstFollow.pascal, Rules.program_rule, declared.blocks.Tree.Tree}
+use Rattle.pas_phrases.specs.{Items.items_from, declared.fault.ParseFault.ParseFault}
+use Rattle.pas_phrases.specs.declared.fault.ParseFault.TheVariants.{Memory, NotProgram, TooDeep}
 use Rattle.pas_parser.specs.Kinds.{terminals_of}
 
 -- A tree of the grammar of Pascal in which each else belongs to the nearest if that has none, and no node's

@@ -1,22 +1,18 @@
 //! Reading blocks and whole programs.
 
-ghost use Rattle.std.specs.Prelude.{◌≡◌, ◌≤◌, ◌<◌, [], ◌∷◌, map, length, IfOk, IsTrue};
-ghost use Rattle.grammar.specs.declared.terminals.Terminal.TheVariants as k;
-ghost use Rattle.grammar.specs.Terminals.{passes};
-ghost use Rattle.grammar.specs.Nodes.{Pair, leaf, next, row};
+ghost use Rattle.std.specs.Prelude.{◌<◌, ◌∷◌, ◌≡◌, ◌≤◌, [], IfOk, IsTrue, length, map};
+ghost use Rattle.grammar.specs.{Deciding.expects, Reading.levels, Reading.read, Terminals.passes};
 ghost use Rattle.grammar.specs.Grammars.{block, level, many, seq, word};
-ghost use Rattle.grammar.specs.Reading.{levels, read};
-ghost use Rattle.grammar.specs.Deciding.{expects};
+ghost use Rattle.grammar.specs.Nodes.{Pair, leaf, next, row};
+ghost use Rattle.grammar.specs.declared.terminals.Terminal.TheVariants as k;
+ghost use Rattle.pas_tree.{proofs.Parts.parts, specs.FirstFollow.first_of, specs.FirstFollow.pascal};
+ghost use Rattle.pas_tree.specs.{Blocks.variable_part_node, Rules.variable_part_rule};
 ghost use Rattle.pas_tree.specs.Blocks.{block_node, body_node, constant_definition_node, constant_part_node};
 ghost use Rattle.pas_tree.specs.Blocks.{label_part_node, next_label_node, parameters_node, routine_node, tree_node};
 ghost use Rattle.pas_tree.specs.Blocks.{type_definition_node, type_part_node, variable_declaration_node};
-ghost use Rattle.pas_tree.specs.Blocks.{variable_part_node};
 ghost use Rattle.pas_tree.specs.Rules.{block_rule, body_rule, constant_definition_rule, constant_part_rule};
 ghost use Rattle.pas_tree.specs.Rules.{heading_starts, label_part_rule, next_label_rule, parameters_rule, program_rule};
 ghost use Rattle.pas_tree.specs.Rules.{routine_rule, type_definition_rule, type_part_rule, variable_declaration_rule};
-ghost use Rattle.pas_tree.specs.Rules.{variable_part_rule};
-ghost use Rattle.pas_tree.specs.FirstFollow.{first_of, pascal};
-ghost use Rattle.pas_tree.proofs.Parts.{parts};
 ghost use Rattle.pas_phrases.specs.Items.{ReadsAs, items_from};
 
 use grammar::Terminal;

@@ -3,8 +3,7 @@
 ghost use Rattle.std.specs.Prelude.{◌≡◌, IfOk};
 ghost use Rattle.grammar.specs.Nodes.{Node, spell};
 ghost use Rattle.pas_tree.specs.Blocks.{tree_node};
-ghost use Rattle.pas_parser.specs.Exact.{IsExact};
-ghost use Rattle.pas_parser.specs.Formed.{IsFormed, IsRefusal, IsTheTree, items_of};
+ghost use Rattle.pas_parser.specs.{Exact.IsExact, Formed.IsFormed, Formed.IsRefusal, Formed.IsTheTree, Formed.items_of};
 
 use crate::blocks::read_tree;
 use crate::kinds::terminals;

@@ -1,15 +1,11 @@
 -- Two parts read in turn are read as one, and a failure of a part is one of the whole.
-use Rattle.std.proofs.Common.{◌≡◌, ℕ, List, Result, Ok, ap, ◌∙◌}
-use Rattle.std.specs.Prelude.{IsErrAnd}
+use Rattle.std.proofs.Common.{◌∙◌, ◌≡◌, ℕ, IsErrAnd, List, Ok, Result, ap}
 use Rattle.std.proofs.lemmas.Result.{err_from_is_err_and}
-use Rattle.grammar.specs.declared.terminals.Terminal.{Terminal}
-use Rattle.grammar.specs.Nodes.{Item, Node, Pair}
-use Rattle.grammar.specs.Grammars.{Grammar, seq}
-use Rattle.grammar.specs.Reading.{Read, ◌>>=◌, then_pair, read}
+use Rattle.grammar.specs.{Grammars.Grammar, Grammars.seq, Nodes.Item, Nodes.Node, Nodes.Pair, declared.terminals.Terminal.Terminal}
+use Rattle.grammar.specs.Reading.{◌>>=◌, Read, read, then_pair}
 use Rattle.pas_tree.specs.FirstFollow.{pascal}
-use Rattle.pas_phrases.specs.declared.fault.ParseFault.{ParseFault}
-use Rattle.pas_phrases.specs.declared.fault.ParseFault.TheVariants.{NotProgram, TooDeep, Memory}
 use Rattle.pas_phrases.specs.Items.{Fails, ReadsAs}
+use Rattle.pas_phrases.specs.declared.fault.ParseFault.{ParseFault, TheVariants.Memory, TheVariants.NotProgram, TheVariants.TooDeep}
 
 -- where `?` hands it on
 pub handed_on : {X : Type 0} (whole : Read) (kinds : List Terminal) (view : X → Node) (result : Result (X × ℕ) ParseFault) (e : ParseFault)

@@ -1,13 +1,8 @@
 -- The next token of a list of terminals.
-use Rattle.std.proofs.Common.{◌≡◌, ℕ, suc, ◌+◌, ◌<◌, ◌≤◌, true, false, List, [], ◌∷◌, length, get_or, drop, refl, sym, ap, subst, ◌∙◌}
-use Rattle.std.proofs.Common.{arith}
-use Rattle.std.proofs.Math.Seq.{drop-cons}
-use Rattle.std.proofs.Math.ListN.{drop_of_length-le}
-use Rattle.grammar.specs.declared.terminals.Terminal.{Terminal}
-use Rattle.grammar.specs.Terminals.{is, passes}
-use Rattle.grammar.specs.Nodes.{Item, next, second}
-use Rattle.grammar.specs.Reading.{token_at}
-use Rattle.pas_phrases.specs.Items.{numbered, items_from}
+use Rattle.std.proofs.Common.{◌+◌, ◌<◌, ◌∙◌, ◌∷◌, ◌≡◌, ◌≤◌, [], ℕ, List, ap, arith, drop, false, get_or, length, refl, subst, suc, sym, true}
+use Rattle.std.proofs.Math.{ListN.drop_of_length-le, Seq.drop-cons}
+use Rattle.grammar.specs.{Nodes.Item, Nodes.next, Nodes.second, Reading.token_at, Terminals.is, Terminals.passes, declared.terminals.Terminal.Terminal}
+use Rattle.pas_phrases.specs.Items.{items_from, numbered}
 
 pub items_cons : (ks : List Terminal) (n : ℕ) (d : Terminal) → n < length ks
     → items_from ks n ≡ record { kind = get_or ks n d; number = n } ∷ items_from ks (n + 1)

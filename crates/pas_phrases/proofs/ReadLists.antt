@@ -1,18 +1,15 @@
 -- A list that is read part by part in a loop is what the grammar reads as `many`.
-use Rattle.std.proofs.Common.{◌≡◌, ℕ, Bool, true, false, if◌then◌else◌, List, [], ◌∷◌, ◌++◌, map, Ok, Err, refl, sym, ap, ◌∙◌}
+use Rattle.std.proofs.Common.{if◌then◌else◌, ◌++◌, ◌∙◌, ◌∷◌, ◌≡◌, [], ℕ, Bool, Err, List, Ok, ap, false, map, refl, sym, true}
 use Rattle.std.proofs.lemmas.List.{map_push}
-use Rattle.grammar.specs.declared.terminals.Terminal.{Terminal}
-use Rattle.grammar.specs.Terminals.{one_of, passes}
-use Rattle.grammar.specs.Nodes.{Item, Node, Leaf, Pair, row, next}
-use Rattle.grammar.specs.Grammars.{Grammar, Level, token, seq, level, many}
-use Rattle.grammar.specs.Reading.{Refusal, Read, Unfit, Deep, token_at, levels, read}
-use Rattle.grammar.proofs.Lists.{Repeats, with_front, goes_on, stops, is_done}
-use Rattle.pas_tree.specs.FirstFollow.{pascal}
-use Rattle.pas_tree.proofs.Decided.{pascal_sane}
-use Rattle.pas_phrases.specs.declared.fault.ParseFault.{ParseFault}
-use Rattle.pas_phrases.specs.declared.fault.ParseFault.TheVariants.{NotProgram, TooDeep, Memory}
+use Rattle.grammar.proofs.Lists.{Repeats, goes_on, is_done, stops, with_front}
+use Rattle.grammar.specs.{Terminals.one_of, Terminals.passes, declared.terminals.Terminal.Terminal}
+use Rattle.grammar.specs.Grammars.{Grammar, Level, level, many, seq, token}
+use Rattle.grammar.specs.Nodes.{Item, Leaf, Node, Pair, next, row}
+use Rattle.grammar.specs.Reading.{Deep, Read, Refusal, Unfit, levels, read, token_at}
+use Rattle.pas_tree.{proofs.Decided.pascal_sane, specs.FirstFollow.pascal}
+use Rattle.pas_phrases.proofs.Failures.{first_fails, handed_on, second_fails, seq_read}
 use Rattle.pas_phrases.specs.Items.{Fails}
-use Rattle.pas_phrases.proofs.Failures.{seq_read, first_fails, second_fails, handed_on}
+use Rattle.pas_phrases.specs.declared.fault.ParseFault.{ParseFault, TheVariants.Memory, TheVariants.NotProgram, TheVariants.TooDeep}
 
 -- the parts read so far, and what is still read from here, are the whole
 pub record ListSoFar {X : Type 0} (view : X → Node) (n : ℕ) (ks : List Terminal) (g : Grammar) (xs : List X) (l : List Item) (whole : Read) : Type 0 where

@@ -1,18 +1,15 @@
 -- A series that is read part by part in a loop is what the grammar reads as `series`.
-use Rattle.std.proofs.Common.{◌≡◌, ℕ, true, false, List, [], ◌∷◌, ◌++◌, map, Ok, sym, ap, ◌∙◌}
+use Rattle.std.proofs.Common.{◌++◌, ◌∙◌, ◌∷◌, ◌≡◌, [], ℕ, List, Ok, ap, false, map, sym, true}
 use Rattle.std.proofs.lemmas.List.{map_push}
-use Rattle.grammar.specs.declared.terminals.Terminal.{Terminal}
-use Rattle.grammar.specs.Nodes.{Item, Node, SeriesPart, step_node, chain}
-use Rattle.grammar.specs.Grammars.{Grammar, nothing, seq, choice, word, series}
-use Rattle.grammar.specs.Deciding.{closed}
-use Rattle.grammar.specs.Reading.{Read, Unfit, Deep, token_at, read}
-use Rattle.grammar.proofs.Lists.{with_steps, steps_on, steps_stop, steps_done, steps_break}
-use Rattle.pas_tree.specs.FirstFollow.{pascal}
-use Rattle.pas_tree.proofs.Decided.{pascal_sane}
-use Rattle.pas_phrases.specs.declared.fault.ParseFault.{ParseFault}
-use Rattle.pas_phrases.specs.declared.fault.ParseFault.TheVariants.{NotProgram, TooDeep, Memory}
+use Rattle.grammar.proofs.Lists.{steps_break, steps_done, steps_on, steps_stop, with_steps}
+use Rattle.grammar.specs.{Deciding.closed, declared.terminals.Terminal.Terminal}
+use Rattle.grammar.specs.Grammars.{Grammar, choice, nothing, seq, series, word}
+use Rattle.grammar.specs.Nodes.{Item, Node, SeriesPart, chain, step_node}
+use Rattle.grammar.specs.Reading.{Deep, Read, Unfit, read, token_at}
+use Rattle.pas_tree.{proofs.Decided.pascal_sane, specs.FirstFollow.pascal}
+use Rattle.pas_phrases.proofs.Failures.{first_fails, handed_on, second_fails, seq_read}
 use Rattle.pas_phrases.specs.Items.{Fails, goes_further}
-use Rattle.pas_phrases.proofs.Failures.{seq_read, first_fails, second_fails, handed_on}
+use Rattle.pas_phrases.specs.declared.fault.ParseFault.{ParseFault, TheVariants.Memory, TheVariants.NotProgram, TheVariants.TooDeep}
 
 -- parts g after separators that lead to one of ks, and an end z
 pub record Series : Type 0 where

@@ -1,17 +1,13 @@
 -- The terminals of a source as items with their numbers, and what a reader made of them.
-use Rattle.std.specs.Prelude.{◌≡◌, ℕ, ◌+◌, ◌<◌, ◌^◌, length, if◌then◌else◌, Bool, true, false, List, [], ◌∷◌, drop}
-use Rattle.std.specs.Prelude.{Option, Some, None, Result, Ok, Err}
-use Rattle.grammar.specs.declared.terminals.Terminal.{Terminal}
-use Rattle.grammar.specs.declared.terminals.Terminal.TheVariants as k
-use Rattle.grammar.specs.Terminals.{one_of, passes}
+use Rattle.std.specs.Prelude.{if◌then◌else◌, ◌+◌, ◌<◌, ◌^◌, ◌∷◌, ◌≡◌, [], ℕ, Bool, Err, List, None, Ok, Option, Result}
+use Rattle.std.specs.Prelude.{Some, drop, false, length, true}
+use Rattle.grammar.specs.{Terminals.one_of, Terminals.passes, declared.terminals.Terminal.Terminal}
+use Rattle.grammar.specs.Grammars.{Grammar, choice, nothing, seq, word}
 use Rattle.grammar.specs.Nodes.{Item, Node, Nothing, Pair, leaf, next, second}
-use Rattle.grammar.specs.Grammars.{Grammar, nothing, seq, choice, word}
-use Rattle.grammar.specs.Reading.{Read, Unfit, Deep, token_at, ◌>>=◌}
-use Rattle.pas_tree.specs.declared.operators.Sign.{Sign}
-use Rattle.pas_tree.specs.Operators.{sign_leaf}
-use Rattle.pas_tree.specs.Rules.{plain_constants}
+use Rattle.grammar.specs.Reading.{◌>>=◌, Deep, Read, Unfit, token_at}
+use Rattle.pas_tree.specs.{Operators.sign_leaf, Rules.plain_constants, declared.operators.Sign.Sign}
 use Rattle.pas_phrases.specs.declared.fault.ParseFault.{ParseFault}
-use Rattle.pas_phrases.specs.declared.fault.ParseFault.TheVariants.{NotProgram, TooDeep, Memory}
+use Rattle.pas_phrases.specs.declared.fault.ParseFault.TheVariants.{Memory, NotProgram, TooDeep}
 
 -- items numbered from a number on
 abbrev pub numbered : ℕ → List Terminal → List Item
@@ -38,7 +34,7 @@ optional_token ks l = if passes ks (next l) then token_at ks l else Ok (Nothing,
 
 -- a semicolon after the last part of a series, or none
 abbrev pub last_semicolon : Grammar
-last_semicolon = choice (k.Semicolon ∷ []) (seq (word k.Semicolon) nothing) nothing
+last_semicolon = choice (Terminal.Semicolon ∷ []) (seq (word Terminal.Semicolon) nothing) nothing
 
 -- whether a separator is next, and after it what begins a part
 abbrev pub goes_further : Terminal → List Terminal → List Item → Bool

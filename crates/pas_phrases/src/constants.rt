@@ -1,16 +1,12 @@
 //! Reading names in a row, and constants.
 
-ghost use Rattle.std.specs.Prelude.{◌≡◌, ◌≤◌, ◌<◌, [], ◌∷◌, map, IfOk};
+ghost use Rattle.std.specs.Prelude.{◌<◌, ◌∷◌, ◌≡◌, ◌≤◌, [], IfOk, map};
+ghost use Rattle.grammar.specs.{Grammars.many, Nodes.row, Reading.read};
 ghost use Rattle.grammar.specs.declared.terminals.Terminal.TheVariants as k;
-ghost use Rattle.grammar.specs.Nodes.{row};
-ghost use Rattle.grammar.specs.Grammars.{many};
-ghost use Rattle.grammar.specs.Reading.{read};
+ghost use Rattle.pas_tree.{proofs.Parts.parts, specs.FirstFollow.pascal, specs.Rules.next_name_rule};
 ghost use Rattle.pas_tree.specs.Constants.{constant_node, constants_node, names_node, next_constant_node};
 ghost use Rattle.pas_tree.specs.Constants.{next_name_node, signed_node};
 ghost use Rattle.pas_tree.specs.Rules.{constant_rule, constants_rule, limit_rule, names_rule, next_constant_rule};
-ghost use Rattle.pas_tree.specs.Rules.{next_name_rule};
-ghost use Rattle.pas_tree.specs.FirstFollow.{pascal};
-ghost use Rattle.pas_tree.proofs.Parts.{parts};
 ghost use Rattle.pas_phrases.specs.Items.{ReadsAs, items_from, signed_plain};
 
 use crate::fault::ParseFault;

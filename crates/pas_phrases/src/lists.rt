@@ -1,14 +1,11 @@
 //! Reading a list: one part after the other.
 
-ghost use Rattle.std.specs.Prelude.{◌≡◌, ◌≤◌, ◌<◌, List, map, length, IfOk, IsTrue};
-ghost use Rattle.grammar.specs.declared.terminals.Terminal.{Terminal};
-ghost use Rattle.grammar.specs.Terminals.{passes};
-ghost use Rattle.grammar.specs.Nodes.{Node, next, row};
-ghost use Rattle.grammar.specs.Grammars.{Grammar, many};
-ghost use Rattle.grammar.specs.Reading.{read};
+ghost use Rattle.std.specs.Prelude.{◌<◌, ◌≡◌, ◌≤◌, IfOk, IsTrue, List, length, map};
+ghost use Rattle.grammar.proofs.Lists.{Repeats};
+ghost use Rattle.grammar.specs.{Grammars.Grammar, Grammars.many, Nodes.Node, Nodes.next, Nodes.row, Reading.read};
+ghost use Rattle.grammar.specs.{Terminals.passes, declared.terminals.Terminal.Terminal};
 ghost use Rattle.pas_tree.specs.FirstFollow.{pascal};
 ghost use Rattle.pas_phrases.specs.Items.{ReadsAs, items_from};
-ghost use Rattle.grammar.proofs.Lists.{Repeats};
 
 use crate::fault::ParseFault;
 use crate::looking::TerminalList;

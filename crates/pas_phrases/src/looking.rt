@@ -1,10 +1,8 @@
 //! Looking at the next token.
 
-ghost use Rattle.std.specs.Prelude.{◌≡◌, ◌<◌, ◌^◌, [], ◌∷◌, length, IsTrue, IfOk};
-ghost use Rattle.grammar.specs.Terminals.{one_of, passes};
-ghost use Rattle.grammar.specs.Nodes.{next, leaf};
-ghost use Rattle.grammar.specs.Reading.{token_at};
-ghost use Rattle.pas_phrases.specs.Items.{items_from, ReadsAs, IsInside, goes_further};
+ghost use Rattle.std.specs.Prelude.{◌<◌, ◌^◌, ◌∷◌, ◌≡◌, [], IfOk, IsTrue, length};
+ghost use Rattle.grammar.specs.{Nodes.leaf, Nodes.next, Reading.token_at, Terminals.one_of, Terminals.passes};
+ghost use Rattle.pas_phrases.specs.Items.{IsInside, ReadsAs, goes_further, items_from};
 
 use crate::fault::ParseFault;
 use grammar::Terminal;
@@ -17,7 +15,7 @@ pub struct TerminalList {
 }
 
 impl Model for TerminalList {
-    ghost use Rattle.std.specs.Prelude.{List, length, ◌<◌, ◌^◌};
+    ghost use Rattle.std.specs.Prelude.{◌<◌, ◌^◌, List, length};
     ghost use Rattle.grammar.specs.declared.terminals.Terminal.{Terminal};
 
     ghost Value = { List Terminal };

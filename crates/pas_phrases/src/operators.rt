@@ -1,15 +1,11 @@
 //! Reading a terminal that is one of several.
 
-ghost use Rattle.std.specs.Prelude.{◌≡◌, ◌<◌, ◌≤◌, length, IsTrue, IfOk};
-ghost use Rattle.grammar.specs.Terminals.{passes};
-ghost use Rattle.grammar.specs.Nodes.{next};
-ghost use Rattle.grammar.specs.Reading.{token_at};
-ghost use Rattle.pas_tree.specs.Expressions.{factor_node};
-ghost use Rattle.pas_tree.specs.Operators.{adding_node, multiplying_node, relational_node, sign_leaf, sign_node};
-ghost use Rattle.pas_tree.specs.Operators.{direction_node};
-ghost use Rattle.pas_tree.specs.Rules.{adding, multiplying, relations, signs, directions, literals, selector_starts};
-ghost use Rattle.pas_tree.specs.Rules.{constant_starts};
-ghost use Rattle.pas_phrases.specs.Items.{items_from, ReadsAs, IsSeen, optional_token};
+ghost use Rattle.std.specs.Prelude.{◌<◌, ◌≡◌, ◌≤◌, IfOk, IsTrue, length};
+ghost use Rattle.grammar.specs.{Nodes.next, Reading.token_at, Terminals.passes};
+ghost use Rattle.pas_tree.specs.{Expressions.factor_node, Operators.sign_node, Rules.selector_starts, Rules.signs};
+ghost use Rattle.pas_tree.specs.Operators.{adding_node, direction_node, multiplying_node, relational_node, sign_leaf};
+ghost use Rattle.pas_tree.specs.Rules.{adding, constant_starts, directions, literals, multiplying, relations};
+ghost use Rattle.pas_phrases.specs.Items.{IsSeen, ReadsAs, items_from, optional_token};
 
 use crate::fault::ParseFault;
 use crate::looking::TerminalList;

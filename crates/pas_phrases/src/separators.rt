@@ -1,12 +1,9 @@
 //! The separators of a series, and the word between the two statements of an if statement.
 
-ghost use Rattle.std.specs.Prelude.{◌≡◌, ◌≤◌, ◌<◌, [], ◌∷◌, length, IfOk, IsTrue};
+ghost use Rattle.std.specs.Prelude.{◌<◌, ◌∷◌, ◌≡◌, ◌≤◌, [], IfOk, IsTrue, length};
+ghost use Rattle.grammar.specs.{Nodes.leaf, Reading.read, Reading.token_at};
 ghost use Rattle.grammar.specs.declared.terminals.Terminal.TheVariants as k;
-ghost use Rattle.grammar.specs.Nodes.{leaf};
-ghost use Rattle.grammar.specs.Reading.{read, token_at};
-ghost use Rattle.pas_tree.specs.Denoters.{last_semicolon_node};
-ghost use Rattle.pas_tree.specs.FirstFollow.{pascal};
-ghost use Rattle.pas_tree.specs.Rules.{constant_starts};
+ghost use Rattle.pas_tree.specs.{Denoters.last_semicolon_node, FirstFollow.pascal, Rules.constant_starts};
 ghost use Rattle.pas_phrases.specs.Items.{ReadsAs, goes_further, items_from, last_semicolon};
 
 use crate::fault::ParseFault;

@@ -1,23 +1,15 @@
 -- What the lists of statements and branches repeat may stand in a loop.
-use Rattle.std.proofs.Common.{◌≡◌, ℕ, List, [], ◌∷◌, map, Vec, Global, Ok, refl, sym, ap, ◌∙◌, false}
-use Rattle.grammar.specs.declared.terminals.Terminal.{Terminal}
-use Rattle.grammar.specs.declared.terminals.Terminal.TheVariants as k
-use Rattle.grammar.specs.Nodes.{Item, Node, row}
-use Rattle.grammar.specs.Grammars.{Closer, level, statement, many, nothing}
-use Rattle.grammar.specs.Reading.{levels, read}
+use Rattle.std.proofs.Common.{◌∙◌, ◌∷◌, ◌≡◌, [], ℕ, Global, List, Ok, Vec, ap, false, map, refl, sym}
 use Rattle.grammar.proofs.Lists.{Repeats}
-use Rattle.pas_tree.specs.declared.statements.Statement.{Statement}
-use Rattle.pas_tree.specs.declared.statements.Statements.{roll-Statements}
-use Rattle.pas_tree.specs.declared.statements.NextStatement.{NextStatement}
-use Rattle.pas_tree.specs.FirstFollow.{pascal}
-use Rattle.pas_tree.specs.Statements.{statement_node, statements_node, next_statement_node}
-use Rattle.pas_tree.specs.Rules.{constant_starts, next_statement_rule, statements_rule, branch_rule}
-use Rattle.pas_tree.proofs.Parts.{parts}
-use Rattle.pas_tree.proofs.StatementRolls.{statements_rolled}
-use Rattle.pas_phrases.specs.declared.fault.ParseFault.{ParseFault}
-use Rattle.pas_phrases.specs.Items.{Fails}
-use Rattle.pas_phrases.proofs.Failures.{seq_read, first_fails, second_fails}
-use Rattle.pas_phrases.proofs.ReadSeries.{Series}
+use Rattle.grammar.specs.{Nodes.Item, Nodes.Node, Nodes.row, Reading.levels, Reading.read, declared.terminals.Terminal.Terminal}
+use Rattle.grammar.specs.Grammars.{Closer, level, many, nothing, statement}
+use Rattle.grammar.specs.declared.terminals.Terminal.TheVariants as k
+use Rattle.pas_tree.proofs.{Parts.parts, StatementRolls.statements_rolled}
+use Rattle.pas_tree.specs.{FirstFollow.pascal, Statements.next_statement_node, Statements.statement_node, Statements.statements_node}
+use Rattle.pas_tree.specs.Rules.{branch_rule, constant_starts, next_statement_rule, statements_rule}
+use Rattle.pas_tree.specs.declared.statements.{NextStatement.NextStatement, Statement.Statement, Statements.roll-Statements}
+use Rattle.pas_phrases.proofs.{Failures.first_fails, Failures.second_fails, Failures.seq_read, ReadSeries.Series}
+use Rattle.pas_phrases.specs.{Items.Fails, declared.fault.ParseFault.ParseFault}
 
 pub next_statement_repeats : (closer : Closer) → Repeats (next_statement_rule closer)
 next_statement_repeats closer = parts.next_statement closer

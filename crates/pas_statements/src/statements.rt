@@ -1,22 +1,18 @@
 //! Reading statements (6.8).
 
-ghost use Rattle.std.specs.Prelude.{◌≡◌, ◌≤◌, ◌<◌, [], ◌∷◌, false, map, IfOk};
-ghost use Rattle.grammar.specs.declared.terminals.Terminal.TheVariants as k;
-ghost use Rattle.grammar.specs.Terminals.{passes};
-ghost use Rattle.grammar.specs.Nodes.{chain, next};
+ghost use Rattle.std.specs.Prelude.{◌<◌, ◌∷◌, ◌≡◌, ◌≤◌, [], IfOk, false, map};
+ghost use Rattle.grammar.specs.{Deciding.expects, Nodes.chain, Nodes.next, Terminals.passes};
 ghost use Rattle.grammar.specs.Grammars.{by_end, nothing, series, statement};
 ghost use Rattle.grammar.specs.Reading.{levels, read};
-ghost use Rattle.grammar.specs.Deciding.{expects};
-ghost use Rattle.pas_tree.specs.Denoters.{last_semicolon_node};
-ghost use Rattle.pas_tree.specs.Statements.{actual_node, actuals_node, branch_node, branch_step, compound_node};
-ghost use Rattle.pas_tree.specs.Statements.{label_node, next_access_node, next_actual_node, plain_node, statement_node};
-ghost use Rattle.pas_tree.specs.Statements.{statements_node};
+ghost use Rattle.grammar.specs.declared.terminals.Terminal.TheVariants as k;
+ghost use Rattle.pas_tree.{proofs.Parts.parts, specs.Denoters.last_semicolon_node, specs.Statements.statements_node};
+ghost use Rattle.pas_tree.specs.FirstFollow.{first_of, follow_of, pascal};
 ghost use Rattle.pas_tree.specs.Rules.{actual_rule, actuals_rule, assignment_starts, branch_rule, case_rule};
 ghost use Rattle.pas_tree.specs.Rules.{compound_rule, constant_starts, for_rule, if_rule, label_rule};
 ghost use Rattle.pas_tree.specs.Rules.{named_statement_rule, next_access_rule, next_actual_rule, plain_rule};
 ghost use Rattle.pas_tree.specs.Rules.{repeat_rule, statements_rule, while_rule, with_rule};
-ghost use Rattle.pas_tree.specs.FirstFollow.{first_of, follow_of, pascal};
-ghost use Rattle.pas_tree.proofs.Parts.{parts};
+ghost use Rattle.pas_tree.specs.Statements.{actual_node, actuals_node, branch_node, branch_step, compound_node};
+ghost use Rattle.pas_tree.specs.Statements.{label_node, next_access_node, next_actual_node, plain_node, statement_node};
 ghost use Rattle.pas_phrases.specs.Items.{ReadsAs, items_from};
 ghost use Rattle.pas_statements.specs.Closers.{closer_of};
 

@@ -1,17 +1,11 @@
 -- The nodes of blocks.
-use Rattle.std.proofs.Common.{◌≡◌, map, refl, Vec, Global, Option}
+use Rattle.std.proofs.Common.{◌≡◌, Global, Option, Vec, map, refl}
 use denote.Hole.Carrier.{roll}
 use Rattle.grammar.specs.Nodes.{Pair, row}
-use Rattle.pas_tree.specs.declared.statements.Compound.{Compound}
-use Rattle.pas_tree.specs.declared.blocks.RoutineBody.TheBlock as b
-use Rattle.pas_tree.specs.declared.blocks.Block.{roll-Block}
-use Rattle.pas_tree.specs.declared.blocks.LabelPart.{LabelPart}
-use Rattle.pas_tree.specs.declared.blocks.ConstantPart.{ConstantPart}
-use Rattle.pas_tree.specs.declared.blocks.TypePart.{TypePart}
-use Rattle.pas_tree.specs.declared.blocks.VariablePart.{VariablePart}
-use Rattle.pas_tree.specs.declared.blocks.Routine.{Routine}
-use Rattle.pas_tree.specs.Statements.{compound_node}
+use Rattle.pas_tree.specs.{Statements.compound_node, declared.blocks.VariablePart.VariablePart, declared.statements.Compound.Compound}
 use Rattle.pas_tree.specs.Blocks as node
+use Rattle.pas_tree.specs.declared.blocks.{Block.roll-Block, ConstantPart.ConstantPart, LabelPart.LabelPart, Routine.Routine, TypePart.TypePart}
+use Rattle.pas_tree.specs.declared.blocks.RoutineBody.TheBlock as b
 
 routines_row : (n : _) (r : b.Row_of-Routine n) → node.routines_node r ≡ row (map node.routine_node (b.items-the_row-Routine n r))
 routines_row _ b.end_of-Routine = refl

@@ -1,19 +1,12 @@
 -- Each node of a block or a program is that of a typed tree.
-use Rattle.std.proofs.Common.{Some, None, refl}
-use Rattle.grammar.specs.Grammars.{Level}
-use Rattle.grammar.specs.Nesting.{Trees}
-use Rattle.pas_tree.specs.declared.blocks.Block.{roll-Block}
-use Rattle.pas_tree.specs.declared.blocks.RoutineBody.{Directive, Block'}
+use Rattle.std.proofs.Common.{None, Some, refl}
+use Rattle.grammar.specs.{Grammars.Level, Nesting.Trees}
+use Rattle.pas_tree.proofs.{BlockRolls.block_rolled, Levels.Levels, Memory.boxed, Parts.parts, Repeated.listed, StatementsCovered.compound_covered}
+use Rattle.pas_tree.proofs.ConstantsCovered.{constant_covered, names_covered}
+use Rattle.pas_tree.proofs.Covers.{Covers, absent, choose, five, four, made, one, pair, three}
 use Rattle.pas_tree.specs.Blocks as node
 use Rattle.pas_tree.specs.Rules as r
-use Rattle.pas_tree.proofs.Parts.{parts}
-use Rattle.pas_tree.proofs.BlockRolls.{block_rolled}
-use Rattle.pas_tree.proofs.Memory.{boxed}
-use Rattle.pas_tree.proofs.Covers.{Covers, one, pair, three, four, five, choose, absent, made}
-use Rattle.pas_tree.proofs.Repeated.{listed}
-use Rattle.pas_tree.proofs.Levels.{Levels}
-use Rattle.pas_tree.proofs.ConstantsCovered.{names_covered, constant_covered}
-use Rattle.pas_tree.proofs.StatementsCovered.{compound_covered}
+use Rattle.pas_tree.specs.declared.blocks.{Block.roll-Block, RoutineBody.Block', RoutineBody.Directive}
 
 module _ {E : Level → Trees} where
   next_label_covered : Covers E r.next_label_rule node.next_label_node

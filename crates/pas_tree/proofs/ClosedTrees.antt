@@ -1,23 +1,16 @@
 -- Where a shaped tree breaks off, a shaped tree closes it with few tokens.
-use Rattle.std.proofs.Common.{◌≡◌, ◌+◌, ◌*◌, ◌<◌, ◌≤◌, ℕ, zero, suc, Bool, true, false, List, [], ◌∷◌, ◌++◌, length, None, arith, inl, inr}
+use Rattle.std.proofs.Common.{◌*◌, ◌++◌, ◌+◌, ◌<◌, ◌∷◌, ◌≡◌, ◌≤◌, [], ℕ, Bool, List, None, arith, false, inl, inr, length, suc, true, zero}
 use Rattle.std.proofs.lemmas.Bool.{and_parts, leb-true, ltb-true}
-use lib.Dec.{ltb, leb}
-use Rattle.grammar.specs.declared.terminals.Terminal.{Terminal}
-use Rattle.grammar.specs.Terminals.{every_of}
-use Rattle.grammar.specs.Nodes.{Item, Node, Nothing, spell}
-use Rattle.grammar.specs.Grammars.{Level, Grammar, IsNone, FreeIn, FreeWithin}
-use Rattle.grammar.specs.Deciding.{both, LevelTables, IsDecided, all_levels}
-use Rattle.grammar.specs.Nesting.{Places, Nested, IsShaped, nowhere, BeginsAt, BeginsDeep}
-use Rattle.grammar.specs.Completing.{brief_of, IsCompleted}
-use Rattle.grammar.proofs.Larger.{IsPart, free_up, all_in}
-use Rattle.grammar.proofs.Somewhere.{nested, whole_nested}
-use Rattle.grammar.proofs.LevelsTested.{every_level, level_parts, whole_parts, rule_sane}
-use Rattle.grammar.proofs.Deepest.{level_forget}
+use lib.Dec.{leb, ltb}
+use Rattle.grammar.proofs.{Deepest.level_forget, Larger.IsPart, Larger.all_in, Larger.free_up, Somewhere.nested, Somewhere.whole_nested}
 use Rattle.grammar.proofs.Complete.{brief, level_fits, rule_completes, whole_completes}
-use Rattle.pas_tree.proofs.Parting.{closing, begun_by, times, Closes, closed_map, at_once}
-use Rattle.pas_tree.proofs.SoundParts.{Sound}
-use Rattle.pas_tree.proofs.Closing.{Roomy, Around, closes}
-use Rattle.pas_tree.proofs.PlacesMove.{level_places_move}
+use Rattle.grammar.proofs.LevelsTested.{every_level, level_parts, rule_sane, whole_parts}
+use Rattle.grammar.specs.{Completing.IsCompleted, Completing.brief_of, Deciding.IsDecided, Deciding.LevelTables, Deciding.all_levels, Deciding.both, Nodes.Item}
+use Rattle.grammar.specs.{Nodes.Node, Nodes.Nothing, Nodes.spell, Terminals.every_of, declared.terminals.Terminal.Terminal}
+use Rattle.grammar.specs.Grammars.{FreeIn, FreeWithin, Grammar, IsNone, Level}
+use Rattle.grammar.specs.Nesting.{BeginsAt, BeginsDeep, IsShaped, Nested, Places, nowhere}
+use Rattle.pas_tree.proofs.{Closing.Around, Closing.Roomy, Closing.closes, PlacesMove.level_places_move, SoundParts.Sound}
+use Rattle.pas_tree.proofs.Parting.{Closes, at_once, begun_by, closed_map, closing, times}
 use Rattle.pas_tree.proofs.PlacesClosed.{KeepsPlace, Near, keeps}
 
 -- ---- the check

@@ -1,23 +1,16 @@
 -- Whatever is open where a tree breaks off is closed by few tokens: at most this many for each level that is open, and of
 -- these at most two begin before a token.
-use Rattle.std.proofs.Common.{◌≡◌, ◌+◌, ◌*◌, ◌<◌, ◌≤◌, ℕ, zero, suc, Bool, true, List, ◌++◌, length, Option, sym, ap, subst}
-use Rattle.std.proofs.Common.{◌∙◌, length-append, ◌⊎◌, inl, inr, arith}
-use Rattle.std.proofs.lemmas.Bool.{and_parts}
-use Rattle.grammar.specs.declared.terminals.Terminal.{Terminal}
-use Rattle.grammar.specs.Nodes.{Item, Node, Leaf, Nothing, Pair, spell, ahead}
-use Rattle.grammar.specs.Grammars.{Level, Grammar, token, nothing, seq, choice, greedy, level, loop, again, rounds, FreeIn}
-use Rattle.grammar.specs.Deciding.{either, closed, solid, linear, LevelTables, IsDecided}
-use Rattle.grammar.specs.Nesting.{Trees, Nested}
-use Rattle.grammar.specs.Completing.{IsCompleted}
-use Rattle.grammar.proofs.Bools.{either_parts}
-use Rattle.grammar.proofs.Larger.{IsPart, free_up, all_in}
-use Rattle.grammar.proofs.Deepest.{Loop, fold}
-use Rattle.grammar.proofs.Complete.{Moves, Fits, moves, loop_fits, brief, has, good, shortest, shortest_fits, has_fits, level_moves}
-use Rattle.pas_tree.proofs.ShapedIsGrammatical.{loosened}
-use Rattle.pas_tree.proofs.Repeated.{spells}
-use Rattle.pas_tree.proofs.SoundParts.{close_at, Sound, pair_sound, fork_sound, greedy_sound, loop_sound}
-use Rattle.pas_tree.proofs.Parting.{begun_by, broken_in, Closed, Closes, closed_map, token_closes, nothing_breaks, first_closed}
-use Rattle.pas_tree.proofs.Parting.{second_closed}
+use Rattle.std.proofs.Common.{◌*◌, ◌++◌, ◌+◌, ◌<◌, ◌∙◌, ◌≡◌, ◌≤◌, ◌⊎◌, ℕ, Bool, List, Option, ap, arith, inl, inr, length, length-append, subst, suc, sym, true}
+use Rattle.std.proofs.{Common.zero, lemmas.Bool.and_parts}
+use Rattle.grammar.proofs.{Bools.either_parts, Deepest.Loop, Deepest.fold, Larger.IsPart, Larger.all_in, Larger.free_up}
+use Rattle.grammar.proofs.Complete.{Fits, Moves, brief, good, has, has_fits, level_moves, loop_fits, moves, shortest, shortest_fits}
+use Rattle.grammar.specs.{Completing.IsCompleted, Nesting.Nested, Nesting.Trees, declared.terminals.Terminal.Terminal}
+use Rattle.grammar.specs.Deciding.{IsDecided, LevelTables, closed, either, linear, solid}
+use Rattle.grammar.specs.Grammars.{FreeIn, Grammar, Level, again, choice, greedy, level, loop, nothing, rounds, seq, token}
+use Rattle.grammar.specs.Nodes.{Item, Leaf, Node, Nothing, Pair, ahead, spell}
+use Rattle.pas_tree.proofs.{Repeated.spells, ShapedIsGrammatical.loosened}
+use Rattle.pas_tree.proofs.Parting.{Closed, Closes, begun_by, broken_in, closed_map, first_closed, nothing_breaks, second_closed, token_closes}
+use Rattle.pas_tree.proofs.SoundParts.{Sound, close_at, fork_sound, greedy_sound, loop_sound, pair_sound}
 
 module _ (calm : Terminal → Bool) (t : LevelTables) (g : Grammar) (ok : IsDecided t g ≡ true) (d : ℕ) (full : IsCompleted calm d t g ≡ true)
     (rank : Level → ℕ) where

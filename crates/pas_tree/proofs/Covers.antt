@@ -1,16 +1,11 @@
 -- Values whose nodes are the trees of a grammar.
-use Rattle.std.proofs.Common.{◌≡◌, ℕ, List, ◌∷◌, Option, Some, None, refl, sym, ap, ◌∙◌, ◌⊎◌, inl, inr, arith}
+use Rattle.std.proofs.Common.{◌∙◌, ◌∷◌, ◌≡◌, ◌⊎◌, ℕ, List, None, Option, Some, ap, arith, inl, inr, refl, sym}
 use Rattle.std.proofs.lemmas.List.{length-append}
-use Rattle.grammar.specs.declared.terminals.Terminal.{Terminal}
-use Rattle.grammar.specs.Terminals.{is}
-use Rattle.grammar.specs.Nodes.{Node, Leaf, Nothing, Pair, leaf, spell, ahead}
-use Rattle.grammar.specs.Grammars.{Level, Grammar, token, nothing, seq, choice, greedy, word, FreeIn}
-use Rattle.grammar.specs.Loose.{loose}
-use Rattle.grammar.proofs.Bools.{by_test}
-use Rattle.grammar.proofs.Testing.{is-equal}
-use Rattle.grammar.specs.Nesting.{Trees}
-use Rattle.pas_tree.specs.Rules.{optional}
-use Rattle.pas_tree.specs.TypedTrees.{HasShortLists}
+use Rattle.grammar.proofs.{Bools.by_test, Testing.is-equal}
+use Rattle.grammar.specs.{Loose.loose, Nesting.Trees, Terminals.is, declared.terminals.Terminal.Terminal}
+use Rattle.grammar.specs.Grammars.{FreeIn, Grammar, Level, choice, greedy, nothing, seq, token, word}
+use Rattle.grammar.specs.Nodes.{Leaf, Node, Nothing, Pair, ahead, leaf, spell}
+use Rattle.pas_tree.specs.{Rules.optional, TypedTrees.HasShortLists}
 
 -- Each tree of the grammar whose lists are short is the node of some value, whichever trees the levels have and `again`
 -- stands for.

@@ -1,15 +1,10 @@
 -- The grammar of Pascal passes the checks: one token decides each choice, short trees complete what was read, and each
 -- construct that is tried may stand where it is tried.
-use Rattle.std.proofs.Common.{◌≡◌, Bool, not, true, refl}
-use Rattle.grammar.specs.declared.terminals.Terminal.{Terminal}
-use Rattle.grammar.specs.declared.terminals.Terminal.TheVariants.{WElse}
-use Rattle.grammar.specs.Terminals.{is}
-use Rattle.grammar.specs.Grammars.{Level}
-use Rattle.grammar.specs.Deciding.{IsDecided, sane}
-use Rattle.grammar.proofs.LevelsTested.{rule_sane}
-use Rattle.grammar.specs.RefusalLaws.{Checks}
-use Rattle.pas_tree.specs.Rules as r
+use Rattle.std.proofs.Common.{◌≡◌, Bool, not, refl, true}
+use Rattle.grammar.{proofs.LevelsTested.rule_sane, specs.declared.terminals.Terminal.Terminal, specs.declared.terminals.Terminal.TheVariants.WElse}
+use Rattle.grammar.specs.{Deciding.IsDecided, Deciding.sane, Grammars.Level, RefusalLaws.Checks, Terminals.is}
 use Rattle.pas_tree.specs.FirstFollow.{pascal}
+use Rattle.pas_tree.specs.Rules as r
 
 -- the terminals in front of which an else part may be left out
 abbrev pub calm : Terminal → Bool

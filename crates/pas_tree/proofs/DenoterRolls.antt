@@ -1,20 +1,12 @@
 -- The nodes of type denoters that hold a vector.
-use Rattle.std.proofs.Common.{◌≡◌, ℕ, map, refl, Vec, Global, Option}
+use Rattle.std.proofs.Common.{◌≡◌, ℕ, Global, Option, Vec, map, refl}
 use denote.Hole.Carrier.{roll}
+use Rattle.grammar.specs.Nodes.{Node, Pair, chain, leaf, row}
 use Rattle.grammar.specs.declared.terminals.Terminal.TheVariants as k
-use Rattle.grammar.specs.Nodes.{Node, Pair, leaf, row, chain}
-use Rattle.pas_tree.specs.declared.denoters.Denoter.{Denoter}
-use Rattle.pas_tree.specs.declared.denoters.Denoter.TheBlock as b
-use Rattle.pas_tree.specs.declared.denoters.ArrayDenoter.{roll-ArrayDenoter}
-use Rattle.pas_tree.specs.declared.denoters.NextDenoter.{NextDenoter}
-use Rattle.pas_tree.specs.declared.denoters.Fixed.{roll-Fixed}
-use Rattle.pas_tree.specs.declared.denoters.Section.{Section}
-use Rattle.pas_tree.specs.declared.denoters.NextSection.{NextSection}
-use Rattle.pas_tree.specs.declared.denoters.Variants.{roll-Variants}
-use Rattle.pas_tree.specs.declared.denoters.Tag.{Tag}
-use Rattle.pas_tree.specs.declared.denoters.Arm.{Arm}
-use Rattle.pas_tree.specs.declared.denoters.NextArm.{NextArm}
 use Rattle.pas_tree.specs.Denoters as node
+use Rattle.pas_tree.specs.declared.denoters.{Arm.Arm, ArrayDenoter.roll-ArrayDenoter, Denoter.Denoter, Fixed.roll-Fixed, NextArm.NextArm}
+use Rattle.pas_tree.specs.declared.denoters.{NextDenoter.NextDenoter, NextSection.NextSection, Section.Section, Tag.Tag, Variants.roll-Variants}
+use Rattle.pas_tree.specs.declared.denoters.Denoter.TheBlock as b
 
 denoters_row : (n : _) (r : b.Row_of-NextDenoter n) → node.denoters_node r ≡ row (map node.next_denoter_node (b.items-the_row-NextDenoter n r))
 denoters_row _ b.end_of-NextDenoter = refl

@@ -1,31 +1,20 @@
 -- Each node of a type denoter is that of a typed tree.
-use Rattle.std.proofs.Common.{◌≡◌, ℕ, List, [], ◌∷◌, Option, Some, None, map, refl, ap, ◌∙◌, Vec, Global}
-use Rattle.grammar.specs.declared.terminals.Terminal.{Terminal}
+use Rattle.std.proofs.Common.{◌∙◌, ◌∷◌, ◌≡◌, [], ℕ, Global, List, None, Option, Some, Vec, ap, map, refl}
+use Rattle.grammar.specs.{Nesting.Trees, declared.terminals.Terminal.Terminal}
+use Rattle.grammar.specs.Grammars.{Grammar, Level, nothing, seq, series, word}
+use Rattle.grammar.specs.Nodes.{Node, Nothing, Pair, SeriesPart, chain, leaf, step_node}
 use Rattle.grammar.specs.declared.terminals.Terminal.TheVariants as k
-use Rattle.grammar.specs.Nodes.{Node, Nothing, Pair, leaf, SeriesPart, step_node, chain}
-use Rattle.grammar.specs.Grammars.{Level, Grammar, nothing, seq, word, series}
-use Rattle.grammar.specs.Nesting.{Trees}
-use Rattle.pas_tree.specs.declared.denoters.Denoter.{Denoter, Name, Enumeration, Subrange, Pointer, Structure'}
-use Rattle.pas_tree.specs.declared.denoters.Structure.{Array, Record', Set'}
-use Rattle.pas_tree.specs.declared.denoters.ArrayDenoter.{roll-ArrayDenoter}
-use Rattle.pas_tree.specs.declared.denoters.Fields.{Fields, Empty, Fixed', Variants' as FieldsVariants', None', Some'}
-use Rattle.pas_tree.specs.declared.denoters.Fixed.{Fixed, roll-Fixed}
-use Rattle.pas_tree.specs.declared.denoters.NextVariants.{NextVariants'}
-use Rattle.pas_tree.specs.declared.denoters.Variants.{Variants, roll-Variants}
-use Rattle.pas_tree.specs.declared.denoters.Tag.{Tag}
-use Rattle.pas_tree.specs.declared.constants.Constant.{Constant}
-use Rattle.pas_tree.specs.declared.constants.Constant.TheVariants as constant
-use Rattle.pas_tree.specs.Operators.{token_node}
-use Rattle.pas_tree.specs.Constants.{constant_node}
+use Rattle.pas_tree.proofs.{Levels.Levels, Levels.ended_variants_node, Memory.boxed, Parts.parts, Repeated.end_node, Repeated.listed, Repeated.stepped}
+use Rattle.pas_tree.proofs.ConstantsCovered.{constant_covered, constants_covered, limit_covered, names_covered}
+use Rattle.pas_tree.proofs.Covers.{Covers, absent, choose, five, four, made, maybe, maybe_node, one, pair, three}
+use Rattle.pas_tree.proofs.DenoterRolls.{array_rolled, fixed_rolled, variants_rolled}
+use Rattle.pas_tree.specs.{Constants.constant_node, Operators.token_node, declared.constants.Constant.Constant}
 use Rattle.pas_tree.specs.Denoters as node
 use Rattle.pas_tree.specs.Rules as r
-use Rattle.pas_tree.proofs.Parts.{parts}
-use Rattle.pas_tree.proofs.DenoterRolls.{array_rolled, fixed_rolled, variants_rolled}
-use Rattle.pas_tree.proofs.Memory.{boxed}
-use Rattle.pas_tree.proofs.Covers.{Covers, one, pair, three, four, five, choose, absent, made, maybe, maybe_node}
-use Rattle.pas_tree.proofs.Repeated.{listed, stepped, end_node}
-use Rattle.pas_tree.proofs.Levels.{Levels, ended_variants_node}
-use Rattle.pas_tree.proofs.ConstantsCovered.{names_covered, constant_covered, constants_covered, limit_covered}
+use Rattle.pas_tree.specs.declared.denoters.{ArrayDenoter.roll-ArrayDenoter, Fixed.Fixed, Fixed.roll-Fixed, NextVariants.NextVariants', Structure.Array}
+use Rattle.pas_tree.specs.declared.denoters.{Structure.Record', Structure.Set', Tag.Tag, Variants.Variants, Variants.roll-Variants}
+use Rattle.pas_tree.specs.declared.denoters.Denoter.{Denoter, Enumeration, Name, Pointer, Structure', Subrange}
+use Rattle.pas_tree.specs.declared.denoters.Fields.{Empty, Fields, Fixed', None', Some', Variants' as FieldsVariants'}
 
 -- ---- a name that stands first
 
@@ -34,7 +23,7 @@ range_node p = Pair (leaf k.Range p.0) (constant_node p.1)
 
 abbrev named_denoter : ℕ → Option (ℕ × Constant) → Denoter
 named_denoter n None = Name n
-named_denoter n (Some p) = Subrange (constant.Name None n) p.0 p.1
+named_denoter n (Some p) = Subrange (Constant.Name None n) p.0 p.1
 
 named_denoter_is : (n : ℕ) (p : Option (ℕ × Constant)) → node.denoter_node (named_denoter n p) ≡ Pair (leaf k.Name n) (maybe_node range_node p)
 named_denoter_is n None = refl

@@ -1,25 +1,19 @@
 -- Every type denoter's node fits its rule.
-use Rattle.std.proofs.Common.{ℕ, [], ◌∷◌, Option, Some, None, refl}
-use Rattle.grammar.specs.declared.terminals.Terminal.TheVariants as k
-use Rattle.grammar.specs.Nodes.{Node, Pair, leaf}
-use Rattle.grammar.specs.Grammars.{Grammar, nothing, word, many, series}
-use Rattle.pas_tree.specs.declared.constants.Constant.{Constant}
-use Rattle.pas_tree.specs.declared.constants.Constant.TheVariants as constant
-use Rattle.pas_tree.specs.declared.denoters.Denoter.{Denoter, Name, Enumeration, Subrange, Pointer, Structure'}
-use Rattle.pas_tree.specs.declared.denoters.Structure.{Structure, Array, Record', Set'}
-use Rattle.pas_tree.specs.declared.denoters.Enumeration.{Enumeration as EnumerationTree}
-use Rattle.pas_tree.specs.declared.denoters.ArrayDenoter.{ArrayDenoter, ArrayDenoter', Row_of-NextDenoter, end_of-NextDenoter, more_of-NextDenoter}
-use Rattle.pas_tree.specs.declared.denoters.Fields.{Fields, Empty, Fixed', Variants' as FieldsVariants', Held-Fields-Fixed-1, None', Some'}
-use Rattle.pas_tree.specs.declared.denoters.Fixed.{Fixed as FixedTree, Fixed' as FixedTree', Row_of-NextSection, end_of-NextSection, more_of-NextSection}
-use Rattle.pas_tree.specs.declared.denoters.NextVariants.{NextVariants'}
-use Rattle.pas_tree.specs.declared.denoters.Variants.{Variants as VariantsTree, Variants', Row_of-NextArm, end_of-NextArm, more_of-NextArm}
-use Rattle.pas_tree.specs.declared.denoters.TagField.{TagField}
-use Rattle.pas_tree.specs.Operators.{token_node}
-use Rattle.pas_tree.specs.Constants.{constant_node}
+use Rattle.std.proofs.Common.{◌∷◌, [], ℕ, None, Option, Some, refl}
+use Rattle.grammar.specs.{Nodes.Node, Nodes.Pair, Nodes.leaf, declared.terminals.Terminal.Terminal}
+use Rattle.grammar.specs.Grammars.{Grammar, many, nothing, series, word}
+use Rattle.pas_tree.proofs.ConstantsFit.{constant_fits, constants_fits, names_fits}
+use Rattle.pas_tree.proofs.Fits.{Fits, absent, cons, deeper, empty, left, nil, one, pair, right, series_last, series_more, series_none, sign_leaf_fits}
+use Rattle.pas_tree.specs.{Constants.constant_node, Operators.token_node, declared.constants.Constant.Constant}
 use Rattle.pas_tree.specs.Denoters as node
 use Rattle.pas_tree.specs.Rules as r
-use Rattle.pas_tree.proofs.Fits.{Fits, one, pair, left, right, empty, absent, deeper, nil, cons, series_none, series_last, series_more, sign_leaf_fits}
-use Rattle.pas_tree.proofs.ConstantsFit.{names_fits, constant_fits, constants_fits}
+use Rattle.pas_tree.specs.declared.denoters.{Enumeration.Enumeration as EnumerationTree, NextVariants.NextVariants', TagField.TagField}
+use Rattle.pas_tree.specs.declared.denoters.ArrayDenoter.{ArrayDenoter, ArrayDenoter', Row_of-NextDenoter, end_of-NextDenoter, more_of-NextDenoter}
+use Rattle.pas_tree.specs.declared.denoters.Denoter.{Denoter, Enumeration, Name, Pointer, Structure', Subrange}
+use Rattle.pas_tree.specs.declared.denoters.Fields.{Empty, Fields, Fixed', Held-Fields-Fixed-1, None', Some', Variants' as FieldsVariants'}
+use Rattle.pas_tree.specs.declared.denoters.Fixed.{Fixed as FixedTree, Fixed' as FixedTree', Row_of-NextSection, end_of-NextSection, more_of-NextSection}
+use Rattle.pas_tree.specs.declared.denoters.Structure.{Array, Record', Set', Structure}
+use Rattle.pas_tree.specs.declared.denoters.Variants.{Row_of-NextArm, Variants as VariantsTree, Variants', end_of-NextArm, more_of-NextArm}
 
 enumeration_fits : (e : EnumerationTree) → Fits r.enumeration_rule (node.enumeration_node e)
 unfolding r.enumeration_rule
@@ -28,13 +22,13 @@ enumeration_fits e = pair (one refl) (pair (names_fits e.names) (one refl))
 -- a subrange that begins with a name alone is read with the names
 subrange_fits : (c : Constant) (x : Node) → Fits r.range_rule x → Fits r.denoter_rule (Pair (constant_node c) x)
 unfolding r.denoter_rule r.named_denoter_rule r.subrange_rule r.limit_rule
-subrange_fits (constant.Number None n) x f = right (right (left (pair (right (right (one refl))) f)))
-subrange_fits (constant.Number (Some s) n) x f = right (right (left (pair (right (left (pair (sign_leaf_fits s) (one refl)))) f)))
-subrange_fits (constant.Name None n) x f = left (pair (one refl) (left f))
-subrange_fits (constant.Name (Some s) n) x f = right (right (left (pair (right (left (pair (sign_leaf_fits s) (one refl)))) f)))
-subrange_fits (constant.Text n) x f = right (right (left (pair (left (one refl)) f)))
+subrange_fits (Constant.Number None n) x f = right (right (left (pair (right (right (one refl))) f)))
+subrange_fits (Constant.Number (Some s) n) x f = right (right (left (pair (right (left (pair (sign_leaf_fits s) (one refl)))) f)))
+subrange_fits (Constant.Name None n) x f = left (pair (one refl) (left f))
+subrange_fits (Constant.Name (Some s) n) x f = right (right (left (pair (right (left (pair (sign_leaf_fits s) (one refl)))) f)))
+subrange_fits (Constant.Text n) x f = right (right (left (pair (left (one refl)) f)))
 
-range_fits : (range : ℕ) (c : Constant) → Fits r.range_rule (Pair (leaf k.Range range) (constant_node c))
+range_fits : (range : ℕ) (c : Constant) → Fits r.range_rule (Pair (leaf Terminal.Range range) (constant_node c))
 unfolding r.range_rule
 range_fits range c = pair (one refl) (constant_fits c)
 
@@ -43,15 +37,15 @@ unfolding r.tag_rule
 tag_fits None n = pair (one refl) absent
 tag_fits (Some f) n = pair (one refl) (left (pair (one refl) (one refl)))
 
-packed_fits : (p : Option ℕ) → Fits (r.optional (k.WPacked ∷ []) (word k.WPacked)) (token_node k.WPacked p)
+packed_fits : (p : Option ℕ) → Fits (r.optional (Terminal.WPacked ∷ []) (word Terminal.WPacked)) (token_node Terminal.WPacked p)
 packed_fits None = absent
 packed_fits (Some n) = left (one refl)
 
 abbrev sections : Grammar
-sections = series k.Semicolon (k.Name ∷ []) r.section_rule r.variants_rule
+sections = series Terminal.Semicolon (Terminal.Name ∷ []) r.section_rule r.variants_rule
 
 abbrev arms : Grammar
-arms = series k.Semicolon r.constant_starts r.arm_rule nothing
+arms = series Terminal.Semicolon r.constant_starts r.arm_rule nothing
 
 last_arm_fits : (n : Option ℕ) → Fits arms (node.last_semicolon_node n)
 last_arm_fits None = series_none
@@ -64,7 +58,7 @@ mutual
   pub denoter_fits : (d : Denoter) → Fits r.denoter_rule (node.denoter_node d)
   denoter_fits (Name n) = left (pair (one refl) absent)
   denoter_fits (Enumeration e) = right (left (enumeration_fits e))
-  denoter_fits (Subrange first range last) = subrange_fits first (Pair (leaf k.Range range) (constant_node last)) (range_fits range last)
+  denoter_fits (Subrange first range last) = subrange_fits first (Pair (leaf Terminal.Range range) (constant_node last)) (range_fits range last)
   denoter_fits (Pointer caret name) = right (right (right (left (pair (one refl) (one refl)))))
   denoter_fits (Structure' packed _ s) = right (right (right (right (pair (packed_fits packed) (structure_fits s)))))
 
@@ -78,7 +72,7 @@ mutual
       pair (one refl) (pair (one refl) (pair (deeper (denoter_fits first)) (pair (denoters_fits others)
       (pair (one refl) (pair (one refl) (deeper (denoter_fits component)))))))
 
-  denoters_fits : {m : _} (t : Row_of-NextDenoter m) → Fits (many (k.Comma ∷ []) r.next_denoter_rule) (node.denoters_node t)
+  denoters_fits : {m : _} (t : Row_of-NextDenoter m) → Fits (many (Terminal.Comma ∷ []) r.next_denoter_rule) (node.denoters_node t)
   denoters_fits end_of-NextDenoter = nil
   denoters_fits (more_of-NextDenoter comma d rest) = cons (pair (one refl) (deeper (denoter_fits d))) (denoters_fits rest)
 

@@ -1,24 +1,16 @@
 -- Type denoters with equal nodes are the same.
-use Rattle.std.proofs.Common.{◌≡◌, ℕ, ◌<◌, Option, Some, None, refl, ap, arith}
-use Rattle.grammar.specs.declared.terminals.Terminal.TheVariants as k
-use Rattle.grammar.specs.Terminals.{place}
-use Rattle.grammar.specs.Nodes.{Node}
-use Rattle.pas_tree.specs.declared.denoters.Denoter.{Denoter, Name, Enumeration, Subrange, Pointer, Structure'}
-use Rattle.pas_tree.specs.declared.denoters.Structure.{Structure, Array, Record', Set'}
-use Rattle.pas_tree.specs.declared.denoters.Enumeration.{Enumeration as EnumerationTree}
-use Rattle.pas_tree.specs.declared.denoters.ArrayDenoter.{ArrayDenoter, ArrayDenoter', Row_of-NextDenoter}
-use Rattle.pas_tree.specs.declared.denoters.ArrayDenoter.{end_of-NextDenoter, more_of-NextDenoter}
-use Rattle.pas_tree.specs.declared.denoters.Fields.{Fields, Empty, Fixed', Variants' as FieldsVariants'}
-use Rattle.pas_tree.specs.declared.denoters.Fields.{Held-Fields-Fixed-1, None', Some'}
-use Rattle.pas_tree.specs.declared.denoters.Fixed.{Fixed as FixedTree, Fixed' as FixedTree', Row_of-NextSection}
-use Rattle.pas_tree.specs.declared.denoters.Fixed.{end_of-NextSection, more_of-NextSection}
-use Rattle.pas_tree.specs.declared.denoters.NextVariants.{NextVariants'}
-use Rattle.pas_tree.specs.declared.denoters.Variants.{Variants as VariantsTree, Variants', Row_of-NextArm}
-use Rattle.pas_tree.specs.declared.denoters.Variants.{end_of-NextArm, more_of-NextArm}
-use Rattle.pas_tree.specs.declared.denoters.TagField.{TagField}
+use Rattle.std.proofs.Common.{◌<◌, ◌≡◌, ℕ, None, Option, Some, ap, arith, refl}
+use Rattle.grammar.specs.{Nodes.Node, Terminals.place, declared.terminals.Terminal.Terminal}
+use Rattle.pas_tree.proofs.Told.{constant_told, constants_told, form, lead, left, left_number, names_told, number, rest, right, second, token_told}
 use Rattle.pas_tree.specs.Denoters as node
 use Rattle.pas_tree.specs.SameDenoters as same
-use Rattle.pas_tree.proofs.Told.{form, number, left, right, lead, left_number, second, rest, token_told, names_told, constant_told, constants_told}
+use Rattle.pas_tree.specs.declared.denoters.{Enumeration.Enumeration as EnumerationTree, NextVariants.NextVariants', TagField.TagField}
+use Rattle.pas_tree.specs.declared.denoters.ArrayDenoter.{ArrayDenoter, ArrayDenoter', Row_of-NextDenoter, end_of-NextDenoter, more_of-NextDenoter}
+use Rattle.pas_tree.specs.declared.denoters.Denoter.{Denoter, Enumeration, Name, Pointer, Structure', Subrange}
+use Rattle.pas_tree.specs.declared.denoters.Fields.{Empty, Fields, Fixed', Held-Fields-Fixed-1, None', Some', Variants' as FieldsVariants'}
+use Rattle.pas_tree.specs.declared.denoters.Fixed.{Fixed as FixedTree, Fixed' as FixedTree', Row_of-NextSection, end_of-NextSection, more_of-NextSection}
+use Rattle.pas_tree.specs.declared.denoters.Structure.{Array, Record', Set', Structure}
+use Rattle.pas_tree.specs.declared.denoters.Variants.{Row_of-NextArm, Variants as VariantsTree, Variants', end_of-NextArm, more_of-NextArm}
 
 enumeration_told : (a b : EnumerationTree) → node.enumeration_node a ≡ node.enumeration_node b → same.SameEnumeration a b
 enumeration_told a b q = (ap left_number q, names_told a.names b.names (ap second q), ap number (ap rest q))
@@ -45,9 +37,9 @@ structure_below (Record' n a c) = omega arith
 structure_below (Set' n o a) = omega arith
 
 abbrev structure_place : Structure → ℕ
-structure_place (Array a) = place k.WArray
-structure_place (Record' n a c) = place k.WRecord
-structure_place (Set' n o a) = place k.WSet
+structure_place (Array a) = place Terminal.WArray
+structure_place (Record' n a c) = place Terminal.WRecord
+structure_place (Set' n o a) = place Terminal.WSet
 
 structure_lead : (s : Structure) → lead (node.structure_node s) ≡ structure_place s
 structure_lead (Array (ArrayDenoter' w n a _ r c o x)) = refl
@@ -61,7 +53,7 @@ structured : (d : Denoter) → Structured d
 structured (Structure' n _ s) = structure_below s
 structured d = tt
 
-variants_lead : (v : VariantsTree) (n : Option ℕ) → lead (node.variants_node v n) ≡ place k.WCase
+variants_lead : (v : VariantsTree) (n : Option ℕ) → lead (node.variants_node v n) ≡ place Terminal.WCase
 variants_lead (Variants' w t o a n k f c _ r) last = refl
 
 abbrev fields_form : Fields → ℕ
@@ -89,7 +81,7 @@ mutual
   denoter_told (Enumeration a) (Enumeration b) q = enumeration_told a b q
   denoter_told (Subrange a n c) (Subrange b m d) q = (constant_told a b (ap left q), ap number (ap second q), constant_told c d (ap rest q))
   denoter_told (Pointer n c) (Pointer m d) q = (ap left_number q, ap number (ap right q))
-  denoter_told (Structure' n _ a) (Structure' m _ b) q = (token_told k.WPacked n m (ap left q), structure_told a b (ap right q))
+  denoter_told (Structure' n _ a) (Structure' m _ b) q = (token_told Terminal.WPacked n m (ap left q), structure_told a b (ap right q))
   denoter_told x y q = absurd (omega (arith, ap lead (ap right q), ap form (ap right q), structured x, structured y))
 
   structure_told : (x y : Structure) → node.structure_node x ≡ node.structure_node y → same.SameStructure x y

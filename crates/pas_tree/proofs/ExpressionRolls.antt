@@ -1,26 +1,15 @@
 -- The nodes of expressions that hold a vector.
-use Rattle.std.proofs.Common.{◌≡◌, ℕ, map, refl, Vec, Global, Option}
+use Rattle.std.proofs.Common.{◌≡◌, ℕ, Global, Option, Vec, map, refl}
 use denote.Hole.Carrier.{roll}
-use Rattle.grammar.specs.declared.terminals.Terminal.TheVariants as k
 use Rattle.grammar.specs.Nodes.{Pair, leaf, row}
-use Rattle.pas_tree.specs.declared.operators.Sign.{Sign}
-use Rattle.pas_tree.specs.declared.expressions.Factor.{Factor}
-use Rattle.pas_tree.specs.declared.expressions.Factor.TheBlock as b
-use Rattle.pas_tree.specs.declared.expressions.Selector.{Selector}
-use Rattle.pas_tree.specs.declared.expressions.Index.{roll-Index}
-use Rattle.pas_tree.specs.declared.expressions.Arguments.{roll-Arguments}
-use Rattle.pas_tree.specs.declared.expressions.NextExpression.{NextExpression, NextExpression'}
-use Rattle.pas_tree.specs.declared.expressions.Expression.{Expression}
-use Rattle.pas_tree.specs.declared.expressions.Simple.{roll-Simple}
-use Rattle.pas_tree.specs.declared.expressions.NextTerm.{NextTerm, NextTerm'}
-use Rattle.pas_tree.specs.declared.expressions.Term.{Term, roll-Term}
-use Rattle.pas_tree.specs.declared.expressions.NextFactor.{NextFactor}
-use Rattle.pas_tree.specs.declared.expressions.Members.{Some}
-use Rattle.pas_tree.specs.declared.expressions.SomeMembers.{roll-SomeMembers}
-use Rattle.pas_tree.specs.declared.expressions.NextMember.{NextMember, NextMember'}
-use Rattle.pas_tree.specs.declared.expressions.Member.{Member}
-use Rattle.pas_tree.specs.Operators.{sign_node}
+use Rattle.grammar.specs.declared.terminals.Terminal.TheVariants as k
 use Rattle.pas_tree.specs.Expressions as node
+use Rattle.pas_tree.specs.Operators.{sign_node}
+use Rattle.pas_tree.specs.declared.{expressions.NextExpression.NextExpression, expressions.NextExpression.NextExpression', operators.Sign.Sign}
+use Rattle.pas_tree.specs.declared.expressions.{Arguments.roll-Arguments, Expression.Expression, Factor.Factor, Index.roll-Index, Member.Member, Members.Some}
+use Rattle.pas_tree.specs.declared.expressions.{NextFactor.NextFactor, NextMember.NextMember, NextMember.NextMember', NextTerm.NextTerm, NextTerm.NextTerm'}
+use Rattle.pas_tree.specs.declared.expressions.{Selector.Selector, Simple.roll-Simple, SomeMembers.roll-SomeMembers, Term.Term, Term.roll-Term}
+use Rattle.pas_tree.specs.declared.expressions.Factor.TheBlock as b
 
 -- ---- a vector's elements in their order
 

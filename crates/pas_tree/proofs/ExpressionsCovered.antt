@@ -1,35 +1,22 @@
 -- Each node of an expression or an access is that of a typed tree.
-use Rattle.std.proofs.Common.{◌≡◌, ℕ, [], ◌∷◌, map, refl, ap, ◌⊎◌, inl, inr, Vec, Global}
+use Rattle.std.proofs.Common.{◌∷◌, ◌≡◌, ◌⊎◌, [], ℕ, Global, Vec, ap, inl, inr, map, refl}
 use denote.Hole.Carrier.{roll}
-use Rattle.grammar.specs.declared.terminals.Terminal.TheVariants as k
-use Rattle.grammar.specs.Nodes.{Node, Pair, leaf, row}
-use Rattle.grammar.specs.Grammars.{Level, seq, word, many}
-use Rattle.grammar.specs.Nesting.{Trees}
-use Rattle.pas_tree.specs.declared.expressions.Factor.{Factor, Number, Text, Nil, Call', Paren', Set', Not', roll-Factor}
-use Rattle.pas_tree.specs.declared.expressions.Factor.TheVariants as variant
-use Rattle.pas_tree.specs.declared.expressions.Selector.{Selector, Index, Field, Dereference}
-use Rattle.pas_tree.specs.declared.expressions.Index.{roll-Index}
-use Rattle.pas_tree.specs.declared.expressions.Arguments.{Arguments, roll-Arguments}
-use Rattle.pas_tree.specs.declared.expressions.NextExpression.{NextExpression, NextExpression'}
-use Rattle.pas_tree.specs.declared.expressions.Expression as e
-use Rattle.pas_tree.specs.declared.expressions.Relation.{Relation'}
-use Rattle.pas_tree.specs.declared.expressions.Simple.{roll-Simple}
-use Rattle.pas_tree.specs.declared.expressions.NextTerm.{NextTerm'}
-use Rattle.pas_tree.specs.declared.expressions.Term.{roll-Term}
-use Rattle.pas_tree.specs.declared.expressions.Members.{Members, Empty, Some}
-use Rattle.pas_tree.specs.declared.expressions.SomeMembers.{roll-SomeMembers}
-use Rattle.pas_tree.specs.declared.expressions.NextMember.{NextMember, NextMember'}
-use Rattle.pas_tree.specs.declared.expressions.Member.{Member, Member', Member-last-None', Member-last-Some'}
-use Rattle.pas_tree.specs.declared.expressions.RangeEnd.{RangeEnd'}
+use Rattle.grammar.specs.{Nesting.Trees, Nodes.Node, Nodes.Pair, Nodes.leaf, Nodes.row, declared.terminals.Terminal.Terminal}
+use Rattle.grammar.specs.Grammars.{Level, many, seq, word}
+use Rattle.pas_tree.proofs.{Levels.Levels, Memory.boxed, Parts.parts, Repeated.listed}
+use Rattle.pas_tree.proofs.ConstantsCovered.{adding_covered, multiplying_covered, relational_covered, sign_covered}
+use Rattle.pas_tree.proofs.Covers.{Covers, absent, choose, fork, fork_node, four, made, one, or, pair, three}
+use Rattle.pas_tree.proofs.ExpressionRolls.{arguments_rolled, index_rolled, members_rolled, selectors_hidden, simple_rolled, term_rolled}
 use Rattle.pas_tree.specs.Expressions as node
 use Rattle.pas_tree.specs.Rules as r
-use Rattle.pas_tree.proofs.Parts.{parts}
-use Rattle.pas_tree.proofs.ExpressionRolls.{selectors_hidden, term_rolled, simple_rolled, arguments_rolled, index_rolled, members_rolled}
-use Rattle.pas_tree.proofs.Memory.{boxed}
-use Rattle.pas_tree.proofs.Covers.{Covers, one, or, pair, three, four, choose, absent, made, fork, fork_node}
-use Rattle.pas_tree.proofs.Repeated.{listed}
-use Rattle.pas_tree.proofs.Levels.{Levels}
-use Rattle.pas_tree.proofs.ConstantsCovered.{sign_covered, adding_covered, multiplying_covered, relational_covered}
+use Rattle.pas_tree.specs.declared.expressions.{Arguments.Arguments, Arguments.roll-Arguments, Index.roll-Index, Members.Empty, Members.Members, Members.Some}
+use Rattle.pas_tree.specs.declared.expressions.{NextExpression.NextExpression, NextExpression.NextExpression', NextMember.NextMember, NextMember.NextMember'}
+use Rattle.pas_tree.specs.declared.expressions.{NextTerm.NextTerm', RangeEnd.RangeEnd', Relation.Relation', Selector.Dereference, Selector.Field}
+use Rattle.pas_tree.specs.declared.expressions.{Selector.Index, Selector.Selector, Simple.roll-Simple, SomeMembers.roll-SomeMembers, Term.roll-Term}
+use Rattle.pas_tree.specs.declared.expressions.Expression as e
+use Rattle.pas_tree.specs.declared.expressions.Factor.{Call', Factor, Nil, Not', Number, Paren', Set', Text, roll-Factor}
+use Rattle.pas_tree.specs.declared.expressions.Factor.TheVariants as variant
+use Rattle.pas_tree.specs.declared.expressions.Member.{Member, Member', Member-last-None', Member-last-Some'}
 
 abbrev pub selectors_node : Vec Selector Global → Node
 selectors_node s = row (map node.selector_node s.items)
@@ -40,10 +27,10 @@ named_factor n (inl a) = Call' n (boxed tt) a
 named_factor n (inr s) = variant.Access (record { name = n; selectors = s })
 
 named_factor_is : (n : ℕ) (x : Arguments ⊎ Vec Selector Global)
-    → node.factor_node (named_factor n x) ≡ Pair (leaf k.Name n) (fork_node node.arguments_node selectors_node x)
+    → node.factor_node (named_factor n x) ≡ Pair (leaf Terminal.Name n) (fork_node node.arguments_node selectors_node x)
 unfolding roll-Factor roll
 named_factor_is n (inl a) = refl
-named_factor_is n (inr s) = ap (Pair (leaf k.Name n)) (selectors_hidden s)
+named_factor_is n (inr s) = ap (Pair (leaf Terminal.Name n)) (selectors_hidden s)
 
 -- no members after the opening bracket, or some
 abbrev members : ℕ → ℕ ⊎ (Member × Vec NextMember Global × ℕ) → Members
@@ -51,10 +38,10 @@ members n (inl close) = Empty n close
 members n (inr p) = Some (roll-SomeMembers (record { «open» = n; first = p.0; others = p.1; close = p.2 }))
 
 abbrev some_node : Member × Vec NextMember Global × ℕ → Node
-some_node p = Pair (node.member_node p.0) (Pair (row (map node.next_member_node p.1.items)) (leaf k.RightBracket p.2))
+some_node p = Pair (node.member_node p.0) (Pair (row (map node.next_member_node p.1.items)) (leaf Terminal.RightBracket p.2))
 
 members_is : (n : ℕ) (x : ℕ ⊎ (Member × Vec NextMember Global × ℕ))
-    → node.members_node (members n x) ≡ Pair (leaf k.LeftBracket n) (fork_node (leaf k.RightBracket) some_node x)
+    → node.members_node (members n x) ≡ Pair (leaf Terminal.LeftBracket n) (fork_node (leaf Terminal.RightBracket) some_node x)
 members_is n (inl close) = refl
 members_is n (inr p) = members_rolled n p.0 p.1 p.2
 
@@ -90,7 +77,7 @@ module _ {E : Level → Trees} (levels : Levels E) where
 
   -- ---- accesses
 
-  next_expressions_covered : Covers E (many (k.Comma ∷ []) r.next_expression_rule)
+  next_expressions_covered : Covers E (many (Terminal.Comma ∷ []) r.next_expression_rule)
       (λ (l : Vec NextExpression Global). row (map node.next_expression_node l.items))
   unfolding r.next_expression_rule
   next_expressions_covered = listed parts.next_expression (made (λ (comma, x). NextExpression' comma x) (λ _. refl) (pair one expression_covered))
@@ -122,7 +109,7 @@ module _ {E : Level → Trees} (levels : Levels E) where
 
   -- ---- sets
 
-  range_end_covered : Covers E (r.optional (k.Range ∷ []) (seq (word k.Range) r.expression_rule)) node.range_end_node
+  range_end_covered : Covers E (r.optional (Terminal.Range ∷ []) (seq (word Terminal.Range) r.expression_rule)) node.range_end_node
   range_end_covered =
       choose (made (λ (range, last). Member-last-Some' (RangeEnd' range last)) (λ _. refl)
       (pair one expression_covered)) (absent Member-last-None' refl)

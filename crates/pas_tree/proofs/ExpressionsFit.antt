@@ -1,27 +1,20 @@
 -- Every expression's node fits its rule.
-use Rattle.std.proofs.Common.{[], ◌∷◌, List, refl, map}
-use Rattle.grammar.specs.declared.terminals.Terminal.TheVariants as k
-use Rattle.grammar.specs.Nodes.{row}
-use Rattle.grammar.specs.Grammars.{many, seq, word}
-use Rattle.pas_tree.specs.declared.expressions.Factor.{Factor, Number, Text, Nil, Access', Call', Paren', Set', Not'}
-use Rattle.pas_tree.specs.declared.expressions.Access.{Access, Row_of-Selector, end_of-Selector, more_of-Selector}
-use Rattle.pas_tree.specs.declared.expressions.Selector.{Selector, Index, Field, Dereference}
-use Rattle.pas_tree.specs.declared.expressions.Index.{Index as IndexTree, Index'}
-use Rattle.pas_tree.specs.declared.expressions.Arguments.{Arguments, Arguments', Row_of-NextExpression, end_of-NextExpression, more_of-NextExpression}
-use Rattle.pas_tree.specs.declared.expressions.NextExpression.{NextExpression'}
-use Rattle.pas_tree.specs.declared.expressions.Expression as e
-use Rattle.pas_tree.specs.declared.expressions.Relation.{Relation'}
-use Rattle.pas_tree.specs.declared.expressions.Simple.{Simple, Simple', Row_of-NextTerm, end_of-NextTerm, more_of-NextTerm}
-use Rattle.pas_tree.specs.declared.expressions.NextTerm.{NextTerm'}
-use Rattle.pas_tree.specs.declared.expressions.Term.{Term, Term', Row_of-NextFactor, end_of-NextFactor, more_of-NextFactor}
-use Rattle.pas_tree.specs.declared.expressions.Members.{Members, Empty, Some}
-use Rattle.pas_tree.specs.declared.expressions.SomeMembers.{SomeMembers', Row_of-NextMember, end_of-NextMember, more_of-NextMember}
-use Rattle.pas_tree.specs.declared.expressions.NextMember.{NextMember'}
-use Rattle.pas_tree.specs.declared.expressions.Member.{Member, Member', Held-Member-last, Member-last-None', Member-last-Some'}
-use Rattle.pas_tree.specs.declared.expressions.RangeEnd.{RangeEnd'}
+use Rattle.std.proofs.Common.{◌∷◌, [], List, map, refl}
+use Rattle.grammar.specs.{Grammars.many, Grammars.seq, Grammars.word, Nodes.row, declared.terminals.Terminal.Terminal}
+use Rattle.pas_tree.proofs.Fits.{Fits, absent, adding_fits, cons, deeper, left, listed, multiplying_fits, nil, one, pair, relational_fits, right, sign_fits}
 use Rattle.pas_tree.specs.Expressions as node
 use Rattle.pas_tree.specs.Rules as r
-use Rattle.pas_tree.proofs.Fits.{Fits, one, pair, left, right, absent, deeper, nil, cons, listed, sign_fits, adding_fits, multiplying_fits, relational_fits}
+use Rattle.pas_tree.specs.declared.expressions.{Index.Index as IndexTree, Index.Index', Members.Empty, Members.Members, Members.Some}
+use Rattle.pas_tree.specs.declared.expressions.{NextExpression.NextExpression', NextMember.NextMember', NextTerm.NextTerm', RangeEnd.RangeEnd'}
+use Rattle.pas_tree.specs.declared.expressions.{Relation.Relation', Selector.Dereference, Selector.Field, Selector.Index, Selector.Selector}
+use Rattle.pas_tree.specs.declared.expressions.Access.{Access, Row_of-Selector, end_of-Selector, more_of-Selector}
+use Rattle.pas_tree.specs.declared.expressions.Arguments.{Arguments, Arguments', Row_of-NextExpression, end_of-NextExpression, more_of-NextExpression}
+use Rattle.pas_tree.specs.declared.expressions.Expression as e
+use Rattle.pas_tree.specs.declared.expressions.Factor.{Access', Call', Factor, Nil, Not', Number, Paren', Set', Text}
+use Rattle.pas_tree.specs.declared.expressions.Member.{Held-Member-last, Member, Member', Member-last-None', Member-last-Some'}
+use Rattle.pas_tree.specs.declared.expressions.Simple.{Row_of-NextTerm, Simple, Simple', end_of-NextTerm, more_of-NextTerm}
+use Rattle.pas_tree.specs.declared.expressions.SomeMembers.{Row_of-NextMember, SomeMembers', end_of-NextMember, more_of-NextMember}
+use Rattle.pas_tree.specs.declared.expressions.Term.{Row_of-NextFactor, Term, Term', end_of-NextFactor, more_of-NextFactor}
 
 mutual
   unfolding r.expression_rule r.relation_rule r.simple_rule r.next_term_rule r.term_rule r.next_factor_rule r.factor_rule r.named_factor_rule r.paren_rule
@@ -73,7 +66,7 @@ mutual
   arguments_fits : (a : Arguments) → Fits r.arguments_rule (node.arguments_node a)
   arguments_fits (Arguments' open' first _ others close) = pair (one refl) (pair (expression_fits first) (pair (expressions_fits others) (one refl)))
 
-  expressions_fits : {m : _} (t : Row_of-NextExpression m) → Fits (many (k.Comma ∷ []) r.next_expression_rule) (node.expressions_node t)
+  expressions_fits : {m : _} (t : Row_of-NextExpression m) → Fits (many (Terminal.Comma ∷ []) r.next_expression_rule) (node.expressions_node t)
   expressions_fits end_of-NextExpression = nil
   expressions_fits (more_of-NextExpression (NextExpression' comma x) rest) = cons (pair (one refl) (expression_fits x)) (expressions_fits rest)
 
@@ -82,14 +75,14 @@ mutual
   members_fits (Some (SomeMembers' open' first _ others close)) =
       pair (one refl) (right (pair (member_fits first) (pair (more_members_fits others) (one refl))))
 
-  more_members_fits : {m : _} (t : Row_of-NextMember m) → Fits (many (k.Comma ∷ []) r.next_member_rule) (node.more_members_node t)
+  more_members_fits : {m : _} (t : Row_of-NextMember m) → Fits (many (Terminal.Comma ∷ []) r.next_member_rule) (node.more_members_node t)
   more_members_fits end_of-NextMember = nil
   more_members_fits (more_of-NextMember (NextMember' comma member) rest) = cons (pair (one refl) (member_fits member)) (more_members_fits rest)
 
   member_fits : (m : Member) → Fits r.member_rule (node.member_node m)
   member_fits (Member' first last) = pair (expression_fits first) (range_end_fits last)
 
-  range_end_fits : (x : Held-Member-last) → Fits (r.optional (k.Range ∷ []) (seq (word k.Range) r.expression_rule)) (node.range_end_node x)
+  range_end_fits : (x : Held-Member-last) → Fits (r.optional (Terminal.Range ∷ []) (seq (word Terminal.Range) r.expression_rule)) (node.range_end_node x)
   range_end_fits Member-last-None' = absent
   range_end_fits (Member-last-Some' (RangeEnd' range last)) = left (pair (one refl) (expression_fits last))
 

@@ -1,41 +1,35 @@
 -- Expressions with equal nodes are the same.
-use Rattle.std.proofs.Common.{◌≡◌, ℕ, refl, ap, sym, ◌∙◌, arith}
-use Rattle.grammar.specs.declared.terminals.Terminal.TheVariants as k
-use Rattle.grammar.specs.Terminals.{place}
-use Rattle.pas_tree.specs.declared.expressions.Factor.{Factor, Number, Text, Nil, Access', Call', Paren', Set', Not'}
-use Rattle.pas_tree.specs.declared.expressions.Access.{Access, Row_of-Selector, end_of-Selector, more_of-Selector}
-use Rattle.pas_tree.specs.declared.expressions.Selector.{Selector, Index, Field, Dereference}
-use Rattle.pas_tree.specs.declared.expressions.Index.{Index as IndexTree, Index'}
-use Rattle.pas_tree.specs.declared.expressions.Arguments.{Arguments, Arguments', Row_of-NextExpression, end_of-NextExpression, more_of-NextExpression}
-use Rattle.pas_tree.specs.declared.expressions.NextExpression.{NextExpression'}
-use Rattle.pas_tree.specs.declared.expressions.Expression as e
-use Rattle.pas_tree.specs.declared.expressions.Relation.{Relation'}
-use Rattle.pas_tree.specs.declared.expressions.Simple.{Simple, Simple', Row_of-NextTerm, end_of-NextTerm, more_of-NextTerm}
-use Rattle.pas_tree.specs.declared.expressions.NextTerm.{NextTerm'}
-use Rattle.pas_tree.specs.declared.expressions.Term.{Term, Term', Row_of-NextFactor, end_of-NextFactor, more_of-NextFactor}
-use Rattle.pas_tree.specs.declared.expressions.Members.{Members, Empty, Some}
-use Rattle.pas_tree.specs.declared.expressions.SomeMembers.{SomeMembers', Row_of-NextMember, end_of-NextMember, more_of-NextMember}
-use Rattle.pas_tree.specs.declared.expressions.NextMember.{NextMember'}
-use Rattle.pas_tree.specs.declared.expressions.Member.{Member, Member', Held-Member-last, Member-last-None', Member-last-Some'}
-use Rattle.pas_tree.specs.declared.expressions.RangeEnd.{RangeEnd'}
+use Rattle.std.proofs.Common.{◌∙◌, ◌≡◌, ℕ, ap, arith, refl, sym}
+use Rattle.grammar.specs.{Terminals.place, declared.terminals.Terminal.Terminal}
+use Rattle.pas_tree.proofs.Told.{adding_told, all_told, form, lead, left, left_number, multiplying_told, number, relational_told, rest, right, second}
+use Rattle.pas_tree.proofs.Told.{sign_told}
 use Rattle.pas_tree.specs.Expressions as node
 use Rattle.pas_tree.specs.SameExpressions as same
-use Rattle.pas_tree.proofs.Told.{form, number, left, right, lead, left_number, second, rest, sign_told, adding_told, multiplying_told, relational_told}
-use Rattle.pas_tree.proofs.Told.{all_told}
+use Rattle.pas_tree.specs.declared.expressions.{Index.Index as IndexTree, Index.Index', Members.Empty, Members.Members, Members.Some}
+use Rattle.pas_tree.specs.declared.expressions.{NextExpression.NextExpression', NextMember.NextMember', NextTerm.NextTerm', RangeEnd.RangeEnd'}
+use Rattle.pas_tree.specs.declared.expressions.{Relation.Relation', Selector.Dereference, Selector.Field, Selector.Index, Selector.Selector}
+use Rattle.pas_tree.specs.declared.expressions.Access.{Access, Row_of-Selector, end_of-Selector, more_of-Selector}
+use Rattle.pas_tree.specs.declared.expressions.Arguments.{Arguments, Arguments', Row_of-NextExpression, end_of-NextExpression, more_of-NextExpression}
+use Rattle.pas_tree.specs.declared.expressions.Expression as e
+use Rattle.pas_tree.specs.declared.expressions.Factor.{Access', Call', Factor, Nil, Not', Number, Paren', Set', Text}
+use Rattle.pas_tree.specs.declared.expressions.Member.{Held-Member-last, Member, Member', Member-last-None', Member-last-Some'}
+use Rattle.pas_tree.specs.declared.expressions.Simple.{Row_of-NextTerm, Simple, Simple', end_of-NextTerm, more_of-NextTerm}
+use Rattle.pas_tree.specs.declared.expressions.SomeMembers.{Row_of-NextMember, SomeMembers', end_of-NextMember, more_of-NextMember}
+use Rattle.pas_tree.specs.declared.expressions.Term.{Row_of-NextFactor, Term, Term', end_of-NextFactor, more_of-NextFactor}
 
 -- ---- first terminals
 
 abbrev factor_place : Factor → ℕ
-factor_place (Number n) = place k.Number
-factor_place (Text n) = place k.Text
-factor_place (Nil n) = place k.WNil
-factor_place (Access' n _ r) = place k.Name
-factor_place (Call' n _ a) = place k.Name
-factor_place (Paren' n _ a c) = place k.LeftParen
-factor_place (Set' _ m) = place k.LeftBracket
-factor_place (Not' n _ a) = place k.WNot
+factor_place (Number n) = place Terminal.Number
+factor_place (Text n) = place Terminal.Text
+factor_place (Nil n) = place Terminal.WNil
+factor_place (Access' n _ r) = place Terminal.Name
+factor_place (Call' n _ a) = place Terminal.Name
+factor_place (Paren' n _ a c) = place Terminal.LeftParen
+factor_place (Set' _ m) = place Terminal.LeftBracket
+factor_place (Not' n _ a) = place Terminal.WNot
 
-members_lead : (m : Members) → lead (node.members_node m) ≡ place k.LeftBracket
+members_lead : (m : Members) → lead (node.members_node m) ≡ place Terminal.LeftBracket
 members_lead (Empty n c) = refl
 members_lead (Some (SomeMembers' n a _ r c)) = refl
 
@@ -44,19 +38,19 @@ factor_lead (Set' _ m) = members_lead m
 factor_lead f = refl
 
 abbrev selector_place : Selector → ℕ
-selector_place (Index i) = place k.LeftBracket
-selector_place (Field n c) = place k.Dot
-selector_place (Dereference n) = place k.Caret
+selector_place (Index i) = place Terminal.LeftBracket
+selector_place (Field n c) = place Terminal.Dot
+selector_place (Dereference n) = place Terminal.Caret
 
 selector_lead : (s : Selector) → lead (node.selector_node s) ≡ selector_place s
 selector_lead (Index (Index' n a _ r c)) = refl
 selector_lead s = refl
 
-arguments_lead : (a : Arguments) → lead (node.arguments_node a) ≡ place k.LeftParen
+arguments_lead : (a : Arguments) → lead (node.arguments_node a) ≡ place Terminal.LeftParen
 arguments_lead (Arguments' n a _ r c) = refl
 
 -- what is after a name begins with no parenthesis where the name is that of a variable
-no_arguments : {m : _} (r : Row_of-Selector m) → (lead (node.selectors_node r) ≡ place k.LeftParen) → ⊥
+no_arguments : {m : _} (r : Row_of-Selector m) → (lead (node.selectors_node r) ≡ place Terminal.LeftParen) → ⊥
 no_arguments end_of-Selector e = absurd (omega arith)
 no_arguments (more_of-Selector (Index i) r) e = absurd (omega (arith, selector_lead (Index i)))
 no_arguments (more_of-Selector s r) e = absurd (omega arith)

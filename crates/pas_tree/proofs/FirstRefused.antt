@@ -1,13 +1,10 @@
 -- The laws of refusals at the grammar of Pascal.
-use Rattle.std.proofs.Common.{◌≡◌, ℕ, ◌<◌, List, [], length, drop, Ok, Err}
-use Rattle.grammar.specs.Nodes.{Item, Node}
-use Rattle.grammar.specs.Reading.{Deep, read}
-use Rattle.grammar.specs.Refusals.{StopsAt}
-use Rattle.grammar.proofs.FirstRefusals.{deep_first, first_deep, stop_first, first_stop, read_none_deep, read_none_hopeless}
-use Rattle.pas_tree.specs.Rules.{program_rule}
-use Rattle.pas_tree.specs.FirstFollow.{pascal}
-use Rattle.pas_tree.specs.FirstRefused.{IsFirstTooDeep, IsFirstHopeless, HasNeither, IsExactWhereRead, IsExactWhereFirst}
+use Rattle.std.proofs.Common.{◌<◌, ◌≡◌, [], ℕ, Err, List, Ok, drop, length}
+use Rattle.grammar.proofs.FirstRefusals.{deep_first, first_deep, first_stop, read_none_deep, read_none_hopeless, stop_first}
+use Rattle.grammar.specs.{Nodes.Item, Nodes.Node, Reading.Deep, Reading.read, Refusals.StopsAt}
 use Rattle.pas_tree.proofs.Decided.{calm, pascal_checks}
+use Rattle.pas_tree.specs.{FirstFollow.pascal, Rules.program_rule}
+use Rattle.pas_tree.specs.FirstRefused.{HasNeither, IsExactWhereFirst, IsExactWhereRead, IsFirstHopeless, IsFirstTooDeep}
 open pascal_checks use {decided, completed, reaching}
 
 pub deep_is_first : (n : ℕ) (text : List Item) (i : ℕ) → i < length text → read pascal n program_rule text ≡ Err (Deep (drop i text))

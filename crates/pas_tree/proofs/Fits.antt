@@ -1,23 +1,13 @@
 -- A node fits a rule if it is one of its trees whatever follows it, the else parts taken as they come.
-use Rattle.std.proofs.Common.{◌≡◌, true, [], ◌∷◌, List, Option, Some, None, refl, inl, inr, map}
-use Rattle.grammar.specs.declared.terminals.Terminal.{Terminal}
-use Rattle.grammar.specs.Terminals.{one_of}
-use Rattle.grammar.specs.Nodes.{Item, Node, Leaf, Nothing, Pair, row}
-use Rattle.grammar.specs.Grammars.{Level, Grammar, token, nothing, seq, choice, greedy, level, many, series, IsNone, FreeIn}
-use Rattle.grammar.specs.Loose.{loose}
-use Rattle.grammar.proofs.Somewhere.{Nested, nested, many_nil, many_cons, series_nil, series_end, series_cons}
-use Rattle.pas_tree.specs.declared.operators.Sign.{Sign}
-use Rattle.pas_tree.specs.declared.operators.Sign.TheVariants as sign
-use Rattle.pas_tree.specs.declared.operators.AddingOperator.{AddingOperator}
-use Rattle.pas_tree.specs.declared.operators.AddingOperator.TheVariants as add
+use Rattle.std.proofs.Common.{◌∷◌, ◌≡◌, [], List, None, Option, Some, inl, inr, map, refl, true}
+use Rattle.grammar.proofs.Somewhere.{Nested, many_cons, many_nil, nested, series_cons, series_end, series_nil}
+use Rattle.grammar.specs.{Loose.loose, Terminals.one_of, declared.terminals.Terminal.Terminal}
+use Rattle.grammar.specs.Grammars.{FreeIn, Grammar, IsNone, Level, choice, greedy, level, many, nothing, seq, series, token}
+use Rattle.grammar.specs.Nodes.{Item, Leaf, Node, Nothing, Pair, row}
+use Rattle.pas_tree.specs.Operators.{adding_node, direction_node, multiplying_node, relational_node, sign_leaf, sign_node}
+use Rattle.pas_tree.specs.Rules.{adding, directions, multiplying, optional, relations, rule, sign_rule, signs}
+use Rattle.pas_tree.specs.declared.operators.{AddingOperator.AddingOperator, Direction.Direction, RelationalOperator.RelationalOperator, Sign.Sign}
 use Rattle.pas_tree.specs.declared.operators.MultiplyingOperator.{MultiplyingOperator}
-use Rattle.pas_tree.specs.declared.operators.MultiplyingOperator.TheVariants as multiply
-use Rattle.pas_tree.specs.declared.operators.RelationalOperator.{RelationalOperator}
-use Rattle.pas_tree.specs.declared.operators.RelationalOperator.TheVariants as relate
-use Rattle.pas_tree.specs.declared.operators.Direction.{Direction}
-use Rattle.pas_tree.specs.declared.operators.Direction.TheVariants as direct
-use Rattle.pas_tree.specs.Operators.{sign_leaf, sign_node, adding_node, multiplying_node, relational_node, direction_node}
-use Rattle.pas_tree.specs.Rules.{rule, optional, signs, adding, multiplying, relations, directions, sign_rule}
 
 abbrev pub loose_rule : Level → Grammar
 loose_rule l = loose (rule l)
@@ -84,8 +74,8 @@ series_more {k} {ks} {g} {z} {s} {x} {y} l f r =
 -- ---- one of several tokens
 
 pub sign_leaf_fits : (s : Sign) → Fits (token signs) (sign_leaf s)
-sign_leaf_fits (sign.Plus n) = one refl
-sign_leaf_fits (sign.Minus n) = one refl
+sign_leaf_fits (Sign.Plus n) = one refl
+sign_leaf_fits (Sign.Minus n) = one refl
 
 pub sign_fits : (s : Option Sign) → Fits sign_rule (sign_node s)
 unfolding sign_rule
@@ -93,25 +83,25 @@ sign_fits None = absent
 sign_fits (Some s) = left (sign_leaf_fits s)
 
 pub adding_fits : (o : AddingOperator) → Fits (token adding) (adding_node o)
-adding_fits (add.Plus n) = one refl
-adding_fits (add.Minus n) = one refl
-adding_fits (add.Or n) = one refl
+adding_fits (AddingOperator.Plus n) = one refl
+adding_fits (AddingOperator.Minus n) = one refl
+adding_fits (AddingOperator.Or n) = one refl
 
 pub multiplying_fits : (o : MultiplyingOperator) → Fits (token multiplying) (multiplying_node o)
-multiplying_fits (multiply.Times n) = one refl
-multiplying_fits (multiply.Div n) = one refl
-multiplying_fits (multiply.Mod n) = one refl
-multiplying_fits (multiply.And n) = one refl
+multiplying_fits (MultiplyingOperator.Times n) = one refl
+multiplying_fits (MultiplyingOperator.Div n) = one refl
+multiplying_fits (MultiplyingOperator.Mod n) = one refl
+multiplying_fits (MultiplyingOperator.And n) = one refl
 
 pub relational_fits : (o : RelationalOperator) → Fits (token relations) (relational_node o)
-relational_fits (relate.Equal n) = one refl
-relational_fits (relate.NotEqual n) = one refl
-relational_fits (relate.Less n) = one refl
-relational_fits (relate.AtMost n) = one refl
-relational_fits (relate.Greater n) = one refl
-relational_fits (relate.AtLeast n) = one refl
-relational_fits (relate.In n) = one refl
+relational_fits (RelationalOperator.Equal n) = one refl
+relational_fits (RelationalOperator.NotEqual n) = one refl
+relational_fits (RelationalOperator.Less n) = one refl
+relational_fits (RelationalOperator.AtMost n) = one refl
+relational_fits (RelationalOperator.Greater n) = one refl
+relational_fits (RelationalOperator.AtLeast n) = one refl
+relational_fits (RelationalOperator.In n) = one refl
 
 pub direction_fits : (d : Direction) → Fits (token directions) (direction_node d)
-direction_fits (direct.To n) = one refl
-direction_fits (direct.Downto n) = one refl
+direction_fits (Direction.To n) = one refl
+direction_fits (Direction.Downto n) = one refl

@@ -1,13 +1,11 @@
 -- The nodes of formal parameter lists.
-use Rattle.std.proofs.Common.{◌≡◌, ℕ, map, refl, Vec, Global}
+use Rattle.std.proofs.Common.{◌≡◌, ℕ, Global, Vec, map, refl}
 use denote.Hole.Carrier.{roll}
-use Rattle.grammar.specs.declared.terminals.Terminal.TheVariants as k
 use Rattle.grammar.specs.Nodes.{Pair, leaf, row}
-use Rattle.pas_tree.specs.declared.headings.Formal.{Formal}
-use Rattle.pas_tree.specs.declared.headings.Formal.TheBlock as b
-use Rattle.pas_tree.specs.declared.headings.Formals.{roll-Formals}
-use Rattle.pas_tree.specs.declared.headings.NextFormal.{NextFormal}
+use Rattle.grammar.specs.declared.terminals.Terminal.TheVariants as k
 use Rattle.pas_tree.specs.Headings as node
+use Rattle.pas_tree.specs.declared.headings.{Formal.Formal, Formals.roll-Formals, NextFormal.NextFormal}
+use Rattle.pas_tree.specs.declared.headings.Formal.TheBlock as b
 
 formals_row : (n : _) (r : b.Row_of-NextFormal n) → node.more_formals_node r ≡ row (map node.next_formal_node (b.items-the_row-NextFormal n r))
 formals_row _ b.end_of-NextFormal = refl

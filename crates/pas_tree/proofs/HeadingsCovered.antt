@@ -1,22 +1,13 @@
 -- Each node of a heading is that of a typed tree.
-use Rattle.std.proofs.Common.{[], ◌∷◌, Some, None, refl}
-use Rattle.grammar.specs.declared.terminals.Terminal.TheVariants as k
-use Rattle.grammar.specs.Grammars.{Level}
-use Rattle.grammar.specs.Nesting.{Trees}
-use Rattle.pas_tree.specs.declared.headings.Heading.{Procedure, Function}
-use Rattle.pas_tree.specs.declared.headings.ProcedureHeading.{ProcedureHeading'}
-use Rattle.pas_tree.specs.declared.headings.FunctionHeading.{FunctionHeading', None', Some'}
-use Rattle.pas_tree.specs.declared.headings.Formals.{roll-Formals}
-use Rattle.pas_tree.specs.declared.headings.Formal.{Value, Variable, Routine'}
+use Rattle.std.proofs.Common.{◌∷◌, [], None, Some, refl}
+use Rattle.grammar.specs.{Grammars.Level, Nesting.Trees, declared.terminals.Terminal.Terminal}
+use Rattle.pas_tree.proofs.{ConstantsCovered.names_covered, HeadingRolls.formals_rolled, Levels.Levels, Memory.boxed, Parts.parts, Repeated.listed}
+use Rattle.pas_tree.proofs.Covers.{Covers, absent, choose, four, made, one, pair, three}
 use Rattle.pas_tree.specs.Headings as node
 use Rattle.pas_tree.specs.Rules as r
-use Rattle.pas_tree.proofs.Parts.{parts}
-use Rattle.pas_tree.proofs.HeadingRolls.{formals_rolled}
-use Rattle.pas_tree.proofs.Memory.{boxed}
-use Rattle.pas_tree.proofs.Covers.{Covers, one, pair, three, four, choose, absent, made}
-use Rattle.pas_tree.proofs.Repeated.{listed}
-use Rattle.pas_tree.proofs.Levels.{Levels}
-use Rattle.pas_tree.proofs.ConstantsCovered.{names_covered}
+use Rattle.pas_tree.specs.declared.headings.{Formals.roll-Formals, Heading.Function, Heading.Procedure, ProcedureHeading.ProcedureHeading'}
+use Rattle.pas_tree.specs.declared.headings.Formal.{Routine', Value, Variable}
+use Rattle.pas_tree.specs.declared.headings.FunctionHeading.{FunctionHeading', None', Some'}
 
 module _ {E : Level → Trees} (levels : Levels E) where
   formal_names_covered : Covers E r.variables_formal_rule node.formal_names_node
@@ -39,7 +30,7 @@ module _ {E : Level → Trees} (levels : Levels E) where
       (λ (open', first, others, close). formals_rolled open' first others close)
       (four one formal_covered (listed parts.next_formal next_formal_covered) one)
 
-  held_formals_covered : Covers E (r.optional (k.LeftParen ∷ []) r.formals_rule) node.held_formals_node
+  held_formals_covered : Covers E (r.optional (Terminal.LeftParen ∷ []) r.formals_rule) node.held_formals_node
   held_formals_covered = choose (made Some' (λ _. refl) formals_covered) (absent None' refl)
 
   result_covered : Covers E r.result_rule node.result_node

@@ -1,18 +1,15 @@
 -- Every heading's node fits its rule.
-use Rattle.std.proofs.Common.{[], ◌∷◌, Option, Some, None, refl}
-use Rattle.grammar.specs.declared.terminals.Terminal.TheVariants as k
-use Rattle.grammar.specs.Grammars.{many}
-use Rattle.pas_tree.specs.declared.headings.Heading.{Heading, Procedure, Function}
-use Rattle.pas_tree.specs.declared.headings.ProcedureHeading.{ProcedureHeading, ProcedureHeading'}
-use Rattle.pas_tree.specs.declared.headings.FunctionHeading.{FunctionHeading, FunctionHeading', Held-FunctionHeading-formals, None', Some'}
-use Rattle.pas_tree.specs.declared.headings.ResultType.{ResultType}
-use Rattle.pas_tree.specs.declared.headings.Formals.{Formals, Formals', Row_of-NextFormal, end_of-NextFormal, more_of-NextFormal}
-use Rattle.pas_tree.specs.declared.headings.Formal.{Formal, Value, Variable, Routine'}
-use Rattle.pas_tree.specs.declared.headings.FormalNames.{FormalNames}
+use Rattle.std.proofs.Common.{◌∷◌, [], None, Option, Some, refl}
+use Rattle.grammar.specs.{Grammars.many, declared.terminals.Terminal.Terminal}
+use Rattle.pas_tree.proofs.ConstantsFit.{names_fits}
+use Rattle.pas_tree.proofs.Fits.{Fits, absent, cons, deeper, left, nil, one, pair, right}
 use Rattle.pas_tree.specs.Headings as node
 use Rattle.pas_tree.specs.Rules as r
-use Rattle.pas_tree.proofs.Fits.{Fits, one, pair, left, right, absent, deeper, nil, cons}
-use Rattle.pas_tree.proofs.ConstantsFit.{names_fits}
+use Rattle.pas_tree.specs.declared.headings.{FormalNames.FormalNames, Heading.Function, Heading.Heading, Heading.Procedure, ResultType.ResultType}
+use Rattle.pas_tree.specs.declared.headings.Formal.{Formal, Routine', Value, Variable}
+use Rattle.pas_tree.specs.declared.headings.Formals.{Formals, Formals', Row_of-NextFormal, end_of-NextFormal, more_of-NextFormal}
+use Rattle.pas_tree.specs.declared.headings.FunctionHeading.{FunctionHeading, FunctionHeading', Held-FunctionHeading-formals, None', Some'}
+use Rattle.pas_tree.specs.declared.headings.ProcedureHeading.{ProcedureHeading, ProcedureHeading'}
 
 formal_names_fits : (f : FormalNames) → Fits r.variables_formal_rule (node.formal_names_node f)
 unfolding r.variables_formal_rule
@@ -37,14 +34,14 @@ mutual
   function_fits (FunctionHeading' word name formals result) =
       pair (one refl) (pair (one refl) (pair (held_formals_fits formals) (result_fits result)))
 
-  held_formals_fits : (f : Held-FunctionHeading-formals) → Fits (r.optional (k.LeftParen ∷ []) r.formals_rule) (node.held_formals_node f)
+  held_formals_fits : (f : Held-FunctionHeading-formals) → Fits (r.optional (Terminal.LeftParen ∷ []) r.formals_rule) (node.held_formals_node f)
   held_formals_fits None' = absent
   held_formals_fits (Some' f) = left (formals_fits f)
 
   formals_fits : (f : Formals) → Fits r.formals_rule (node.formals_node f)
   formals_fits (Formals' open' first _ others close) = pair (one refl) (pair (formal_fits first) (pair (more_formals_fits others) (one refl)))
 
-  more_formals_fits : {m : _} (t : Row_of-NextFormal m) → Fits (many (k.Semicolon ∷ []) r.next_formal_rule) (node.more_formals_node t)
+  more_formals_fits : {m : _} (t : Row_of-NextFormal m) → Fits (many (Terminal.Semicolon ∷ []) r.next_formal_rule) (node.more_formals_node t)
   more_formals_fits end_of-NextFormal = nil
   more_formals_fits (more_of-NextFormal semicolon formal rest) = cons (pair (one refl) (formal_fits formal)) (more_formals_fits rest)
 

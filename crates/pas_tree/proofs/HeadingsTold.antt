@@ -1,19 +1,14 @@
 -- Headings with equal nodes are the same.
-use Rattle.std.proofs.Common.{◌≡◌, ℕ, Option, Some, None, refl, ap, sym, arith}
-use Rattle.grammar.specs.declared.terminals.Terminal.TheVariants as k
-use Rattle.grammar.specs.Terminals.{place}
-use Rattle.pas_tree.specs.declared.headings.Heading.{Heading, Procedure, Function}
-use Rattle.pas_tree.specs.declared.headings.ProcedureHeading.{ProcedureHeading, ProcedureHeading'}
-use Rattle.pas_tree.specs.declared.headings.FunctionHeading.{FunctionHeading, FunctionHeading'}
-use Rattle.pas_tree.specs.declared.headings.FunctionHeading.{Held-FunctionHeading-formals, None', Some'}
-use Rattle.pas_tree.specs.declared.headings.ResultType.{ResultType}
-use Rattle.pas_tree.specs.declared.headings.Formals.{Formals, Formals', Row_of-NextFormal, end_of-NextFormal}
-use Rattle.pas_tree.specs.declared.headings.Formals.{more_of-NextFormal}
-use Rattle.pas_tree.specs.declared.headings.Formal.{Formal, Value, Variable, Routine'}
-use Rattle.pas_tree.specs.declared.headings.FormalNames.{FormalNames}
+use Rattle.std.proofs.Common.{◌≡◌, ℕ, None, Option, Some, ap, arith, refl, sym}
+use Rattle.grammar.specs.{Terminals.place, declared.terminals.Terminal.Terminal}
+use Rattle.pas_tree.proofs.Told.{form, lead, left, left_number, names_told, number, rest, right, second}
 use Rattle.pas_tree.specs.Headings as node
 use Rattle.pas_tree.specs.SameHeadings as same
-use Rattle.pas_tree.proofs.Told.{form, number, left, right, lead, left_number, second, rest, names_told}
+use Rattle.pas_tree.specs.declared.headings.{FormalNames.FormalNames, Heading.Function, Heading.Heading, Heading.Procedure, ResultType.ResultType}
+use Rattle.pas_tree.specs.declared.headings.Formal.{Formal, Routine', Value, Variable}
+use Rattle.pas_tree.specs.declared.headings.Formals.{Formals, Formals', Row_of-NextFormal, end_of-NextFormal, more_of-NextFormal}
+use Rattle.pas_tree.specs.declared.headings.FunctionHeading.{FunctionHeading, FunctionHeading', Held-FunctionHeading-formals, None', Some'}
+use Rattle.pas_tree.specs.declared.headings.ProcedureHeading.{ProcedureHeading, ProcedureHeading'}
 
 formal_names_told : (a b : FormalNames) → node.formal_names_node a ≡ node.formal_names_node b → same.SameFormalNames a b
 formal_names_told a b q = (names_told a.names b.names (ap left q), ap number (ap second q), ap number (ap rest q))
@@ -24,8 +19,8 @@ result_told (Some a) (Some b) q = (ap left_number q, ap number (ap right q))
 result_told a b q = absurd (omega (arith, ap form q))
 
 abbrev heading_place : Heading → ℕ
-heading_place (Procedure p) = place k.WProcedure
-heading_place (Function f) = place k.WFunction
+heading_place (Procedure p) = place Terminal.WProcedure
+heading_place (Function f) = place Terminal.WFunction
 
 heading_lead : (h : Heading) → lead (node.heading_node h) ≡ heading_place h
 heading_lead (Procedure (ProcedureHeading' w n a)) = refl
@@ -35,11 +30,11 @@ formals_form : (f : Formals) → form (node.formals_node f) ≡ 2
 formals_form (Formals' n a _ r c) = refl
 
 -- a formal procedure or function begins with a word
-no_names : (h : Heading) (n : ℕ) → lead (node.heading_node h) ≡ n → n ≡ place k.Name → ⊥
+no_names : (h : Heading) (n : ℕ) → lead (node.heading_node h) ≡ n → n ≡ place Terminal.Name → ⊥
 no_names (Procedure (ProcedureHeading' w m a)) n e f = absurd (omega arith)
 no_names (Function (FunctionHeading' w m a r)) n e f = absurd (omega arith)
 
-no_var : (h : Heading) (n : ℕ) → lead (node.heading_node h) ≡ n → n ≡ place k.WVar → ⊥
+no_var : (h : Heading) (n : ℕ) → lead (node.heading_node h) ≡ n → n ≡ place Terminal.WVar → ⊥
 no_var (Procedure (ProcedureHeading' w m a)) n e f = absurd (omega arith)
 no_var (Function (FunctionHeading' w m a r)) n e f = absurd (omega arith)
 
@@ -77,8 +72,8 @@ mutual
   formal_told (Value a) (Value b) q = formal_names_told a b q
   formal_told (Variable n a) (Variable m b) q = (ap left_number q, formal_names_told a b (ap right q))
   formal_told (Routine' _ a) (Routine' _ b) q = heading_told a b q
-  formal_told (Value a) (Routine' _ b) q = absurd (no_names b (place k.Name) (ap lead (sym q)) refl)
-  formal_told (Routine' _ a) (Value b) q = absurd (no_names a (place k.Name) (ap lead q) refl)
-  formal_told (Variable n a) (Routine' _ b) q = absurd (no_var b (place k.WVar) (ap lead (sym q)) refl)
-  formal_told (Routine' _ a) (Variable m b) q = absurd (no_var a (place k.WVar) (ap lead q) refl)
+  formal_told (Value a) (Routine' _ b) q = absurd (no_names b (place Terminal.Name) (ap lead (sym q)) refl)
+  formal_told (Routine' _ a) (Value b) q = absurd (no_names a (place Terminal.Name) (ap lead q) refl)
+  formal_told (Variable n a) (Routine' _ b) q = absurd (no_var b (place Terminal.WVar) (ap lead (sym q)) refl)
+  formal_told (Routine' _ a) (Variable m b) q = absurd (no_var a (place Terminal.WVar) (ap lead q) refl)
   formal_told x y q = absurd (omega (arith, ap lead q))

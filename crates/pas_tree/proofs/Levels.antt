@@ -1,15 +1,10 @@
 -- The constructs that count as nesting, whose nodes are those of typed trees.
 use Rattle.std.proofs.Common.{ℕ, Bool, Option}
-use Rattle.grammar.specs.Nodes.{Node}
-use Rattle.grammar.specs.Grammars.{Closer, Level, level, block, heading, statement, denoter, variant_part, factor}
-use Rattle.grammar.specs.Nesting.{Trees}
-use Rattle.pas_tree.specs.declared.denoters.Variants.{Variants}
-use Rattle.pas_tree.specs.Expressions.{factor_node}
-use Rattle.pas_tree.specs.Denoters.{denoter_node, variants_node}
-use Rattle.pas_tree.specs.Headings.{heading_node}
-use Rattle.pas_tree.specs.Statements.{statement_node}
-use Rattle.pas_tree.specs.Blocks.{block_node}
+use Rattle.grammar.specs.{Nesting.Trees, Nodes.Node}
+use Rattle.grammar.specs.Grammars.{Closer, Level, block, denoter, factor, heading, level, statement, variant_part}
 use Rattle.pas_tree.proofs.Covers.{Covers}
+use Rattle.pas_tree.specs.{Blocks.block_node, Expressions.factor_node, Headings.heading_node, Statements.statement_node, declared.denoters.Variants.Variants}
+use Rattle.pas_tree.specs.Denoters.{denoter_node, variants_node}
 
 -- a variant part, and the semicolon after its last arm if there is one
 abbrev pub ended_variants_node : Variants × Option ℕ → Node

@@ -1,5 +1,5 @@
 -- Vectors and boxes as they would lie in no memory.
-use Rattle.std.proofs.Common.{◌<◌, ◌^◌, List, length, refl, Vec, Box, Global, le_refl}
+use Rattle.std.proofs.Common.{◌<◌, ◌^◌, Box, Global, List, Vec, le_refl, length, refl}
 use denote.RawPtr.{null_ptr}
 
 abbrev no_memory : Global

@@ -1,16 +1,12 @@
 -- A tree that breaks off after some tokens, and the few tokens that may close it.
-use Rattle.std.proofs.Common.{◌≡◌, ◌+◌, ◌≤◌, ℕ, zero, suc, Bool, true, false, List, [], ◌∷◌, ◌++◌, length, Option, refl, sym, ap, subst, ◌∙◌}
-use Rattle.std.proofs.Common.{◌<◌, append_assoc, length-append, ◌⊎◌, inl, inr, arith}
+use Rattle.std.proofs.Common.{◌++◌, ◌+◌, ◌<◌, ◌∙◌, ◌∷◌, ◌≡◌, ◌≤◌, ◌⊎◌, [], ℕ, Bool, List, Option, ap, append_assoc, arith, false, inl, inr, length}
+use Rattle.std.proofs.Common.{length-append, refl, subst, suc, sym, true, zero}
 use Rattle.std.proofs.lemmas.List.{append-nil}
-use Rattle.grammar.specs.declared.terminals.Terminal.{Terminal}
-use Rattle.grammar.specs.Terminals.{one_of}
-use Rattle.grammar.specs.Nodes.{Item, Node, Leaf, Nothing, Pair, leaf, spell, ahead}
-use Rattle.grammar.specs.Grammars.{Level, Grammar, token, nothing, seq, choice, greedy, level, loop, again, IsLeaf, IsNothing, IsPair}
-use Rattle.grammar.specs.Deciding.{both, either, solid}
-use Rattle.grammar.proofs.Larger.{IsPart}
-use Rattle.grammar.specs.Nesting.{Trees}
-use Rattle.grammar.specs.Completing.{first_in, short, begins_calm}
-use Rattle.grammar.proofs.Complete.{Moves, Fits, calm_ahead}
+use Rattle.grammar.proofs.{Complete.Fits, Complete.Moves, Complete.calm_ahead, Larger.IsPart}
+use Rattle.grammar.specs.{Deciding.both, Deciding.either, Deciding.solid, Nesting.Trees, Terminals.one_of, declared.terminals.Terminal.Terminal}
+use Rattle.grammar.specs.Completing.{begins_calm, first_in, short}
+use Rattle.grammar.specs.Grammars.{Grammar, IsLeaf, IsNothing, IsPair, Level, again, choice, greedy, level, loop, nothing, seq, token}
+use Rattle.grammar.specs.Nodes.{Item, Leaf, Node, Nothing, Pair, ahead, leaf, spell}
 
 -- ---- sizes
 

@@ -1,8 +1,6 @@
 -- What the grammar of Pascal repeats may stand in a loop.
-use Rattle.std.proofs.Common.{◌≡◌, true, refl}
-use Rattle.grammar.specs.Grammars.{Closer}
-use Rattle.grammar.specs.Deciding.{closed}
-use Rattle.grammar.proofs.Lists.{Repeats}
+use Rattle.std.proofs.Common.{◌≡◌, refl, true}
+use Rattle.grammar.{proofs.Lists.Repeats, specs.Deciding.closed, specs.Grammars.Closer}
 use Rattle.pas_tree.specs.Rules as r
 
 pub record Parts : Type 0 where

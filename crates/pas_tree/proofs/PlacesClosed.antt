@@ -1,21 +1,17 @@
 -- Where a tree breaks off after a place in it, few tokens close it and keep the place.
-use Rattle.std.proofs.Common.{◌≡◌, ◌+◌, ◌*◌, ◌<◌, ◌≤◌, ℕ, zero, suc, Bool, true, List, [], ◌∷◌, ◌++◌, length, Option, refl, sym, ap, subst}
-use Rattle.std.proofs.Common.{◌∙◌, append_assoc, ◌⊎◌, inl, inr, arith}
-use Rattle.std.proofs.lemmas.Bool.{and_parts}
-use Rattle.std.proofs.lemmas.List.{append_cancel_left}
-use Rattle.grammar.specs.declared.terminals.Terminal.{Terminal}
-use Rattle.grammar.specs.Nodes.{Item, Node, Leaf, Nothing, Pair, spell, ahead}
-use Rattle.grammar.specs.Grammars.{Level, Grammar, token, nothing, seq, choice, greedy, level, loop, again, FreeIn, IsPair}
-use Rattle.grammar.specs.Deciding.{closed, solid, linear, LevelTables, IsDecided}
-use Rattle.grammar.proofs.Larger.{IsPart}
-use Rattle.grammar.specs.Nesting.{Trees, Places, Nested, InPair, in_rounds, BeginsIn}
-use Rattle.grammar.specs.Completing.{IsCompleted}
-use Rattle.grammar.proofs.Deepest.{Loop, forget, fold}
-use Rattle.grammar.proofs.Complete.{Moves, Fits, loop_fits, brief, has, shortest, shortest_fits, has_fits}
-use Rattle.pas_tree.proofs.SoundParts.{close_at, Sound, pair_sound, fork_sound, greedy_sound, loop_sound}
-use Rattle.pas_tree.proofs.Parting.{broken_in, Closed, Closes, closed_map, first_closed, second_closed}
-use Rattle.pas_tree.proofs.Closing.{Inner, Roomy, Around, Tail, closes, part_moves, takes, first_roomy, second_roomy, fork_roomy}
+use Rattle.std.proofs.Common.{◌*◌, ◌++◌, ◌+◌, ◌<◌, ◌∙◌, ◌∷◌, ◌≡◌, ◌≤◌, ◌⊎◌, [], ℕ, Bool, List, Option, ap, append_assoc, arith, inl, inr, length, refl, subst}
+use Rattle.std.proofs.{Common.suc, Common.sym, Common.true, Common.zero, lemmas.Bool.and_parts, lemmas.List.append_cancel_left}
+use Rattle.grammar.proofs.{Deepest.Loop, Deepest.fold, Deepest.forget, Larger.IsPart}
+use Rattle.grammar.proofs.Complete.{Fits, Moves, brief, has, has_fits, loop_fits, shortest, shortest_fits}
+use Rattle.grammar.specs.{Completing.IsCompleted, declared.terminals.Terminal.Terminal}
+use Rattle.grammar.specs.Deciding.{IsDecided, LevelTables, closed, linear, solid}
+use Rattle.grammar.specs.Grammars.{FreeIn, Grammar, IsPair, Level, again, choice, greedy, level, loop, nothing, seq, token}
+use Rattle.grammar.specs.Nesting.{BeginsIn, InPair, Nested, Places, Trees, in_rounds}
+use Rattle.grammar.specs.Nodes.{Item, Leaf, Node, Nothing, Pair, ahead, spell}
+use Rattle.pas_tree.proofs.Closing.{Around, Inner, Roomy, Tail, closes, first_roomy, fork_roomy, part_moves, second_roomy, takes}
+use Rattle.pas_tree.proofs.Parting.{Closed, Closes, broken_in, closed_map, first_closed, second_closed}
 use Rattle.pas_tree.proofs.PlacesMove.{PlacesMove, places_move, rounds_move}
+use Rattle.pas_tree.proofs.SoundParts.{Sound, close_at, fork_sound, greedy_sound, loop_sound, pair_sound}
 
 -- where a tree of M breaks off after the token behind the place, one of M with the same place closes it
 abbrev pub KeepsPlace : (Terminal → Bool) → Places → (List Item → Type 0) → ℕ → Type 0

@@ -1,15 +1,12 @@
 -- In front of each calm terminal a place in a tree stays one.
-use Rattle.std.proofs.Common.{◌≡◌, ℕ, zero, suc, Bool, true, false, List, [], ◌∷◌, Option, inl, inr}
+use Rattle.std.proofs.Common.{◌∷◌, ◌≡◌, [], ℕ, Bool, List, Option, false, inl, inr, suc, true, zero}
 use Rattle.std.proofs.lemmas.Bool.{and_parts}
-use Rattle.grammar.specs.declared.terminals.Terminal.{Terminal}
-use Rattle.grammar.specs.Nodes.{Item, Node, Leaf, Nothing, Pair, spell, ahead}
-use Rattle.grammar.specs.Grammars.{Level, Grammar, token, nothing, seq, choice, greedy, level, loop, again, IsNone, FreeIn}
-use Rattle.grammar.specs.Deciding.{both, LevelTables, IsDecided}
-use Rattle.grammar.specs.Nesting.{Trees, Places, Nested, nowhere, in_rounds, BeginsIn, BeginsAt}
-use Rattle.grammar.specs.Completing.{begins_calm, spares, IsCompleted}
-use Rattle.grammar.proofs.Decided.{Allows}
-use Rattle.grammar.proofs.Deepest.{Loop}
-use Rattle.grammar.proofs.Complete.{Moves, good, calls, shortest, rule_completes, level_moves}
+use Rattle.grammar.{proofs.Decided.Allows, proofs.Deepest.Loop, specs.Completing.IsCompleted, specs.Completing.begins_calm, specs.Completing.spares}
+use Rattle.grammar.proofs.Complete.{Moves, calls, good, level_moves, rule_completes, shortest}
+use Rattle.grammar.specs.{Deciding.IsDecided, Deciding.LevelTables, Deciding.both, declared.terminals.Terminal.Terminal}
+use Rattle.grammar.specs.Grammars.{FreeIn, Grammar, IsNone, Level, again, choice, greedy, level, loop, nothing, seq, token}
+use Rattle.grammar.specs.Nesting.{BeginsAt, BeginsIn, Nested, Places, Trees, in_rounds, nowhere}
+use Rattle.grammar.specs.Nodes.{Item, Leaf, Node, Nothing, Pair, ahead, spell}
 use Rattle.pas_tree.proofs.Closing.{part_moves}
 
 abbrev pub PlacesMove : (Terminal → Bool) → Places → Type 0

@@ -1,20 +1,12 @@
 -- Lists of values whose nodes are what a grammar repeats.
-use Rattle.std.proofs.Common.{◌≡◌, ◌<◌, ◌≤◌, ℕ, zero, suc, true, List, [], ◌∷◌, ◌++◌, map, length, Option, Some, None, refl, inl, inr, arith}
-use Rattle.std.proofs.Common.{Vec, Global}
-use Rattle.std.proofs.lemmas.Bool.{and_parts}
-use Rattle.std.proofs.lemmas.List.{length-append}
-use Rattle.grammar.specs.declared.terminals.Terminal.{Terminal}
-use Rattle.grammar.specs.Nodes.{Node, Leaf, Nothing, Pair, leaf, row, SeriesPart, step_node, chain, spell, ahead}
-use Rattle.grammar.specs.Grammars.{Level, Grammar, token, nothing, seq, choice, greedy, level, loop, again, word, many, series, rounds, FreeIn}
-use Rattle.grammar.specs.Loose.{loose}
-use Rattle.grammar.specs.Deciding.{solid}
-use Rattle.grammar.proofs.Bools.{either_parts}
-use Rattle.grammar.proofs.Lists.{Repeats}
-use Rattle.grammar.specs.Nesting.{Trees}
-use Rattle.pas_tree.proofs.Told.{left, right}
+use Rattle.std.proofs.Common.{◌++◌, ◌<◌, ◌∷◌, ◌≡◌, ◌≤◌, [], ℕ, Global, List, None, Option, Some, Vec, arith, inl, inr, length, map, refl, suc, true, zero}
+use Rattle.std.proofs.lemmas.{Bool.and_parts, List.length-append}
+use Rattle.grammar.proofs.{Bools.either_parts, Lists.Repeats}
+use Rattle.grammar.specs.{Deciding.solid, Loose.loose, Nesting.Trees, declared.terminals.Terminal.Terminal}
+use Rattle.grammar.specs.Grammars.{FreeIn, Grammar, Level, again, choice, greedy, level, loop, many, nothing, rounds, seq, series, token, word}
+use Rattle.grammar.specs.Nodes.{Leaf, Node, Nothing, Pair, SeriesPart, ahead, chain, leaf, row, spell, step_node}
+use Rattle.pas_tree.proofs.{Covers.Covers, Covers.first_short, Covers.one, Covers.second_short, Memory.held, Told.left, Told.right}
 use Rattle.pas_tree.specs.TypedTrees.{HasShortLists}
-use Rattle.pas_tree.proofs.Memory.{held}
-use Rattle.pas_tree.proofs.Covers.{Covers, first_short, second_short, one}
 
 -- a separator and what stands at the end of a series after it, or nothing
 abbrev pub end_node : {C : Type 0} → Terminal → (C → Node) → Option (ℕ × C) → Node

@@ -1,11 +1,9 @@
 -- A shaped node is a tree of the grammar too where greedy parts may be left out anywhere.
-use Rattle.std.proofs.Common.{ℕ, zero, suc, None, inl, inr, arith}
-use Rattle.grammar.specs.Nodes.{Node, Leaf, Nothing, Pair, spell, ahead}
-use Rattle.grammar.specs.Grammars.{Level, Grammar, token, nothing, seq, choice, greedy, level, loop, again, IsNone, FreeIn, FreeWithin}
-use Rattle.grammar.specs.Deciding.{LevelTables}
-use Rattle.grammar.specs.Loose.{loose, IsGrammatical}
-use Rattle.grammar.proofs.Larger.{IsPart, Carries, all_in, rounds_map}
-use Rattle.grammar.specs.Nesting.{Trees, IsShaped}
+use Rattle.std.proofs.Common.{ℕ, None, arith, inl, inr, suc, zero}
+use Rattle.grammar.proofs.Larger.{Carries, IsPart, all_in, rounds_map}
+use Rattle.grammar.specs.{Deciding.LevelTables, Loose.IsGrammatical, Loose.loose, Nesting.IsShaped, Nesting.Trees}
+use Rattle.grammar.specs.Grammars.{FreeIn, FreeWithin, Grammar, IsNone, Level, again, choice, greedy, level, loop, nothing, seq, token}
+use Rattle.grammar.specs.Nodes.{Leaf, Node, Nothing, Pair, ahead, spell}
 
 module _ (P Q : Level → Trees) (up : (l : Level) → IsPart (P l) (Q l)) where
   pub loosened : (g : Grammar) → Carries (FreeIn P g) (FreeIn Q (loose g))

@@ -1,14 +1,11 @@
 -- Parts of a grammar that short trees complete, and the number of tokens that close them.
-use Rattle.std.proofs.Common.{◌≡◌, ◌+◌, ◌≤◌, ℕ, Bool, true, false, length, refl, arith, inl, inr}
+use Rattle.std.proofs.Common.{◌+◌, ◌≡◌, ◌≤◌, ℕ, Bool, List, arith, false, inl, inr, length, refl, true}
 use Rattle.std.proofs.lemmas.Bool.{and_parts}
-use Rattle.grammar.specs.declared.terminals.Terminal.{Terminal}
-use Rattle.std.specs.Prelude.{List}
-use Rattle.grammar.specs.Nodes.{Node, Nothing, spell}
-use Rattle.grammar.specs.Grammars.{Grammar, token, nothing, seq, choice, greedy, level, loop, again}
-use Rattle.grammar.specs.Deciding.{both, either, closed, solid, linear, guarded, sane, LevelTables, IsDecided}
-use Rattle.grammar.specs.Completing.{begins_calm, spares, IsCompleted}
-use Rattle.grammar.proofs.Bools.{both_make, either_parts}
-use Rattle.grammar.proofs.Complete.{brief, good, calls, shortest}
+use Rattle.grammar.proofs.{Bools.both_make, Bools.either_parts, Complete.brief, Complete.calls, Complete.good, Complete.shortest}
+use Rattle.grammar.specs.{Nodes.Node, Nodes.Nothing, Nodes.spell, declared.terminals.Terminal.Terminal}
+use Rattle.grammar.specs.Completing.{IsCompleted, begins_calm, spares}
+use Rattle.grammar.specs.Deciding.{IsDecided, LevelTables, both, closed, either, guarded, linear, sane, solid}
+use Rattle.grammar.specs.Grammars.{Grammar, again, choice, greedy, level, loop, nothing, seq, token}
 use Rattle.pas_tree.proofs.Parting.{closing}
 
 -- what goes on after a token alone goes on at its end alone

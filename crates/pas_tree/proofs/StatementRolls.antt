@@ -1,19 +1,13 @@
 -- The nodes of statements that hold a vector.
-use Rattle.std.proofs.Common.{◌≡◌, ℕ, map, refl, Vec, Global, Option}
+use Rattle.std.proofs.Common.{◌≡◌, ℕ, Global, Option, Vec, map, refl}
 use denote.Hole.Carrier.{roll}
-use Rattle.grammar.specs.declared.terminals.Terminal.TheVariants as k
-use Rattle.grammar.specs.Nodes.{Node, Pair, leaf, row, chain}
-use Rattle.pas_tree.specs.declared.expressions.Expression.{Expression}
-use Rattle.pas_tree.specs.declared.statements.Plain.TheBlock as b
-use Rattle.pas_tree.specs.declared.statements.Statement.{Statement}
-use Rattle.pas_tree.specs.declared.statements.Statements.{roll-Statements}
-use Rattle.pas_tree.specs.declared.statements.NextStatement.{NextStatement}
-use Rattle.pas_tree.specs.declared.statements.Case.{roll-Case}
-use Rattle.pas_tree.specs.declared.statements.Branch.{Branch}
-use Rattle.pas_tree.specs.declared.statements.NextBranch.{NextBranch}
-use Rattle.pas_tree.specs.Expressions.{expression_node}
-use Rattle.pas_tree.specs.Denoters.{last_semicolon_node}
+use Rattle.grammar.specs.Nodes.{Node, Pair, chain, leaf, row}
+use Rattle.grammar.specs.declared.terminals.Terminal.{Terminal}
+use Rattle.pas_tree.specs.{Denoters.last_semicolon_node, Expressions.expression_node}
 use Rattle.pas_tree.specs.Statements as node
+use Rattle.pas_tree.specs.declared.{expressions.Expression.Expression, statements.NextStatement.NextStatement}
+use Rattle.pas_tree.specs.declared.statements.{Branch.Branch, Case.roll-Case, NextBranch.NextBranch, Statement.Statement, Statements.roll-Statements}
+use Rattle.pas_tree.specs.declared.statements.Plain.TheBlock as b
 
 statements_row : (n : _) (r : b.Row_of-NextStatement n) → node.more_statements_node r ≡ row (map node.next_statement_node (b.items-the_row-NextStatement n r))
 statements_row _ b.end_of-NextStatement = refl
@@ -39,7 +33,7 @@ pub case_rolled : (word : ℕ) (selector : Expression) (of : ℕ) (first : Branc
       semicolon = semicolon;
       end = end;
     }))
-    ≡ Pair (leaf k.WCase word) (Pair (expression_node selector) (Pair (leaf k.WOf of) (Pair (node.branch_node first)
-    (Pair (chain (map node.branch_step others.items) (last_semicolon_node semicolon)) (leaf k.WEnd end)))))
+    ≡ Pair (leaf Terminal.WCase word) (Pair (expression_node selector) (Pair (leaf Terminal.WOf of) (Pair (node.branch_node first)
+    (Pair (chain (map node.branch_step others.items) (last_semicolon_node semicolon)) (leaf Terminal.WEnd end)))))
 unfolding roll-Case roll
 case_rolled word selector of first others semicolon end = rw (branches_row _ (b.hidden-the_row-NextBranch-0 others), b.items_hidden-the_row-NextBranch-0)

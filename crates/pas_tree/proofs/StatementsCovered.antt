@@ -1,31 +1,17 @@
 -- Each node of a statement is that of a typed tree.
-use Rattle.std.proofs.Common.{◌≡◌, ℕ, Bool, false, true, [], ◌∷◌, Option, Some, None, refl, ◌⊎◌, inl, inr, Vec, Global}
-use Rattle.grammar.specs.declared.terminals.Terminal.TheVariants as k
-use Rattle.grammar.specs.Nodes.{Node, Pair, leaf}
-use Rattle.grammar.specs.Grammars.{Closer, by_end, by_until, Level, seq, word}
-use Rattle.grammar.specs.Nesting.{Trees}
-use Rattle.pas_tree.specs.declared.expressions.Expression.{Expression}
-use Rattle.pas_tree.specs.declared.expressions.Selector.{Selector}
-use Rattle.pas_tree.specs.declared.statements.Plain.{Plain, Empty, Assignment as Assignment', Call, Goto, Compound'}
-use Rattle.pas_tree.specs.declared.statements.Plain.{If', Case', Repeat', While', For', With'}
-use Rattle.pas_tree.specs.declared.statements.Compound.{Compound' as CompoundTree'}
-use Rattle.pas_tree.specs.declared.statements.Statements.{roll-Statements}
-use Rattle.pas_tree.specs.declared.statements.Actuals.{Actuals}
-use Rattle.pas_tree.specs.declared.statements.If.{If' as IfTree', None', Some'}
-use Rattle.pas_tree.specs.declared.statements.Case.{roll-Case}
-use Rattle.pas_tree.specs.declared.statements.Repeat.{Repeat' as RepeatTree'}
-use Rattle.pas_tree.specs.Expressions.{expression_node}
-use Rattle.pas_tree.specs.Statements as node
+use Rattle.std.proofs.Common.{◌∷◌, ◌≡◌, ◌⊎◌, [], ℕ, Bool, Global, None, Option, Some, Vec, false, inl, inr, refl, true}
+use Rattle.grammar.specs.{Nesting.Trees, Nodes.Node, Nodes.Pair, Nodes.leaf, declared.terminals.Terminal.Terminal}
+use Rattle.grammar.specs.Grammars.{Closer, Level, by_end, by_until, seq, word}
+use Rattle.pas_tree.proofs.{ConstantsCovered.constants_covered, ConstantsCovered.direction_covered, DenotersCovered.semicolons, Levels.Levels, Memory.boxed}
+use Rattle.pas_tree.proofs.{Parts.parts, Repeated.listed, StatementRolls.case_rolled, StatementRolls.statements_rolled}
+use Rattle.pas_tree.proofs.Covers.{Covers, absent, choose, five, fork, fork_node, four, greedily, made, maybe, maybe_node, one, pair, three}
+use Rattle.pas_tree.proofs.ExpressionsCovered.{access_covered, expression_covered, selectors_covered, selectors_node}
+use Rattle.pas_tree.specs.{Expressions.expression_node, declared.expressions.Expression.Expression, declared.expressions.Selector.Selector}
 use Rattle.pas_tree.specs.Rules as r
-use Rattle.pas_tree.proofs.Parts.{parts}
-use Rattle.pas_tree.proofs.StatementRolls.{statements_rolled, case_rolled}
-use Rattle.pas_tree.proofs.Memory.{boxed}
-use Rattle.pas_tree.proofs.Covers.{Covers, one, pair, three, four, five, choose, absent, made, maybe, maybe_node, fork, fork_node, greedily}
-use Rattle.pas_tree.proofs.Repeated.{listed}
-use Rattle.pas_tree.proofs.Levels.{Levels}
-use Rattle.pas_tree.proofs.ConstantsCovered.{constants_covered, direction_covered}
-use Rattle.pas_tree.proofs.ExpressionsCovered.{expression_covered, selectors_covered, selectors_node, access_covered}
-use Rattle.pas_tree.proofs.DenotersCovered.{semicolons}
+use Rattle.pas_tree.specs.Statements as node
+use Rattle.pas_tree.specs.declared.statements.{Actuals.Actuals, Case.roll-Case, Compound.Compound' as CompoundTree', If.If' as IfTree', If.None', If.Some'}
+use Rattle.pas_tree.specs.declared.statements.{Repeat.Repeat' as RepeatTree', Statements.roll-Statements}
+use Rattle.pas_tree.specs.declared.statements.Plain.{Assignment as Assignment', Call, Case', Compound', Empty, For', Goto, If', Plain, Repeat', While', With'}
 
 -- ---- a name that stands first
 
@@ -33,7 +19,7 @@ abbrev Assigned : Type 0
 Assigned = Vec Selector Global × ℕ × Expression
 
 abbrev assigned_node : Assigned → Node
-assigned_node p = Pair (selectors_node p.0) (Pair (leaf k.Becomes p.1) (expression_node p.2))
+assigned_node p = Pair (selectors_node p.0) (Pair (leaf Terminal.Becomes p.1) (expression_node p.2))
 
 abbrev named_statement : ℕ → Actuals ⊎ Option Assigned → Plain
 named_statement n (inl a) = Call n (Some (boxed a))
@@ -41,7 +27,7 @@ named_statement n (inr None) = Call n None
 named_statement n (inr (Some p)) = Assignment' (boxed (record { target = record { name = n; selectors = p.0 }; becomes = p.1; value = p.2 }))
 
 named_statement_is : (n : ℕ) (x : Actuals ⊎ Option Assigned)
-    → node.plain_node (named_statement n x) ≡ Pair (leaf k.Name n) (fork_node node.actuals_node (maybe_node assigned_node) x)
+    → node.plain_node (named_statement n x) ≡ Pair (leaf Terminal.Name n) (fork_node node.actuals_node (maybe_node assigned_node) x)
 named_statement_is n (inl a) = refl
 named_statement_is n (inr None) = refl
 named_statement_is n (inr (Some p)) = refl
@@ -49,7 +35,7 @@ named_statement_is n (inr (Some p)) = refl
 module _ {E : Level → Trees} (levels : Levels E) where
   -- ---- calls and assignments
 
-  width_covered : Covers E (r.optional (k.Colon ∷ []) (seq (word k.Colon) r.expression_rule)) node.width_node
+  width_covered : Covers E (r.optional (Terminal.Colon ∷ []) (seq (word Terminal.Colon) r.expression_rule)) node.width_node
   width_covered =
       choose (made (λ (colon, width). Some (record { colon = colon; width = width })) (λ _. refl) (pair one (expression_covered levels))) (absent None refl)
 

@@ -1,51 +1,27 @@
 -- Every statement's node fits its rule.
-use Rattle.std.proofs.Common.{ℕ, Bool, true, false, [], ◌∷◌, Option, Some, None, refl}
+use Rattle.std.proofs.Common.{◌∷◌, [], ℕ, Bool, None, Option, Some, false, refl, true}
 use Rattle.std.specs.Global.{Box}
-use Rattle.grammar.specs.declared.terminals.Terminal.TheVariants as k
-use Rattle.grammar.specs.Nodes.{Pair, leaf}
-use Rattle.grammar.specs.Grammars.{Closer, by_end, by_until, Grammar, nothing, word, seq, many, series}
-use Rattle.pas_tree.specs.declared.statements.Plain.{Plain, Empty, Assignment as Assignment', Call, Goto, Compound', If', Case', Repeat', While', For', With'}
-use Rattle.pas_tree.specs.declared.statements.Compound.{Compound, Compound' as CompoundTree'}
-use Rattle.pas_tree.specs.declared.statements.Statements.{Statements, Statements', Row_of-NextStatement, end_of-NextStatement, more_of-NextStatement}
-use Rattle.pas_tree.specs.declared.statements.Label.{Label}
-use Rattle.pas_tree.specs.declared.statements.Assignment.{Assignment}
-use Rattle.pas_tree.specs.declared.statements.Actuals.{Actuals}
-use Rattle.pas_tree.specs.declared.statements.Actual.{Actual}
-use Rattle.pas_tree.specs.declared.statements.Width.{Width}
-use Rattle.pas_tree.specs.declared.statements.If.{If, If' as IfTree', Held-If-alternative, None', Some'}
-use Rattle.pas_tree.specs.declared.statements.Case.{Case, Case' as CaseTree', Row_of-NextBranch, end_of-NextBranch, more_of-NextBranch}
-use Rattle.pas_tree.specs.declared.statements.Repeat.{Repeat, Repeat' as RepeatTree'}
+use Rattle.grammar.specs.{Nodes.Pair, Nodes.leaf, declared.terminals.Terminal.Terminal}
+use Rattle.grammar.specs.Grammars.{Closer, Grammar, by_end, by_until, many, nothing, seq, series, word}
+use Rattle.pas_tree.proofs.{ConstantsFit.constants_fits, Fits.series_none, Fits.taken}
+use Rattle.pas_tree.proofs.ExpressionsFit.{access_fits, expression_fits, selector_list_fits}
+use Rattle.pas_tree.proofs.Fits.{Fits, absent, cons, deeper, direction_fits, empty, left, left_out, listed, nil, one, pair, right, series_last, series_more}
 use Rattle.pas_tree.specs.Denoters.{last_semicolon_node}
-use Rattle.pas_tree.specs.Statements as node
 use Rattle.pas_tree.specs.Rules as r
-use Rattle.pas_tree.proofs.Fits.{
-  Fits,
-  one,
-  pair,
-  left,
-  right,
-  empty,
-  absent,
-  deeper,
-  taken,
-  left_out,
-  nil,
-  cons,
-  listed,
-  series_none,
-  series_last,
-  series_more,
-  direction_fits,
-}
-use Rattle.pas_tree.proofs.ConstantsFit.{constants_fits}
-use Rattle.pas_tree.proofs.ExpressionsFit.{expression_fits, selector_list_fits, access_fits}
+use Rattle.pas_tree.specs.Statements as node
+use Rattle.pas_tree.specs.declared.statements.{Actual.Actual, Actuals.Actuals, Assignment.Assignment, Compound.Compound, Compound.Compound' as CompoundTree'}
+use Rattle.pas_tree.specs.declared.statements.{Label.Label, Repeat.Repeat, Repeat.Repeat' as RepeatTree', Width.Width}
+use Rattle.pas_tree.specs.declared.statements.Case.{Case, Case' as CaseTree', Row_of-NextBranch, end_of-NextBranch, more_of-NextBranch}
+use Rattle.pas_tree.specs.declared.statements.If.{Held-If-alternative, If, If' as IfTree', None', Some'}
+use Rattle.pas_tree.specs.declared.statements.Plain.{Assignment as Assignment', Call, Case', Compound', Empty, For', Goto, If', Plain, Repeat', While', With'}
+use Rattle.pas_tree.specs.declared.statements.Statements.{Row_of-NextStatement, Statements, Statements', end_of-NextStatement, more_of-NextStatement}
 
 label_fits : (l : Option Label) → Fits r.label_rule (node.label_node l)
 unfolding r.label_rule
 label_fits None = absent
 label_fits (Some l) = left (pair (one refl) (one refl))
 
-width_fits : (w : Option Width) → Fits (r.optional (k.Colon ∷ []) (seq (word k.Colon) r.expression_rule)) (node.width_node w)
+width_fits : (w : Option Width) → Fits (r.optional (Terminal.Colon ∷ []) (seq (word Terminal.Colon) r.expression_rule)) (node.width_node w)
 width_fits None = absent
 width_fits (Some w) = left (pair (one refl) (expression_fits w.width))
 
@@ -58,7 +34,7 @@ unfolding r.actuals_rule r.next_actual_rule
 actuals_fits a =
     pair (one refl) (pair (actual_fits a.first) (pair (listed node.next_actual_node (λ x. pair (one refl) (actual_fits x.actual)) a.others.items) (one refl)))
 
-call_fits : (n : ℕ) (a : Option (Box Actuals)) → Fits r.named_statement_rule (Pair (leaf k.Name n) (node.call_node a))
+call_fits : (n : ℕ) (a : Option (Box Actuals)) → Fits r.named_statement_rule (Pair (leaf Terminal.Name n) (node.call_node a))
 unfolding r.named_statement_rule
 call_fits n None = pair (one refl) (right absent)
 call_fits n (Some a) = pair (one refl) (left (actuals_fits a.value))
@@ -68,7 +44,7 @@ unfolding r.named_statement_rule r.assignment_rule
 assignment_fits a = pair (one refl) (right (left (pair (selector_list_fits a.target.selectors.items) (pair (one refl) (expression_fits a.value)))))
 
 abbrev branches : Grammar
-branches = series k.Semicolon r.constant_starts r.branch_rule nothing
+branches = series Terminal.Semicolon r.constant_starts r.branch_rule nothing
 
 last_branch_fits : (n : Option ℕ) → Fits branches (last_semicolon_node n)
 last_branch_fits None = series_none
@@ -107,7 +83,7 @@ mutual
       pair (deeper (pair (label_fits label) (plain_fits plain false closer))) (more_statements_fits others closer)
 
   more_statements_fits : {m : _} (t : Row_of-NextStatement m) (closer : Closer)
-      → Fits (many (k.Semicolon ∷ []) (r.next_statement_rule closer)) (node.more_statements_node t)
+      → Fits (many (Terminal.Semicolon ∷ []) (r.next_statement_rule closer)) (node.more_statements_node t)
   more_statements_fits end_of-NextStatement closer = nil
   more_statements_fits (more_of-NextStatement semicolon label plain rest) closer =
       cons (pair (one refl) (deeper (pair (label_fits label) (plain_fits plain false closer)))) (more_statements_fits rest closer)

@@ -1,32 +1,20 @@
 -- Statements with equal nodes are the same.
-use Rattle.std.proofs.Common.{◌≡◌, ℕ, Option, Some, None, refl, ap, sym, arith, map}
+use Rattle.std.proofs.Common.{◌≡◌, ℕ, None, Option, Some, ap, arith, map, refl, sym}
 use Rattle.std.specs.Global.{Box}
-use Rattle.grammar.specs.declared.terminals.Terminal.TheVariants as k
-use Rattle.grammar.specs.Terminals.{place}
-use Rattle.pas_tree.specs.declared.statements.Plain.{Plain, Empty, Assignment as Assignment', Call, Goto, Compound'}
-use Rattle.pas_tree.specs.declared.statements.Plain.{If', Case', Repeat', While', For', With'}
-use Rattle.pas_tree.specs.declared.statements.Compound.{Compound, Compound' as CompoundTree'}
-use Rattle.pas_tree.specs.declared.statements.Statements.{Statements, Statements', Row_of-NextStatement}
-use Rattle.pas_tree.specs.declared.statements.Statements.{end_of-NextStatement, more_of-NextStatement}
-use Rattle.pas_tree.specs.declared.statements.Label.{Label}
-use Rattle.pas_tree.specs.declared.statements.Assignment.{Assignment}
-use Rattle.pas_tree.specs.declared.statements.Actuals.{Actuals}
-use Rattle.pas_tree.specs.declared.statements.NextActual.{NextActual}
-use Rattle.pas_tree.specs.declared.statements.Actual.{Actual}
-use Rattle.pas_tree.specs.declared.statements.Width.{Width}
-use Rattle.pas_tree.specs.declared.statements.If.{If, If' as IfTree', Held-If-alternative, None', Some'}
-use Rattle.pas_tree.specs.declared.statements.Case.{Case, Case' as CaseTree', Row_of-NextBranch, end_of-NextBranch}
-use Rattle.pas_tree.specs.declared.statements.Case.{more_of-NextBranch}
-use Rattle.pas_tree.specs.declared.statements.Repeat.{Repeat, Repeat' as RepeatTree'}
-use Rattle.pas_tree.specs.declared.statements.NextAccess.{NextAccess}
-use Rattle.pas_tree.specs.Expressions.{selector_node}
-use Rattle.pas_tree.specs.Denoters.{last_semicolon_node}
-use Rattle.pas_tree.specs.SameExpressions.{SameSelector}
-use Rattle.pas_tree.specs.Statements as node
+use Rattle.grammar.specs.{Terminals.place, declared.terminals.Terminal.Terminal}
+use Rattle.pas_tree.proofs.DenotersTold.{last_right, last_told}
+use Rattle.pas_tree.proofs.ExpressionsTold.{access_told, expression_told, selector_told}
+use Rattle.pas_tree.proofs.Told.{all_told, constants_told, direction_told, form, lead, left, left_number, number, rest, right, row_form, second}
+use Rattle.pas_tree.specs.{Denoters.last_semicolon_node, Expressions.selector_node, SameExpressions.SameSelector}
 use Rattle.pas_tree.specs.SameStatements as same
-use Rattle.pas_tree.proofs.Told.{form, number, left, right, lead, left_number, second, rest, direction_told, constants_told, all_told, row_form}
-use Rattle.pas_tree.proofs.DenotersTold.{last_told, last_right}
-use Rattle.pas_tree.proofs.ExpressionsTold.{expression_told, selector_told, access_told}
+use Rattle.pas_tree.specs.Statements as node
+use Rattle.pas_tree.specs.declared.statements.{Actual.Actual, Actuals.Actuals, Assignment.Assignment, Label.Label, NextAccess.NextAccess, NextActual.NextActual}
+use Rattle.pas_tree.specs.declared.statements.{Repeat.Repeat, Repeat.Repeat' as RepeatTree', Width.Width}
+use Rattle.pas_tree.specs.declared.statements.Case.{Case, Case' as CaseTree', Row_of-NextBranch, end_of-NextBranch, more_of-NextBranch}
+use Rattle.pas_tree.specs.declared.statements.Compound.{Compound, Compound' as CompoundTree'}
+use Rattle.pas_tree.specs.declared.statements.If.{Held-If-alternative, If, If' as IfTree', None', Some'}
+use Rattle.pas_tree.specs.declared.statements.Plain.{Assignment as Assignment', Call, Case', Compound', Empty, For', Goto, If', Plain, Repeat', While', With'}
+use Rattle.pas_tree.specs.declared.statements.Statements.{Row_of-NextStatement, Statements, Statements', end_of-NextStatement, more_of-NextStatement}
 
 label_told : (a b : Option Label) → node.label_node a ≡ node.label_node b → same.SameLabel a b
 label_told None None q = tt
@@ -71,16 +59,16 @@ next_access_told a b q = (ap left_number q, access_told a.access b.access (ap ri
 
 abbrev plain_place : Plain → ℕ
 plain_place Empty = 59
-plain_place (Assignment' a) = place k.Name
-plain_place (Call n a) = place k.Name
-plain_place (Goto n l) = place k.WGoto
-plain_place (Compound' _ a) = place k.WBegin
-plain_place (If' _ a) = place k.WIf
-plain_place (Case' _ a) = place k.WCase
-plain_place (Repeat' _ a) = place k.WRepeat
-plain_place (While' _ n e o l a) = place k.WWhile
-plain_place (For' _ n c x e d g o l a) = place k.WFor
-plain_place (With' _ n e x o l a) = place k.WWith
+plain_place (Assignment' a) = place Terminal.Name
+plain_place (Call n a) = place Terminal.Name
+plain_place (Goto n l) = place Terminal.WGoto
+plain_place (Compound' _ a) = place Terminal.WBegin
+plain_place (If' _ a) = place Terminal.WIf
+plain_place (Case' _ a) = place Terminal.WCase
+plain_place (Repeat' _ a) = place Terminal.WRepeat
+plain_place (While' _ n e o l a) = place Terminal.WWhile
+plain_place (For' _ n c x e d g o l a) = place Terminal.WFor
+plain_place (With' _ n e x o l a) = place Terminal.WWith
 
 plain_lead : (p : Plain) → lead (node.plain_node p) ≡ plain_place p
 plain_lead (Compound' _ (CompoundTree' n a c)) = refl

@@ -1,21 +1,10 @@
 -- Each grammatical node whose lists are short is that of a typed tree.
-use Rattle.std.proofs.Common.{ℕ, zero, suc, None}
-use Rattle.grammar.specs.Nodes.{Node}
-use Rattle.grammar.specs.Grammars.{Level, level}
-use Rattle.grammar.specs.Grammars.{IsNone, FreeWithin}
-use Rattle.grammar.specs.Nesting.{Trees}
-use Rattle.pas_tree.specs.FirstFollow.{pascal}
-use Rattle.pas_tree.specs.Rules.{rule, program_rule}
-use Rattle.pas_tree.proofs.Fits.{loose_rule}
-use Rattle.pas_tree.specs.TypedTrees.{GrammaticalHaveTrees, ShapedHaveTrees}
-use Rattle.pas_tree.proofs.Covers.{Covers}
-use Rattle.pas_tree.proofs.ShapedIsGrammatical.{shaped_is_grammatical}
-use Rattle.pas_tree.proofs.Levels.{Levels}
-use Rattle.pas_tree.proofs.ExpressionsCovered.{factor_covered}
+use Rattle.std.proofs.Common.{ℕ, None, suc, zero}
+use Rattle.grammar.specs.{Grammars.FreeWithin, Grammars.IsNone, Grammars.Level, Grammars.level, Nesting.Trees, Nodes.Node}
+use Rattle.pas_tree.proofs.{BlocksCovered.block_covered, BlocksCovered.program_covered, Covers.Covers, ExpressionsCovered.factor_covered, Fits.loose_rule}
+use Rattle.pas_tree.proofs.{HeadingsCovered.heading_covered, Levels.Levels, ShapedIsGrammatical.shaped_is_grammatical, StatementsCovered.statement_covered}
 use Rattle.pas_tree.proofs.DenotersCovered.{denoter_covered, variant_part_covered}
-use Rattle.pas_tree.proofs.HeadingsCovered.{heading_covered}
-use Rattle.pas_tree.proofs.StatementsCovered.{statement_covered}
-use Rattle.pas_tree.proofs.BlocksCovered.{block_covered, program_covered}
+use Rattle.pas_tree.specs.{FirstFollow.pascal, Rules.program_rule, Rules.rule, TypedTrees.GrammaticalHaveTrees, TypedTrees.ShapedHaveTrees}
 
 abbrev LooseWithin : ℕ → Level → Trees
 LooseWithin n = FreeWithin loose_rule n

@@ -1,25 +1,15 @@
 -- Every program's node is a tree of the grammar, at some nesting.
-use Rattle.std.proofs.Common.{Option, Some, None, refl}
-use Rattle.grammar.specs.Loose.{loose, IsGrammatical}
-use Rattle.grammar.proofs.Somewhere.{whole_nested}
-use Rattle.pas_tree.specs.declared.blocks.Tree.{Tree}
-use Rattle.pas_tree.specs.declared.blocks.Parameters.{Parameters}
-use Rattle.pas_tree.specs.declared.blocks.Block.{Block, Block' as BlockTree', Row_of-Routine, end_of-Routine, more_of-Routine}
-use Rattle.pas_tree.specs.declared.blocks.LabelPart.{LabelPart}
-use Rattle.pas_tree.specs.declared.blocks.ConstantPart.{ConstantPart}
-use Rattle.pas_tree.specs.declared.blocks.ConstantDefinition.{ConstantDefinition}
-use Rattle.pas_tree.specs.declared.blocks.TypePart.{TypePart}
-use Rattle.pas_tree.specs.declared.blocks.TypeDefinition.{TypeDefinition}
-use Rattle.pas_tree.specs.declared.blocks.VariablePart.{VariablePart}
-use Rattle.pas_tree.specs.declared.blocks.VariableDeclaration.{VariableDeclaration}
-use Rattle.pas_tree.specs.declared.blocks.RoutineBody.{RoutineBody, Directive, Block'}
+use Rattle.std.proofs.Common.{None, Option, Some, refl}
+use Rattle.grammar.{proofs.Somewhere.whole_nested, specs.Loose.IsGrammatical, specs.Loose.loose}
+use Rattle.pas_tree.proofs.{DenotersFit.denoter_fits, HeadingsFit.heading_fits, StatementsFit.compound_fits}
+use Rattle.pas_tree.proofs.ConstantsFit.{constant_fits, names_fits}
+use Rattle.pas_tree.proofs.Fits.{Fits, absent, cons, deeper, left, listed, loose_rule, nil, one, pair, right}
 use Rattle.pas_tree.specs.Blocks as node
 use Rattle.pas_tree.specs.Rules as r
-use Rattle.pas_tree.proofs.Fits.{Fits, loose_rule, one, pair, left, right, absent, deeper, nil, cons, listed}
-use Rattle.pas_tree.proofs.ConstantsFit.{names_fits, constant_fits}
-use Rattle.pas_tree.proofs.DenotersFit.{denoter_fits}
-use Rattle.pas_tree.proofs.HeadingsFit.{heading_fits}
-use Rattle.pas_tree.proofs.StatementsFit.{compound_fits}
+use Rattle.pas_tree.specs.declared.blocks.{ConstantDefinition.ConstantDefinition, ConstantPart.ConstantPart, LabelPart.LabelPart, Parameters.Parameters}
+use Rattle.pas_tree.specs.declared.blocks.{RoutineBody.Block', RoutineBody.Directive, RoutineBody.RoutineBody, Tree.Tree, TypeDefinition.TypeDefinition}
+use Rattle.pas_tree.specs.declared.blocks.{TypePart.TypePart, VariableDeclaration.VariableDeclaration, VariablePart.VariablePart}
+use Rattle.pas_tree.specs.declared.blocks.Block.{Block, Block' as BlockTree', Row_of-Routine, end_of-Routine, more_of-Routine}
 
 label_part_fits : (p : Option LabelPart) → Fits r.label_part_rule (node.label_part_node p)
 unfolding r.label_part_rule r.next_label_rule

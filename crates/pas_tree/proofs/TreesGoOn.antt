@@ -1,23 +1,14 @@
 -- Where a shaped node goes on from a text, a typed tree does.
-use Rattle.std.proofs.Common.{◌≡◌, ◌+◌, ◌*◌, ◌≤◌, ℕ, zero, suc, true, List, [], ◌∷◌, ◌++◌, length, take, refl, sym, ap, subst, ◌∙◌, arith}
-use Rattle.std.proofs.Common.{◌<◌, ◌^◌, add-one, length-append}
-use Rattle.std.proofs.lemmas.List.{length-take-le}
-use Rattle.grammar.specs.Nodes.{Item, Node, spell}
-use Rattle.grammar.specs.Grammars.{Level, block, heading, statement, denoter, variant_part, factor}
-use Rattle.grammar.specs.Nesting.{IsShaped, BeginsDeep}
-use Rattle.grammar.specs.Completing.{brief_of}
-use Rattle.grammar.specs.Refusals.{IsTooDeep}
-use Rattle.grammar.proofs.Deepest.{deep_shaped}
-use Rattle.grammar.proofs.FirstRefusals.{cut}
-use Rattle.pas_tree.specs.declared.blocks.Tree.{Tree}
-use Rattle.pas_tree.specs.Blocks.{tree_node}
-use Rattle.pas_tree.specs.FirstFollow.{pascal}
+use Rattle.std.proofs.Common.{◌*◌, ◌++◌, ◌+◌, ◌<◌, ◌^◌, ◌∙◌, ◌∷◌, ◌≡◌, ◌≤◌, [], ℕ, List, add-one, ap, arith, length, length-append, refl, subst, suc, sym, take}
+use Rattle.std.proofs.{Common.true, Common.zero, lemmas.List.length-take-le}
+use Rattle.grammar.proofs.{Deepest.deep_shaped, FirstRefusals.cut}
+use Rattle.grammar.specs.{Completing.brief_of, Nesting.BeginsDeep, Nesting.IsShaped, Nodes.Item, Nodes.Node, Nodes.spell, Refusals.IsTooDeep}
+use Rattle.grammar.specs.Grammars.{Level, block, denoter, factor, heading, statement, variant_part}
+use Rattle.pas_tree.proofs.{Decided.calm, Decided.pascal_checks, Parting.times, TreesCovered.shaped_have_trees}
+use Rattle.pas_tree.proofs.ClosedTrees.{Goes, IsBrief, whole_closes, whole_keeps}
+use Rattle.pas_tree.specs.{Blocks.tree_node, FirstFollow.pascal, declared.blocks.Tree.Tree}
 use Rattle.pas_tree.specs.Rules as r
-use Rattle.pas_tree.proofs.Decided.{calm, pascal_checks}
-use Rattle.pas_tree.specs.TypedTrees.{HasShortLists, NodeGoesOn, TreeGoesOn, TreesGoOn, HopelessForTrees, TreeIsTooDeep, TooDeepForTrees}
-use Rattle.pas_tree.proofs.Parting.{times}
-use Rattle.pas_tree.proofs.ClosedTrees.{IsBrief, Goes, whole_closes, whole_keeps}
-use Rattle.pas_tree.proofs.TreesCovered.{shaped_have_trees}
+use Rattle.pas_tree.specs.TypedTrees.{HasShortLists, HopelessForTrees, NodeGoesOn, TooDeepForTrees, TreeGoesOn, TreeIsTooDeep, TreesGoOn}
 open pascal_checks use {decided, completed}
 
 -- a block may begin with a heading, and no other construct with one

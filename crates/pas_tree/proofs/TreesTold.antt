@@ -1,27 +1,15 @@
 -- Trees of programs with equal nodes are the same.
-use Rattle.std.proofs.Common.{◌≡◌, Option, Some, None, refl, ap, arith}
-use Rattle.pas_tree.specs.declared.blocks.Parameters.{Parameters}
-use Rattle.pas_tree.specs.declared.blocks.Block.{Block, Block' as BlockTree', Row_of-Routine, end_of-Routine}
-use Rattle.pas_tree.specs.declared.blocks.Block.{more_of-Routine}
-use Rattle.pas_tree.specs.declared.blocks.LabelPart.{LabelPart}
-use Rattle.pas_tree.specs.declared.blocks.NextLabel.{NextLabel}
-use Rattle.pas_tree.specs.declared.blocks.ConstantPart.{ConstantPart}
-use Rattle.pas_tree.specs.declared.blocks.ConstantDefinition.{ConstantDefinition}
-use Rattle.pas_tree.specs.declared.blocks.TypePart.{TypePart}
-use Rattle.pas_tree.specs.declared.blocks.TypeDefinition.{TypeDefinition}
-use Rattle.pas_tree.specs.declared.blocks.VariablePart.{VariablePart}
-use Rattle.pas_tree.specs.declared.blocks.VariableDeclaration.{VariableDeclaration}
-use Rattle.pas_tree.specs.declared.blocks.RoutineBody.{RoutineBody, Directive, Block'}
+use Rattle.std.proofs.Common.{◌≡◌, None, Option, Some, ap, arith, refl}
 use Rattle.grammar.proofs.Texts.{one_tree}
-use Rattle.pas_tree.specs.Rules.{program_rule}
-use Rattle.pas_tree.specs.FirstFollow.{pascal}
+use Rattle.pas_tree.proofs.{Decided.pascal_decided, DenotersTold.denoter_told, HeadingsTold.heading_told, StatementsTold.compound_told}
+use Rattle.pas_tree.proofs.Told.{all_told, constant_told, form, left, left_number, names_told, number, rest, right, second}
+use Rattle.pas_tree.specs.{FirstFollow.pascal, Rules.program_rule}
 use Rattle.pas_tree.specs.Blocks as node
 use Rattle.pas_tree.specs.SameTrees as same
-use Rattle.pas_tree.proofs.Told.{form, number, left, right, left_number, second, rest, names_told, constant_told, all_told}
-use Rattle.pas_tree.proofs.Decided.{pascal_decided}
-use Rattle.pas_tree.proofs.DenotersTold.{denoter_told}
-use Rattle.pas_tree.proofs.HeadingsTold.{heading_told}
-use Rattle.pas_tree.proofs.StatementsTold.{compound_told}
+use Rattle.pas_tree.specs.declared.blocks.{ConstantDefinition.ConstantDefinition, ConstantPart.ConstantPart, LabelPart.LabelPart, NextLabel.NextLabel}
+use Rattle.pas_tree.specs.declared.blocks.{Parameters.Parameters, RoutineBody.Block', RoutineBody.Directive, RoutineBody.RoutineBody}
+use Rattle.pas_tree.specs.declared.blocks.{TypeDefinition.TypeDefinition, TypePart.TypePart, VariableDeclaration.VariableDeclaration, VariablePart.VariablePart}
+use Rattle.pas_tree.specs.declared.blocks.Block.{Block, Block' as BlockTree', Row_of-Routine, end_of-Routine, more_of-Routine}
 
 next_label_told : (a b : NextLabel) → node.next_label_node a ≡ node.next_label_node b → same.SameNextLabel a b
 next_label_told a b q = (ap left_number q, ap number (ap right q))

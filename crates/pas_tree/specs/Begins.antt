@@ -1,20 +1,12 @@
 -- Where texts begin, by what trees spell.
-use Rattle.std.specs.Prelude.{◌≡◌, ℕ, List, [], ◌∷◌, Option, Some, None}
+use Rattle.std.specs.Prelude.{◌∷◌, ◌≡◌, [], ℕ, List, None, Option, Some}
 use Rattle.grammar.specs.Nodes.{Item, Node, spell}
-use Rattle.pas_tree.specs.declared.constants.Constant.{Constant}
-use Rattle.pas_tree.specs.declared.denoters.Denoter.{Denoter}
-use Rattle.pas_tree.specs.declared.expressions.Expression.{Expression}
-use Rattle.pas_tree.specs.declared.headings.Heading.{Heading}
-use Rattle.pas_tree.specs.declared.statements.Statement.{Statement}
-use Rattle.pas_tree.specs.Constants.{constant_node}
-use Rattle.pas_tree.specs.Denoters.{denoter_node}
-use Rattle.pas_tree.specs.Expressions.{expression_node}
-use Rattle.pas_tree.specs.Headings.{heading_node}
-use Rattle.pas_tree.specs.Statements.{statement_node}
+use Rattle.pas_tree.specs.{Constants.constant_node, Denoters.denoter_node, ExpressionPlaces.first_of_expression}
+use Rattle.pas_tree.specs.{Expressions.expression_node, HeadingPlaces.heading_word, Headings.heading_node}
+use Rattle.pas_tree.specs.{StatementPlaces.first_of_statement, Statements.statement_node}
+use Rattle.pas_tree.specs.{declared.expressions.Expression.Expression, declared.statements.Statement.Statement}
 use Rattle.pas_tree.specs.DenoterPlaces.{first_of_constant, first_of_denoter}
-use Rattle.pas_tree.specs.ExpressionPlaces.{first_of_expression}
-use Rattle.pas_tree.specs.HeadingPlaces.{heading_word}
-use Rattle.pas_tree.specs.StatementPlaces.{first_of_statement}
+use Rattle.pas_tree.specs.declared.{constants.Constant.Constant, denoters.Denoter.Denoter, headings.Heading.Heading}
 
 -- the number of the first token that a tree spells, if it spells any
 abbrev pub first_number : List Item → Option ℕ

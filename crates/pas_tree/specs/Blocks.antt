@@ -1,25 +1,15 @@
 -- Blocks and programs as nodes.
-use Rattle.std.specs.Prelude.{map, Option, Some, None}
-use Rattle.grammar.specs.declared.terminals.Terminal.TheVariants as k
+use Rattle.std.specs.Prelude.{None, Option, Some, map}
 use Rattle.grammar.specs.Nodes.{Node, Nothing, Pair, leaf, row}
-use Rattle.pas_tree.specs.declared.blocks.Tree.{Tree}
-use Rattle.pas_tree.specs.declared.blocks.Parameters.{Parameters}
+use Rattle.grammar.specs.declared.terminals.Terminal.TheVariants as k
+use Rattle.pas_tree.specs.{Constants.constant_node, Constants.names_node, Denoters.denoter_node, Headings.heading_node}
+use Rattle.pas_tree.specs.{Statements.compound_node, declared.blocks.ConstantDefinition.ConstantDefinition}
+use Rattle.pas_tree.specs.declared.blocks.{Block.more_of-Routine, ConstantPart.ConstantPart, LabelPart.LabelPart}
+use Rattle.pas_tree.specs.declared.blocks.{NextLabel.NextLabel, Parameters.Parameters, Routine.Routine, Tree.Tree}
+use Rattle.pas_tree.specs.declared.blocks.{TypeDefinition.TypeDefinition, TypePart.TypePart, VariablePart.VariablePart}
 use Rattle.pas_tree.specs.declared.blocks.Block.{Block, Block' as BlockTree', Row_of-Routine, end_of-Routine}
-use Rattle.pas_tree.specs.declared.blocks.Block.{more_of-Routine}
-use Rattle.pas_tree.specs.declared.blocks.LabelPart.{LabelPart}
-use Rattle.pas_tree.specs.declared.blocks.NextLabel.{NextLabel}
-use Rattle.pas_tree.specs.declared.blocks.ConstantPart.{ConstantPart}
-use Rattle.pas_tree.specs.declared.blocks.ConstantDefinition.{ConstantDefinition}
-use Rattle.pas_tree.specs.declared.blocks.TypePart.{TypePart}
-use Rattle.pas_tree.specs.declared.blocks.TypeDefinition.{TypeDefinition}
-use Rattle.pas_tree.specs.declared.blocks.VariablePart.{VariablePart}
+use Rattle.pas_tree.specs.declared.blocks.RoutineBody.{Block', Directive, RoutineBody}
 use Rattle.pas_tree.specs.declared.blocks.VariableDeclaration.{VariableDeclaration}
-use Rattle.pas_tree.specs.declared.blocks.Routine.{Routine}
-use Rattle.pas_tree.specs.declared.blocks.RoutineBody.{RoutineBody, Directive, Block'}
-use Rattle.pas_tree.specs.Constants.{names_node, constant_node}
-use Rattle.pas_tree.specs.Denoters.{denoter_node}
-use Rattle.pas_tree.specs.Headings.{heading_node}
-use Rattle.pas_tree.specs.Statements.{compound_node}
 
 abbrev pub next_label_node : NextLabel → Node
 next_label_node n = Pair (leaf k.Comma n.comma) (leaf k.Number n.number)

@@ -1,12 +1,9 @@
 -- Where constants and type denoters begin.
-use Rattle.std.specs.Prelude.{ℕ, Option, Some, None}
-use Rattle.pas_tree.specs.declared.operators.Sign.{Sign}
-use Rattle.pas_tree.specs.declared.constants.Constant.{Constant}
-use Rattle.pas_tree.specs.declared.constants.Constant.TheVariants as constant
-use Rattle.pas_tree.specs.declared.denoters.Denoter.{Denoter, Name, Enumeration, Subrange, Pointer, Structure'}
-use Rattle.pas_tree.specs.declared.denoters.Structure.{Structure, Array, Record', Set'}
-use Rattle.pas_tree.specs.declared.denoters.ArrayDenoter.{ArrayDenoter'}
-use Rattle.pas_tree.specs.OperatorPlaces.{sign_token}
+use Rattle.std.specs.Prelude.{ℕ, None, Option, Some}
+use Rattle.pas_tree.specs.{OperatorPlaces.sign_token, declared.denoters.ArrayDenoter.ArrayDenoter'}
+use Rattle.pas_tree.specs.declared.{constants.Constant.Constant, operators.Sign.Sign}
+use Rattle.pas_tree.specs.declared.denoters.Denoter.{Denoter, Enumeration, Name, Pointer, Structure', Subrange}
+use Rattle.pas_tree.specs.declared.denoters.Structure.{Array, Record', Set', Structure}
 
 -- the token of the sign, or else this one
 abbrev pub first_of_signed : Option Sign → ℕ → ℕ
@@ -14,9 +11,9 @@ first_of_signed None token = token
 first_of_signed (Some s) token = sign_token s
 
 abbrev pub first_of_constant : Constant → ℕ
-first_of_constant (constant.Number s n) = first_of_signed s n
-first_of_constant (constant.Name s n) = first_of_signed s n
-first_of_constant (constant.Text n) = n
+first_of_constant (Constant.Number s n) = first_of_signed s n
+first_of_constant (Constant.Name s n) = first_of_signed s n
+first_of_constant (Constant.Text n) = n
 
 -- the word `packed` aside
 abbrev pub first_of_structure : Structure → ℕ

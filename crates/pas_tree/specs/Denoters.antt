@@ -1,30 +1,23 @@
 -- Type denoters as nodes.
-use Rattle.std.specs.Prelude.{ℕ, Option, Some, None}
+use Rattle.std.specs.Prelude.{ℕ, None, Option, Some}
+use Rattle.grammar.specs.Nodes.{Node, Nothing, Pair, SeriesPart, leaf}
 use Rattle.grammar.specs.declared.terminals.Terminal.TheVariants as k
-use Rattle.grammar.specs.Nodes.{Node, Nothing, Pair, leaf, SeriesPart}
-use Rattle.pas_tree.specs.declared.denoters.Denoter.{Denoter, Name, Enumeration, Subrange, Pointer, Structure'}
-use Rattle.pas_tree.specs.declared.denoters.Structure.{Structure, Array, Record', Set'}
-use Rattle.pas_tree.specs.declared.denoters.Enumeration.{Enumeration as EnumerationTree}
+use Rattle.pas_tree.specs.Constants.{constant_node, constants_node, names_node}
+use Rattle.pas_tree.specs.Operators.{token_node}
+use Rattle.pas_tree.specs.declared.denoters.{Arm.Arm, Enumeration.Enumeration as EnumerationTree}
+use Rattle.pas_tree.specs.declared.denoters.{Fields.Variants' as FieldsVariants', Fixed.end_of-NextSection}
+use Rattle.pas_tree.specs.declared.denoters.{Fixed.more_of-NextSection, NextArm.NextArm, NextDenoter.NextDenoter}
+use Rattle.pas_tree.specs.declared.denoters.{NextSection.NextSection, RecordDenoter.RecordDenoter, Section.Section}
+use Rattle.pas_tree.specs.declared.denoters.{SetDenoter.SetDenoter, Tag.Tag, TagField.TagField, Variants.end_of-NextArm}
+use Rattle.pas_tree.specs.declared.denoters.{Variants.more_of-NextArm}
 use Rattle.pas_tree.specs.declared.denoters.ArrayDenoter.{ArrayDenoter, ArrayDenoter', Row_of-NextDenoter}
 use Rattle.pas_tree.specs.declared.denoters.ArrayDenoter.{end_of-NextDenoter, more_of-NextDenoter}
-use Rattle.pas_tree.specs.declared.denoters.NextDenoter.{NextDenoter}
-use Rattle.pas_tree.specs.declared.denoters.RecordDenoter.{RecordDenoter}
-use Rattle.pas_tree.specs.declared.denoters.SetDenoter.{SetDenoter}
-use Rattle.pas_tree.specs.declared.denoters.Fields.{Fields, Empty, Fixed', Variants' as FieldsVariants'}
-use Rattle.pas_tree.specs.declared.denoters.Fields.{Held-Fields-Fixed-1, None', Some'}
+use Rattle.pas_tree.specs.declared.denoters.Denoter.{Denoter, Enumeration, Name, Pointer, Structure', Subrange}
+use Rattle.pas_tree.specs.declared.denoters.Fields.{Empty, Fields, Fixed', Held-Fields-Fixed-1, None', Some'}
 use Rattle.pas_tree.specs.declared.denoters.Fixed.{Fixed as FixedTree, Fixed' as FixedTree', Row_of-NextSection}
-use Rattle.pas_tree.specs.declared.denoters.Fixed.{end_of-NextSection, more_of-NextSection}
-use Rattle.pas_tree.specs.declared.denoters.Section.{Section}
-use Rattle.pas_tree.specs.declared.denoters.NextSection.{NextSection}
 use Rattle.pas_tree.specs.declared.denoters.NextVariants.{NextVariants, NextVariants'}
-use Rattle.pas_tree.specs.declared.denoters.Variants.{Variants as VariantsTree, Variants', Row_of-NextArm}
-use Rattle.pas_tree.specs.declared.denoters.Variants.{end_of-NextArm, more_of-NextArm}
-use Rattle.pas_tree.specs.declared.denoters.Tag.{Tag}
-use Rattle.pas_tree.specs.declared.denoters.TagField.{TagField}
-use Rattle.pas_tree.specs.declared.denoters.Arm.{Arm}
-use Rattle.pas_tree.specs.declared.denoters.NextArm.{NextArm}
-use Rattle.pas_tree.specs.Operators.{token_node}
-use Rattle.pas_tree.specs.Constants.{names_node, constant_node, constants_node}
+use Rattle.pas_tree.specs.declared.denoters.Structure.{Array, Record', Set', Structure}
+use Rattle.pas_tree.specs.declared.denoters.Variants.{Row_of-NextArm, Variants as VariantsTree, Variants'}
 
 abbrev pub enumeration_node : EnumerationTree → Node
 enumeration_node e = Pair (leaf k.LeftParen e.«open») (Pair (names_node e.names) (leaf k.RightParen e.close))

@@ -1,15 +1,12 @@
 -- Where expressions begin, and the tokens of selectors.
-use Rattle.std.specs.Prelude.{ℕ, Some, None}
-use Rattle.pas_tree.specs.declared.expressions.Factor.{Factor, Number, Text, Nil, Access', Call', Paren', Set', Not'}
-use Rattle.pas_tree.specs.declared.expressions.Selector.{Selector, Index, Field, Dereference}
-use Rattle.pas_tree.specs.declared.expressions.Index.{Index'}
-use Rattle.pas_tree.specs.declared.expressions.Expression.{Expression, Expression'}
-use Rattle.pas_tree.specs.declared.expressions.Simple.{Simple, Simple'}
-use Rattle.pas_tree.specs.declared.expressions.Term.{Term, Term'}
-use Rattle.pas_tree.specs.declared.expressions.Members.{Members, Empty, Some as SomeMembers}
-use Rattle.pas_tree.specs.declared.expressions.SomeMembers.{SomeMembers'}
-use Rattle.pas_tree.specs.declared.expressions.Member.{Member, Member'}
+use Rattle.std.specs.Prelude.{ℕ, None, Some}
 use Rattle.pas_tree.specs.OperatorPlaces.{sign_token}
+use Rattle.pas_tree.specs.declared.expressions.{Index.Index', Member.Member, Member.Member', Simple.Simple}
+use Rattle.pas_tree.specs.declared.expressions.{Simple.Simple', SomeMembers.SomeMembers', Term.Term, Term.Term'}
+use Rattle.pas_tree.specs.declared.expressions.Expression.{Expression, Expression'}
+use Rattle.pas_tree.specs.declared.expressions.Factor.{Access', Call', Factor, Nil, Not', Number, Paren', Set', Text}
+use Rattle.pas_tree.specs.declared.expressions.Members.{Empty, Members, Some as SomeMembers}
+use Rattle.pas_tree.specs.declared.expressions.Selector.{Dereference, Field, Index, Selector}
 
 abbrev pub first_of_members : Members → ℕ
 first_of_members (Empty open' close) = open'

@@ -1,11 +1,9 @@
 -- What begins and follows the constructs that count as nesting.
-use Rattle.std.specs.Prelude.{Bool, true, false, [], ◌∷◌}
-use Rattle.grammar.specs.declared.terminals.Terminal.{Terminal}
+use Rattle.std.specs.Prelude.{◌∷◌, [], Bool, false, true}
+use Rattle.grammar.specs.{Grammars.variant_part, Terminals.is, Terminals.one_of, declared.terminals.Terminal.Terminal}
+use Rattle.grammar.specs.Deciding.{LevelTables, both, either}
+use Rattle.grammar.specs.Grammars.{Closer, Level, block, by_end, by_until, denoter, factor, heading, statement}
 use Rattle.grammar.specs.declared.terminals.Terminal.TheVariants as k
-use Rattle.grammar.specs.Terminals.{is, one_of}
-use Rattle.grammar.specs.Grammars.{Closer, by_end, by_until, Level, block, heading, statement, denoter, variant_part}
-use Rattle.grammar.specs.Grammars.{factor}
-use Rattle.grammar.specs.Deciding.{both, either, LevelTables}
 use Rattle.pas_tree.specs.Rules.{rule}
 
 abbrev pub first_of : Level → Terminal → Bool

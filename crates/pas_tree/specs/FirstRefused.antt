@@ -1,10 +1,8 @@
 -- What reading a program, with at most n levels nested, says of its tokens.
-use Rattle.std.specs.Prelude.{◌≡◌, ℕ, ◌<◌, List, [], length, drop, Ok, Err}
-use Rattle.grammar.specs.Nodes.{Item, Node}
-use Rattle.grammar.specs.Reading.{Deep, read}
-use Rattle.grammar.specs.Refusals.{IsFirstTooDeepBy, IsFirstHopelessBy, IsHopeless, NoneTooDeep, StopsAt}
-use Rattle.pas_tree.specs.Rules.{program_rule}
-use Rattle.pas_tree.specs.FirstFollow.{pascal}
+use Rattle.std.specs.Prelude.{◌<◌, ◌≡◌, [], ℕ, Err, List, Ok, drop, length}
+use Rattle.grammar.specs.{Nodes.Item, Nodes.Node, Reading.Deep, Reading.read}
+use Rattle.grammar.specs.Refusals.{IsFirstHopelessBy, IsFirstTooDeepBy, IsHopeless, NoneTooDeep, StopsAt}
+use Rattle.pas_tree.specs.{FirstFollow.pascal, Rules.program_rule}
 
 -- Token i is the first that is too deep: with it the spelling of some shaped tree goes on, and a node of nesting n + 1
 -- begins there.

@@ -1,8 +1,7 @@
 -- The tokens of headings.
 use Rattle.std.specs.Prelude.{ℕ}
-use Rattle.pas_tree.specs.declared.headings.Heading.{Heading, Procedure, Function}
-use Rattle.pas_tree.specs.declared.headings.ProcedureHeading.{ProcedureHeading'}
-use Rattle.pas_tree.specs.declared.headings.FunctionHeading.{FunctionHeading'}
+use Rattle.pas_tree.specs.declared.headings.{FunctionHeading.FunctionHeading', ProcedureHeading.ProcedureHeading'}
+use Rattle.pas_tree.specs.declared.headings.Heading.{Function, Heading, Procedure}
 
 abbrev pub heading_word : Heading → ℕ
 heading_word (Procedure (ProcedureHeading' word name formals)) = word

@@ -1,18 +1,15 @@
 -- Headings and formal parameters as nodes.
-use Rattle.std.specs.Prelude.{Option, Some, None}
-use Rattle.grammar.specs.declared.terminals.Terminal.TheVariants as k
+use Rattle.std.specs.Prelude.{None, Option, Some}
 use Rattle.grammar.specs.Nodes.{Node, Nothing, Pair, leaf}
-use Rattle.pas_tree.specs.declared.headings.Heading.{Heading, Procedure, Function}
-use Rattle.pas_tree.specs.declared.headings.ProcedureHeading.{ProcedureHeading, ProcedureHeading'}
+use Rattle.grammar.specs.declared.terminals.Terminal.TheVariants as k
+use Rattle.pas_tree.specs.{Constants.names_node, declared.headings.Formals.more_of-NextFormal}
+use Rattle.pas_tree.specs.declared.headings.{FormalNames.FormalNames, NextFormal.NextFormal, ResultType.ResultType}
+use Rattle.pas_tree.specs.declared.headings.Formal.{Formal, Routine', Value, Variable}
+use Rattle.pas_tree.specs.declared.headings.Formals.{Formals, Formals', Row_of-NextFormal, end_of-NextFormal}
 use Rattle.pas_tree.specs.declared.headings.FunctionHeading.{FunctionHeading, FunctionHeading'}
 use Rattle.pas_tree.specs.declared.headings.FunctionHeading.{Held-FunctionHeading-formals, None', Some'}
-use Rattle.pas_tree.specs.declared.headings.ResultType.{ResultType}
-use Rattle.pas_tree.specs.declared.headings.Formals.{Formals, Formals', Row_of-NextFormal, end_of-NextFormal}
-use Rattle.pas_tree.specs.declared.headings.Formals.{more_of-NextFormal}
-use Rattle.pas_tree.specs.declared.headings.NextFormal.{NextFormal}
-use Rattle.pas_tree.specs.declared.headings.Formal.{Formal, Value, Variable, Routine'}
-use Rattle.pas_tree.specs.declared.headings.FormalNames.{FormalNames}
-use Rattle.pas_tree.specs.Constants.{names_node}
+use Rattle.pas_tree.specs.declared.headings.Heading.{Function, Heading, Procedure}
+use Rattle.pas_tree.specs.declared.headings.ProcedureHeading.{ProcedureHeading, ProcedureHeading'}
 
 abbrev pub formal_names_node : FormalNames → Node
 formal_names_node f = Pair (names_node f.names) (Pair (leaf k.Colon f.colon) (leaf k.Name f.name))

@@ -1,10 +1,10 @@
 -- The grammar of Pascal, ISO 7185 clauses 6.2 to 6.10. Rules that begin alike are one rule up to where they part,
 -- and the token there leads on.
-use Rattle.std.specs.Prelude.{Bool, true, false, List, [], ◌∷◌}
+use Rattle.std.specs.Prelude.{◌∷◌, [], Bool, List, false, true}
+use Rattle.grammar.specs.Grammars.{Closer, Grammar, Level, block, by_end, by_until, choice, denoter, factor, greedy}
+use Rattle.grammar.specs.Grammars.{heading, level, many, nothing, seq, series, statement, token, variant_part, word}
 use Rattle.grammar.specs.declared.terminals.Terminal.{Terminal}
 use Rattle.grammar.specs.declared.terminals.Terminal.TheVariants as k
-use Rattle.grammar.specs.Grammars.{Closer, by_end, by_until, Level, block, heading, statement, denoter, variant_part}
-use Rattle.grammar.specs.Grammars.{factor, Grammar, token, nothing, seq, choice, greedy, level, word, many, series}
 
 -- what may be left out, and begins with one of these
 abbrev pub optional : List Terminal → Grammar → Grammar

@@ -1,8 +1,6 @@
 -- When two lists of names or of constants are the same wherever their vectors lie in memory.
-use Rattle.std.specs.Prelude.{◌≡◌, List, [], ◌∷◌}
-use Rattle.pas_tree.specs.declared.constants.Names.{Names}
-use Rattle.pas_tree.specs.declared.constants.NextName.{NextName}
-use Rattle.pas_tree.specs.declared.constants.Constants.{Constants}
+use Rattle.std.specs.Prelude.{◌∷◌, ◌≡◌, [], List}
+use Rattle.pas_tree.specs.declared.constants.{Constants.Constants, Names.Names, NextName.NextName}
 use Rattle.pas_tree.specs.declared.constants.NextConstant.{NextConstant}
 
 -- element by element

@@ -1,20 +1,17 @@
 -- When two type denoters are the same wherever their boxes and vectors lie in memory.
-use Rattle.std.specs.Prelude.{◌≡◌, Option, Some, None}
-use Rattle.pas_tree.specs.declared.denoters.Denoter.{Denoter, Name, Enumeration, Subrange, Pointer, Structure'}
-use Rattle.pas_tree.specs.declared.denoters.Structure.{Structure, Array, Record', Set'}
-use Rattle.pas_tree.specs.declared.denoters.Enumeration.{Enumeration as EnumerationTree}
+use Rattle.std.specs.Prelude.{◌≡◌, None, Option, Some}
+use Rattle.pas_tree.specs.SameConstants.{SameConstants, SameNames}
+use Rattle.pas_tree.specs.declared.denoters.{Enumeration.Enumeration as EnumerationTree}
+use Rattle.pas_tree.specs.declared.denoters.{Fields.Variants' as FieldsVariants', NextVariants.NextVariants', Tag.Tag}
+use Rattle.pas_tree.specs.declared.denoters.{TagField.TagField, Variants.end_of-NextArm, Variants.more_of-NextArm}
 use Rattle.pas_tree.specs.declared.denoters.ArrayDenoter.{ArrayDenoter, ArrayDenoter', Row_of-NextDenoter}
 use Rattle.pas_tree.specs.declared.denoters.ArrayDenoter.{end_of-NextDenoter, more_of-NextDenoter}
-use Rattle.pas_tree.specs.declared.denoters.Fields.{Fields, Empty, Fixed', Variants' as FieldsVariants'}
-use Rattle.pas_tree.specs.declared.denoters.Fields.{Held-Fields-Fixed-1, None', Some'}
+use Rattle.pas_tree.specs.declared.denoters.Denoter.{Denoter, Enumeration, Name, Pointer, Structure', Subrange}
+use Rattle.pas_tree.specs.declared.denoters.Fields.{Empty, Fields, Fixed', Held-Fields-Fixed-1, None', Some'}
 use Rattle.pas_tree.specs.declared.denoters.Fixed.{Fixed as FixedTree, Fixed' as FixedTree', Row_of-NextSection}
 use Rattle.pas_tree.specs.declared.denoters.Fixed.{end_of-NextSection, more_of-NextSection}
-use Rattle.pas_tree.specs.declared.denoters.NextVariants.{NextVariants'}
-use Rattle.pas_tree.specs.declared.denoters.Variants.{Variants as VariantsTree, Variants', Row_of-NextArm}
-use Rattle.pas_tree.specs.declared.denoters.Variants.{end_of-NextArm, more_of-NextArm}
-use Rattle.pas_tree.specs.declared.denoters.TagField.{TagField}
-use Rattle.pas_tree.specs.declared.denoters.Tag.{Tag}
-use Rattle.pas_tree.specs.SameConstants.{SameNames, SameConstants}
+use Rattle.pas_tree.specs.declared.denoters.Structure.{Array, Record', Set', Structure}
+use Rattle.pas_tree.specs.declared.denoters.Variants.{Row_of-NextArm, Variants as VariantsTree, Variants'}
 
 abbrev pub SameEnumeration : EnumerationTree → EnumerationTree → Type 0
 SameEnumeration a b = (a.«open» ≡ b.«open») × SameNames a.names b.names × (a.close ≡ b.close)

@@ -1,28 +1,22 @@
 -- When two expressions are the same wherever their boxes and vectors lie in memory: the same variants, and the same
 -- tokens and parts in the same order.
 use Rattle.std.specs.Prelude.{◌≡◌}
-use Rattle.pas_tree.specs.SameConstants.{AllSame}
-use Rattle.pas_tree.specs.declared.expressions.Factor.{Factor, Number, Text, Nil, Access', Call', Paren', Set', Not'}
+use Rattle.pas_tree.specs.{SameConstants.AllSame, declared.expressions.SomeMembers.more_of-NextMember}
+use Rattle.pas_tree.specs.declared.expressions.{Member.Member-last-Some', NextExpression.NextExpression'}
+use Rattle.pas_tree.specs.declared.expressions.{NextMember.NextMember', NextTerm.NextTerm', RangeEnd.RangeEnd'}
+use Rattle.pas_tree.specs.declared.expressions.{Relation.Relation', Simple.more_of-NextTerm, Term.more_of-NextFactor}
 use Rattle.pas_tree.specs.declared.expressions.Access.{Access, Row_of-Selector, end_of-Selector, more_of-Selector}
-use Rattle.pas_tree.specs.declared.expressions.Selector.{Selector, Index, Field, Dereference}
-use Rattle.pas_tree.specs.declared.expressions.Index.{Index as IndexTree, Index'}
 use Rattle.pas_tree.specs.declared.expressions.Arguments.{Arguments, Arguments', Row_of-NextExpression}
 use Rattle.pas_tree.specs.declared.expressions.Arguments.{end_of-NextExpression, more_of-NextExpression}
-use Rattle.pas_tree.specs.declared.expressions.NextExpression.{NextExpression'}
 use Rattle.pas_tree.specs.declared.expressions.Expression as e
-use Rattle.pas_tree.specs.declared.expressions.Relation.{Relation'}
-use Rattle.pas_tree.specs.declared.expressions.Simple.{Simple, Simple', Row_of-NextTerm, end_of-NextTerm}
-use Rattle.pas_tree.specs.declared.expressions.Simple.{more_of-NextTerm}
-use Rattle.pas_tree.specs.declared.expressions.NextTerm.{NextTerm'}
-use Rattle.pas_tree.specs.declared.expressions.Term.{Term, Term', Row_of-NextFactor, end_of-NextFactor}
-use Rattle.pas_tree.specs.declared.expressions.Term.{more_of-NextFactor}
-use Rattle.pas_tree.specs.declared.expressions.Members.{Members, Empty, Some}
-use Rattle.pas_tree.specs.declared.expressions.SomeMembers.{SomeMembers', Row_of-NextMember, end_of-NextMember}
-use Rattle.pas_tree.specs.declared.expressions.SomeMembers.{more_of-NextMember}
-use Rattle.pas_tree.specs.declared.expressions.NextMember.{NextMember'}
-use Rattle.pas_tree.specs.declared.expressions.Member.{Member, Member', Held-Member-last, Member-last-None'}
-use Rattle.pas_tree.specs.declared.expressions.Member.{Member-last-Some'}
-use Rattle.pas_tree.specs.declared.expressions.RangeEnd.{RangeEnd'}
+use Rattle.pas_tree.specs.declared.expressions.Factor.{Access', Call', Factor, Nil, Not', Number, Paren', Set', Text}
+use Rattle.pas_tree.specs.declared.expressions.Index.{Index as IndexTree, Index'}
+use Rattle.pas_tree.specs.declared.expressions.Member.{Held-Member-last, Member, Member', Member-last-None'}
+use Rattle.pas_tree.specs.declared.expressions.Members.{Empty, Members, Some}
+use Rattle.pas_tree.specs.declared.expressions.Selector.{Dereference, Field, Index, Selector}
+use Rattle.pas_tree.specs.declared.expressions.Simple.{Row_of-NextTerm, Simple, Simple', end_of-NextTerm}
+use Rattle.pas_tree.specs.declared.expressions.SomeMembers.{Row_of-NextMember, SomeMembers', end_of-NextMember}
+use Rattle.pas_tree.specs.declared.expressions.Term.{Row_of-NextFactor, Term, Term', end_of-NextFactor}
 
 abbrev mutual
   pub SameExpression : e.Expression → e.Expression → Type 0

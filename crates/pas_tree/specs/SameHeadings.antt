@@ -1,15 +1,13 @@
 -- When two headings are the same wherever their boxes and vectors lie in memory.
-use Rattle.std.specs.Prelude.{◌≡◌, Option, Some, None}
-use Rattle.pas_tree.specs.declared.headings.Heading.{Heading, Procedure, Function}
-use Rattle.pas_tree.specs.declared.headings.ProcedureHeading.{ProcedureHeading, ProcedureHeading'}
+use Rattle.std.specs.Prelude.{◌≡◌, None, Option, Some}
+use Rattle.pas_tree.specs.SameConstants.{SameNames}
+use Rattle.pas_tree.specs.declared.headings.{FormalNames.FormalNames, Formals.more_of-NextFormal, ResultType.ResultType}
+use Rattle.pas_tree.specs.declared.headings.Formal.{Formal, Routine', Value, Variable}
+use Rattle.pas_tree.specs.declared.headings.Formals.{Formals, Formals', Row_of-NextFormal, end_of-NextFormal}
 use Rattle.pas_tree.specs.declared.headings.FunctionHeading.{FunctionHeading, FunctionHeading'}
 use Rattle.pas_tree.specs.declared.headings.FunctionHeading.{Held-FunctionHeading-formals, None', Some'}
-use Rattle.pas_tree.specs.declared.headings.ResultType.{ResultType}
-use Rattle.pas_tree.specs.declared.headings.Formals.{Formals, Formals', Row_of-NextFormal, end_of-NextFormal}
-use Rattle.pas_tree.specs.declared.headings.Formals.{more_of-NextFormal}
-use Rattle.pas_tree.specs.declared.headings.Formal.{Formal, Value, Variable, Routine'}
-use Rattle.pas_tree.specs.declared.headings.FormalNames.{FormalNames}
-use Rattle.pas_tree.specs.SameConstants.{SameNames}
+use Rattle.pas_tree.specs.declared.headings.Heading.{Function, Heading, Procedure}
+use Rattle.pas_tree.specs.declared.headings.ProcedureHeading.{ProcedureHeading, ProcedureHeading'}
 
 abbrev pub SameFormalNames : FormalNames → FormalNames → Type 0
 SameFormalNames a b = SameNames a.names b.names × (a.colon ≡ b.colon) × (a.name ≡ b.name)

@@ -1,24 +1,17 @@
 -- When two statements are the same wherever their boxes and vectors lie in memory.
-use Rattle.std.specs.Prelude.{◌≡◌, Option, Some, None}
-use Rattle.std.specs.Global.{Box}
-use Rattle.pas_tree.specs.declared.statements.Plain.{Plain, Empty, Assignment as Assignment', Call, Goto, Compound'}
-use Rattle.pas_tree.specs.declared.statements.Plain.{If', Case', Repeat', While', For', With'}
-use Rattle.pas_tree.specs.declared.statements.Compound.{Compound, Compound' as CompoundTree'}
-use Rattle.pas_tree.specs.declared.statements.Statements.{Statements, Statements', Row_of-NextStatement}
-use Rattle.pas_tree.specs.declared.statements.Statements.{end_of-NextStatement, more_of-NextStatement}
-use Rattle.pas_tree.specs.declared.statements.Label.{Label}
-use Rattle.pas_tree.specs.declared.statements.Assignment.{Assignment}
-use Rattle.pas_tree.specs.declared.statements.Actuals.{Actuals}
-use Rattle.pas_tree.specs.declared.statements.NextActual.{NextActual}
-use Rattle.pas_tree.specs.declared.statements.Actual.{Actual}
-use Rattle.pas_tree.specs.declared.statements.Width.{Width}
-use Rattle.pas_tree.specs.declared.statements.If.{If, If' as IfTree', Held-If-alternative, None', Some'}
+use Rattle.std.specs.{Prelude.◌≡◌, Prelude.None, Prelude.Option, Prelude.Some, Global.Box}
+use Rattle.pas_tree.specs.{SameConstants.AllSame, SameConstants.SameConstants, SameExpressions.SameAccess}
+use Rattle.pas_tree.specs.{SameExpressions.SameExpression, declared.statements.Case.more_of-NextBranch}
+use Rattle.pas_tree.specs.declared.statements.{Actual.Actual, Actuals.Actuals, Assignment.Assignment, Label.Label}
+use Rattle.pas_tree.specs.declared.statements.{NextAccess.NextAccess, NextActual.NextActual, Width.Width}
 use Rattle.pas_tree.specs.declared.statements.Case.{Case, Case' as CaseTree', Row_of-NextBranch, end_of-NextBranch}
-use Rattle.pas_tree.specs.declared.statements.Case.{more_of-NextBranch}
+use Rattle.pas_tree.specs.declared.statements.Compound.{Compound, Compound' as CompoundTree'}
+use Rattle.pas_tree.specs.declared.statements.If.{Held-If-alternative, If, If' as IfTree', None', Some'}
+use Rattle.pas_tree.specs.declared.statements.Plain.{Assignment as Assignment', Call, Case', Compound', Empty, For'}
+use Rattle.pas_tree.specs.declared.statements.Plain.{Goto, If', Plain, Repeat', While', With'}
 use Rattle.pas_tree.specs.declared.statements.Repeat.{Repeat, Repeat' as RepeatTree'}
-use Rattle.pas_tree.specs.declared.statements.NextAccess.{NextAccess}
-use Rattle.pas_tree.specs.SameConstants.{AllSame, SameConstants}
-use Rattle.pas_tree.specs.SameExpressions.{SameExpression, SameAccess}
+use Rattle.pas_tree.specs.declared.statements.Statements.{Row_of-NextStatement, Statements, Statements'}
+use Rattle.pas_tree.specs.declared.statements.Statements.{end_of-NextStatement, more_of-NextStatement}
 
 abbrev pub SameLabel : Option Label → Option Label → Type 0
 SameLabel None None = Unit {0}

@@ -1,28 +1,16 @@
 -- When two programs' trees are the same wherever their boxes and vectors lie in memory: the same variants, and the same
 -- tokens and parts in the same order.
-use Rattle.std.specs.Prelude.{◌≡◌, ℕ, Option, Some, None}
-use Rattle.grammar.specs.Nodes.{spell}
-use Rattle.grammar.specs.Laws.{IsFormedBy}
-use Rattle.pas_tree.specs.declared.blocks.Tree.{Tree}
-use Rattle.pas_tree.specs.declared.blocks.Parameters.{Parameters}
+use Rattle.std.specs.Prelude.{◌≡◌, ℕ, None, Option, Some}
+use Rattle.grammar.specs.{Laws.IsFormedBy, Nodes.spell}
+use Rattle.pas_tree.specs.{Blocks.tree_node, FirstFollow.pascal, Rules.program_rule, SameConstants.AllSame}
+use Rattle.pas_tree.specs.{SameConstants.SameNames, SameDenoters.SameDenoter, SameHeadings.SameHeading}
+use Rattle.pas_tree.specs.{SameStatements.SameCompound, declared.blocks.ConstantDefinition.ConstantDefinition}
+use Rattle.pas_tree.specs.declared.blocks.{Block.more_of-Routine, ConstantPart.ConstantPart, LabelPart.LabelPart}
+use Rattle.pas_tree.specs.declared.blocks.{NextLabel.NextLabel, Parameters.Parameters, Tree.Tree}
+use Rattle.pas_tree.specs.declared.blocks.{TypeDefinition.TypeDefinition, TypePart.TypePart, VariablePart.VariablePart}
 use Rattle.pas_tree.specs.declared.blocks.Block.{Block, Block' as BlockTree', Row_of-Routine, end_of-Routine}
-use Rattle.pas_tree.specs.declared.blocks.Block.{more_of-Routine}
-use Rattle.pas_tree.specs.declared.blocks.LabelPart.{LabelPart}
-use Rattle.pas_tree.specs.declared.blocks.NextLabel.{NextLabel}
-use Rattle.pas_tree.specs.declared.blocks.ConstantPart.{ConstantPart}
-use Rattle.pas_tree.specs.declared.blocks.ConstantDefinition.{ConstantDefinition}
-use Rattle.pas_tree.specs.declared.blocks.TypePart.{TypePart}
-use Rattle.pas_tree.specs.declared.blocks.TypeDefinition.{TypeDefinition}
-use Rattle.pas_tree.specs.declared.blocks.VariablePart.{VariablePart}
+use Rattle.pas_tree.specs.declared.blocks.RoutineBody.{Block', Directive, RoutineBody}
 use Rattle.pas_tree.specs.declared.blocks.VariableDeclaration.{VariableDeclaration}
-use Rattle.pas_tree.specs.declared.blocks.RoutineBody.{RoutineBody, Directive, Block'}
-use Rattle.pas_tree.specs.SameConstants.{AllSame, SameNames}
-use Rattle.pas_tree.specs.SameDenoters.{SameDenoter}
-use Rattle.pas_tree.specs.SameHeadings.{SameHeading}
-use Rattle.pas_tree.specs.SameStatements.{SameCompound}
-use Rattle.pas_tree.specs.Blocks.{tree_node}
-use Rattle.pas_tree.specs.Rules.{program_rule}
-use Rattle.pas_tree.specs.FirstFollow.{pascal}
 
 abbrev pub SameNextLabel : NextLabel → NextLabel → Type 0
 SameNextLabel a b = (a.comma ≡ b.comma) × (a.number ≡ b.number)

@@ -1,13 +1,10 @@
 -- Where statements begin.
-use Rattle.std.specs.Prelude.{ℕ, Option, Some, None}
-use Rattle.pas_tree.specs.declared.statements.Plain.{Plain, Empty, Assignment as Assignment', Call, Goto, Compound'}
-use Rattle.pas_tree.specs.declared.statements.Plain.{If', Case', Repeat', While', For', With'}
+use Rattle.std.specs.Prelude.{ℕ, None, Option, Some}
+use Rattle.pas_tree.specs.declared.statements.{Case.Case' as CaseTree', If.If' as IfTree', Label.Label}
+use Rattle.pas_tree.specs.declared.statements.{Repeat.Repeat' as RepeatTree', Statement.Statement}
 use Rattle.pas_tree.specs.declared.statements.Compound.{Compound' as CompoundTree'}
-use Rattle.pas_tree.specs.declared.statements.If.{If' as IfTree'}
-use Rattle.pas_tree.specs.declared.statements.Case.{Case' as CaseTree'}
-use Rattle.pas_tree.specs.declared.statements.Repeat.{Repeat' as RepeatTree'}
-use Rattle.pas_tree.specs.declared.statements.Statement.{Statement}
-use Rattle.pas_tree.specs.declared.statements.Label.{Label}
+use Rattle.pas_tree.specs.declared.statements.Plain.{Assignment as Assignment', Call, Case', Compound', Empty, For'}
+use Rattle.pas_tree.specs.declared.statements.Plain.{Goto, If', Plain, Repeat', While', With'}
 
 -- the first token of a statement without its label; an empty one has none
 abbrev pub first_of_plain : Plain → Option ℕ

@@ -1,36 +1,22 @@
 -- Statements as nodes.
-use Rattle.std.specs.Prelude.{map, Option, Some, None}
-use Rattle.std.specs.Global.{Box}
+use Rattle.std.specs.{Prelude.None, Prelude.Option, Prelude.Some, Prelude.map, Global.Box}
+use Rattle.grammar.specs.Nodes.{Node, Nothing, Pair, SeriesPart, leaf, row}
 use Rattle.grammar.specs.declared.terminals.Terminal.TheVariants as k
-use Rattle.grammar.specs.Nodes.{Node, Nothing, Pair, leaf, row, SeriesPart}
-use Rattle.pas_tree.specs.declared.statements.Plain.{Plain, Empty, Assignment as Assignment', Call, Goto, Compound'}
-use Rattle.pas_tree.specs.declared.statements.Plain.{If', Case', Repeat', While', For', With'}
-use Rattle.pas_tree.specs.declared.statements.Compound.{Compound, Compound' as CompoundTree'}
-use Rattle.pas_tree.specs.declared.statements.Statements.{Statements, Statements', Row_of-NextStatement}
-use Rattle.pas_tree.specs.declared.statements.Statements.{end_of-NextStatement, more_of-NextStatement}
-use Rattle.pas_tree.specs.declared.statements.NextStatement.{NextStatement}
-use Rattle.pas_tree.specs.declared.statements.Statement.{Statement}
-use Rattle.pas_tree.specs.declared.statements.Label.{Label}
-use Rattle.pas_tree.specs.declared.statements.Assignment.{Assignment}
-use Rattle.pas_tree.specs.declared.statements.Actuals.{Actuals}
-use Rattle.pas_tree.specs.declared.statements.NextActual.{NextActual}
-use Rattle.pas_tree.specs.declared.statements.Actual.{Actual}
-use Rattle.pas_tree.specs.declared.statements.Width.{Width}
-use Rattle.pas_tree.specs.declared.statements.If.{If, If' as IfTree', Held-If-alternative, None', Some'}
-use Rattle.pas_tree.specs.declared.statements.Else.{Else}
+use Rattle.pas_tree.specs.{Constants.constants_node, Denoters.last_semicolon_node, Operators.direction_node}
+use Rattle.pas_tree.specs.Expressions.{access_node, expression_node, selector_node}
+use Rattle.pas_tree.specs.declared.statements.{Actual.Actual, Actuals.Actuals, Assignment.Assignment, Branch.Branch}
+use Rattle.pas_tree.specs.declared.statements.{Case.more_of-NextBranch, Else.Else, For.For, Label.Label}
+use Rattle.pas_tree.specs.declared.statements.{NextAccess.NextAccess, NextActual.NextActual, NextBranch.NextBranch}
+use Rattle.pas_tree.specs.declared.statements.{Statement.Statement, While.While, Width.Width, With.With}
 use Rattle.pas_tree.specs.declared.statements.Case.{Case, Case' as CaseTree', Row_of-NextBranch, end_of-NextBranch}
-use Rattle.pas_tree.specs.declared.statements.Case.{more_of-NextBranch}
-use Rattle.pas_tree.specs.declared.statements.NextBranch.{NextBranch}
-use Rattle.pas_tree.specs.declared.statements.Branch.{Branch}
+use Rattle.pas_tree.specs.declared.statements.Compound.{Compound, Compound' as CompoundTree'}
+use Rattle.pas_tree.specs.declared.statements.If.{Held-If-alternative, If, If' as IfTree', None', Some'}
+use Rattle.pas_tree.specs.declared.statements.NextStatement.{NextStatement}
+use Rattle.pas_tree.specs.declared.statements.Plain.{Assignment as Assignment', Call, Case', Compound', Empty, For'}
+use Rattle.pas_tree.specs.declared.statements.Plain.{Goto, If', Plain, Repeat', While', With'}
 use Rattle.pas_tree.specs.declared.statements.Repeat.{Repeat, Repeat' as RepeatTree'}
-use Rattle.pas_tree.specs.declared.statements.While.{While}
-use Rattle.pas_tree.specs.declared.statements.For.{For}
-use Rattle.pas_tree.specs.declared.statements.With.{With}
-use Rattle.pas_tree.specs.declared.statements.NextAccess.{NextAccess}
-use Rattle.pas_tree.specs.Operators.{direction_node}
-use Rattle.pas_tree.specs.Constants.{constants_node}
-use Rattle.pas_tree.specs.Expressions.{expression_node, selector_node, access_node}
-use Rattle.pas_tree.specs.Denoters.{last_semicolon_node}
+use Rattle.pas_tree.specs.declared.statements.Statements.{Row_of-NextStatement, Statements, Statements'}
+use Rattle.pas_tree.specs.declared.statements.Statements.{end_of-NextStatement, more_of-NextStatement}
 
 abbrev pub label_node : Option Label → Node
 label_node None = Nothing

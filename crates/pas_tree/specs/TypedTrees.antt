@@ -1,12 +1,8 @@
 -- The typed trees that nodes of the grammar have.
-use Rattle.std.specs.Prelude.{◌≡◌, ◌<◌, ◌^◌, ◌↔◌, ℕ, List, ◌++◌, length, take}
-use Rattle.grammar.specs.Nodes.{Item, Node, spell}
-use Rattle.grammar.specs.Loose.{IsGrammatical}
-use Rattle.grammar.specs.Nesting.{IsShaped, BeginsDeep}
-use Rattle.grammar.specs.Refusals.{BeginsWith, IsHopeless, IsTooDeep}
-use Rattle.pas_tree.specs.declared.blocks.Tree.{Tree}
-use Rattle.pas_tree.specs.Blocks.{tree_node}
-use Rattle.pas_tree.specs.FirstFollow.{pascal}
+use Rattle.std.specs.Prelude.{◌++◌, ◌<◌, ◌^◌, ◌↔◌, ◌≡◌, ℕ, List, length, take}
+use Rattle.grammar.specs.{Loose.IsGrammatical, Nesting.BeginsDeep, Nesting.IsShaped, Nodes.Item, Nodes.Node}
+use Rattle.grammar.specs.{Nodes.spell, Refusals.BeginsWith, Refusals.IsHopeless, Refusals.IsTooDeep}
+use Rattle.pas_tree.specs.{Blocks.tree_node, FirstFollow.pascal, declared.blocks.Tree.Tree}
 use Rattle.pas_tree.specs.Rules.{program_rule, rule}
 
 -- It spells fewer tokens than a vector may hold elements, so each list in it fits one.

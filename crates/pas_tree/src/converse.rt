@@ -1,7 +1,7 @@
 //! The laws of this crate, each the contract of a call that does nothing.
 
-ghost use Rattle.pas_tree.specs.TypedTrees.{GrammaticalHaveTrees, HopelessForTrees, ShapedHaveTrees};
-ghost use Rattle.pas_tree.specs.TypedTrees.{TooDeepForTrees, TreesGoOn};
+ghost use Rattle.pas_tree.specs.TypedTrees.{GrammaticalHaveTrees, HopelessForTrees, ShapedHaveTrees, TooDeepForTrees};
+ghost use Rattle.pas_tree.specs.TypedTrees.{TreesGoOn};
 
 /// Each node of the grammar whose lists fit vectors is the node of a typed tree, at whatever nesting. By
 /// `trees_fit_the_grammar` of `pas_tree` no other node is.

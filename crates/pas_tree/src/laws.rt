@@ -1,14 +1,10 @@
 //! Laws of the grammar and its trees, each the contract of a call that does nothing.
 
 ghost use Rattle.std.specs.Prelude.{◌≡◌, true};
-ghost use Rattle.grammar.specs.Deciding.{IsDecided};
-ghost use Rattle.grammar.specs.Loose.{IsGrammatical};
-ghost use Rattle.pas_tree.specs.declared.blocks.Tree.{Tree};
-ghost use Rattle.pas_tree.specs.Blocks.{tree_node};
-ghost use Rattle.pas_tree.specs.FirstFollow.{pascal};
+ghost use Rattle.grammar.specs.{Deciding.IsDecided, Loose.IsGrammatical};
+ghost use Rattle.pas_tree.specs.{Blocks.tree_node, FirstFollow.pascal, Rules.program_rule, Rules.rule};
+ghost use Rattle.pas_tree.specs.{SameTrees.NodesTellTrees, SameTrees.TextTellsTree, declared.blocks.Tree.Tree};
 ghost use Rattle.pas_tree.specs.FirstRefused.{IsExactWhereFirst, IsExactWhereRead};
-ghost use Rattle.pas_tree.specs.Rules.{program_rule, rule};
-ghost use Rattle.pas_tree.specs.SameTrees.{NodesTellTrees, TextTellsTree};
 
 /// In the grammar of Pascal the next token decides each choice, and the tables of what begins and
 /// follows each construct are right.

@@ -3,6 +3,7 @@
 
 ghost use Rattle.debug_cli.specs.Exits.{EndsAsCommand};
 
+use command_words::{Asked, read_words};
 use debug_cli::ask_as_process;
 use edge_ports::{FileKeeper, StdSink, StdSource};
 use std::alloc::AllocError;
@@ -28,14 +29,39 @@ fn words(rt: &HostRuntime) -> Result<Vec<String>, AllocError> {
     }
 }
 
+/// Spares the files that the words name to be read: the source and the input.
+fn spare_own(
+    rt: &HostRuntime,
+    words: &[String],
+    keeper: &mut FileKeeper<HostRuntime>,
+) -> Result<(), AllocError> {
+    if let Ok(Asked::Source(request)) = read_words(rt.alloc(), words) {
+        keeper.spare(rt.alloc(), request.source)?;
+        if let Some(input) = request.input {
+            keeper.spare(rt.alloc(), input)?;
+        }
+    }
+    Ok(())
+}
+
+/// The words, with the files that they name to be read spared by the keeper: no session takes their place.
+fn words_with_own_spared(
+    rt: &HostRuntime,
+    keeper: &mut FileKeeper<HostRuntime>,
+) -> Result<Vec<String>, AllocError> {
+    let words = words(rt)?;
+    spare_own(rt, &words, keeper)?;
+    Ok(words)
+}
+
 /// The command over the words, files and streams of this process.
 fn run(rt: HostRuntime) -> ExitCode
     ensures ended { EndsAsCommand result }
 {
-    let words = words(&rt);
+    let mut keeper = FileKeeper::new(rt);
+    let words = words_with_own_spared(&rt, &mut keeper);
     let mut console = StdSource::new(rt.reader());
     let mut screen = StdSink::new(io::writer(&rt));
-    let mut keeper = FileKeeper::new(rt);
     ask_as_process(rt.alloc(), words, &mut keeper, &mut console, &mut screen)
 }
 

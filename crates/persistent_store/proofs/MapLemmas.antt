@@ -1,16 +1,11 @@
 -- Lemmas on the map of what a function gives at each address.
-use Rattle.std.proofs.Common.{◌≡◌, ℕ, suc, zero, ◌<◌, ◌≤◌, ◌≢◌, Option, Some, None, refl, ap, sym, ◌∙◌, arith, cond, false, inl, inr}
-use Rattle.std.specs.Prelude.{◌==◌, is_some}
-use Rattle.std.specs.Ordering.{nat_cmp}
+use Rattle.std.proofs.Common.{◌<◌, ◌==◌, ◌∙◌, ◌≡◌, ◌≢◌, ◌≤◌, ℕ, None, Option, Some, ap, arith, cond, false, inl, inr, is_some, refl, suc, sym, zero}
+use Rattle.std.proofs.lemmas.Bool.{cases_lt, Decides.eqb_tells, Decides.nat_tests}
+use Rattle.std.specs.{Cmp.nat_cmp_total, Cmp.unsigned_tied, Map.lookup, Ordering.nat_cmp}
 use Rattle.std.specs.BTreeMap as tree
-use Rattle.std.specs.Map.{lookup}
-use Rattle.std.specs.Cmp.{nat_cmp_total, unsigned_tied}
-use Rattle.std.specs.FinMap.{FinMap, empty, get, insert, remove, get-empty, get-insert, get-remove, same_map, nat_cmp-IsAntisymmetric}
-use Rattle.std.proofs.lemmas.Bool.{cases_lt}
-use Rattle.std.proofs.lemmas.Bool.Decides.{eqb_tells, nat_tests}
-use Rattle.persistent_store.specs.Addresses.{with_value_at, with_cell, map_below, map_of}
-use Rattle.persistent_store.specs.Nodes.{ChangesAt}
-use Rattle.persistent_store.proofs.NodeLemmas.{chosen_true, chosen_false}
+use Rattle.std.specs.FinMap.{FinMap, empty, get, get-empty, get-insert, get-remove, insert, nat_cmp-IsAntisymmetric, remove, same_map}
+use Rattle.persistent_store.proofs.NodeLemmas.{chosen_false, chosen_true}
+use Rattle.persistent_store.specs.{Addresses.map_below, Addresses.map_of, Addresses.with_cell, Addresses.with_value_at, Nodes.ChangesAt}
 
 pub get-insert_nat : {V : Type 0} (m : FinMap nat_cmp V) (k q : ℕ) (v : V) → get (insert m k v) q ≡ cond (q == k) (Some v) (get m q)
 get-insert_nat m k q v = get-insert nat_cmp_total m k v q ∙ ap (λ b. cond b (Some v) (get m q)) (unsigned_tied q k)

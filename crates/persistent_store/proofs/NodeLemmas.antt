@@ -1,17 +1,12 @@
 -- Lemmas on the nodes of the trie.
-use Rattle.std.proofs.Common.{◌≡◌, ℕ, zero, suc, ◌/◌, ◌%◌, ◌<◌, List, [], ◌∷◌, length, get_or, set, Option, Some, None, refl, ap, sym, subst, ◌∙◌, arith, cond}
-use Rattle.std.proofs.Common.{true, false, inl, inr, Bool, replicate}
-use Rattle.std.specs.Prelude.{◌==◌, Result, Ok, Err, OnErr, IsSome, IfSome}
-use Rattle.std.specs.List.{AllZip}
-use Rattle.std.specs.declared.rc.Rc.{Rc}
-use Rattle.std.proofs.lemmas.Bool.Decides.{eqb_tells, nat_tests}
-use Rattle.std.proofs.lemmas.List.{get_or-set_same, get_or-set_other, map-set, length-map, set-get_or}
-use Rattle.std.proofs.lemmas.Simd.{get_or-zip2}
-use Rattle.std.proofs.lemmas.Nat.{div-add-mod'}
+use Rattle.std.proofs.Common.{◌%◌, ◌/◌, ◌<◌, ◌==◌, ◌∙◌, ◌∷◌, ◌≡◌, [], ℕ, Bool, Err, IfSome, IsSome, List, None, Ok, OnErr, Option, Result, Some, ap, arith}
+use Rattle.std.proofs.Common.{cond, false, get_or, inl, inr, length, refl, replicate, set, subst, suc, sym, true, zero}
+use Rattle.std.proofs.lemmas.{Bool.Decides.eqb_tells, Bool.Decides.nat_tests, Nat.div-add-mod', Simd.get_or-zip2}
+use Rattle.std.proofs.lemmas.List.{get_or-set_other, get_or-set_same, length-map, map-set, set-get_or}
+use Rattle.std.specs.{List.AllZip, declared.rc.Rc.Rc}
 use Rattle.cell_value.specs.declared.values.Value.{Value}
-use Rattle.persistent_store.specs.declared.cells.Cell.{Cell}
-use Rattle.persistent_store.specs.Cells.{value_of, values_of}
-use Rattle.persistent_store.specs.Nodes.{Entries, node_of, entries_of, node_entry, found_below, ChangesAt}
+use Rattle.persistent_store.specs.{Cells.value_of, Cells.values_of, declared.cells.Cell.Cell}
+use Rattle.persistent_store.specs.Nodes.{ChangesAt, Entries, entries_of, found_below, node_entry, node_of}
 
 -- clones of pointers lead where the pointers lead
 pub entries_alike : {X Z : Type 0} (there : List Bool) (ps qs : List (Rc X Z)) → AllZip (λ p q. q.value ≡ p.value) ps qs

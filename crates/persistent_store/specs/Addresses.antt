@@ -1,7 +1,6 @@
 -- Finite maps from addresses. The addresses are the numbers below 1,048,576, which is 16 ^ 5.
-use Rattle.std.specs.Prelude.{ℕ, zero, suc, Option, Some, None}
-use Rattle.std.specs.Ordering.{nat_cmp}
-use Rattle.std.specs.FinMap.{FinMap, empty, insert, remove}
+use Rattle.std.specs.Prelude.{ℕ, None, Option, Some, suc, zero}
+use Rattle.std.specs.{FinMap.FinMap, FinMap.empty, FinMap.insert, FinMap.remove, Ordering.nat_cmp}
 
 -- the map with this value at the key, where there is a value
 abbrev pub with_value_at : {V : Type 0} → FinMap nat_cmp V → ℕ → Option V → FinMap nat_cmp V

@@ -1,11 +1,9 @@
 -- A node that is lent to be written to.
-use Rattle.std.specs.Prelude.{Option}
-use Rattle.std.specs.Borrow.{LendsIf, MutBor, Fml}
-use Rattle.std.specs.declared.rc.Rc.{Rc}
-use Rattle.std.specs.declared.alloc.Global.{Global}
-use Rattle.std.specs.contracts.rc.Rc as rc
+use Rattle.std.specs.{Prelude.Option, Borrow.Fml, Borrow.LendsIf, Borrow.MutBor}
 use Rattle.std.specs.contracts.alloc.Global as global
 use Rattle.std.specs.contracts.impls.GlobalAllocator.TheImpl as allocator
+use Rattle.std.specs.contracts.rc.Rc as rc
+use Rattle.std.specs.declared.{alloc.Global.Global, rc.Rc.Rc}
 use denote.RattleType.{RattleType}
 
 -- the same pointer, to this value

@@ -1,10 +1,8 @@
 -- A trie over addresses in base sixteen. A node of the lowest level, a leaf, has a value or none at
 -- each of sixteen places. A node of a higher level has a node of the level below or none at each
 -- place. The place at each level is a digit of the address, the highest digit at the root.
-use Rattle.std.specs.Prelude.{◌≡◌, ℕ, ◌/◌, ◌%◌, ◌==◌, if◌then◌else◌, Bool, true, false, List, slice_index_or}
-use Rattle.std.specs.Prelude.{Option, Some, None}
-use Rattle.std.specs.Simd.Lanes.{zip2}
-use Rattle.std.specs.declared.rc.Rc.{Rc}
+use Rattle.std.specs.Prelude.{if◌then◌else◌, ◌%◌, ◌/◌, ◌==◌, ◌≡◌, ℕ, Bool, List, None, Option, Some, false}
+use Rattle.std.specs.{Prelude.slice_index_or, Prelude.true, Simd.Lanes.zip2, declared.rc.Rc.Rc}
 
 -- the entries of a node, some of them with nothing
 abbrev pub Entries : Type 0 → Type 0

@@ -1,11 +1,9 @@
 //! The nodes of the trie: leaves with cells, and branches with nodes of the level below. Any number
 //! of stores may share a node, and one that is shared is never written to.
-ghost use Rattle.std.specs.Prelude.{◌≡◌, ◌+◌, ◌<◌, ℕ, IfOk, IfSome, OnOk, OnErr, IsSome, Some, option_copied, length};
-ghost use Rattle.std.specs.Prelude.{replicate};
-ghost use Rattle.std.specs.Borrow.{sem};
-ghost use Rattle.persistent_store.specs.Cells.{value_of, values_of};
-ghost use Rattle.persistent_store.specs.Loans.{LendsTarget};
-ghost use Rattle.persistent_store.specs.Nodes.{node_entry, node_of, pointee_of, ChangesAt};
+ghost use Rattle.std.specs.Prelude.{◌+◌, ◌<◌, ◌≡◌, ℕ, IfOk, IfSome, IsSome, OnErr, OnOk, Some, length, option_copied};
+ghost use Rattle.std.specs.{Prelude.replicate, Borrow.sem};
+ghost use Rattle.persistent_store.specs.{Cells.value_of, Cells.values_of, Loans.LendsTarget};
+ghost use Rattle.persistent_store.specs.Nodes.{ChangesAt, node_entry, node_of, pointee_of};
 
 use crate::cells::Cell;
 use cell_value::{Memory, Steps, Value};

@@ -1,5 +1,5 @@
 //! The map that callers see. Its trie is the root node with all that it leads to.
-ghost use Rattle.std.specs.Prelude.{ℕ, ◌≡◌, ◌+◌, ◌<◌, ◌≤◌, IfOk, OnOk, OnErr, IsOk, None};
+ghost use Rattle.std.specs.Prelude.{◌+◌, ◌<◌, ◌≡◌, ◌≤◌, ℕ, IfOk, IsOk, None, OnErr, OnOk};
 ghost use Rattle.std.specs.FinMap as map;
 ghost use Rattle.persistent_store.specs.Addresses.{with_cell};
 
@@ -22,13 +22,11 @@ pub struct Store {
 }
 
 impl Model for Store {
-    ghost use Rattle.std.specs.Ordering.{nat_cmp};
+    ghost use Rattle.std.specs.{Coded.coded_ℕ, Ordering.nat_cmp};
     ghost use Rattle.std.specs.FinMap as map;
-    ghost use Rattle.persistent_store.specs.Nodes.{cell_at, pointee_of};
-    ghost use Rattle.persistent_store.specs.Addresses.{map_of};
-    ghost use Rattle.std.specs.Coded.{coded_ℕ};
-    ghost use Rattle.cell_value.specs.declared.values.Value.{Value as CellValue};
     ghost use Rattle.cell_value.specs.contracts.values.Value as cells;
+    ghost use Rattle.cell_value.specs.declared.values.Value.{Value as CellValue};
+    ghost use Rattle.persistent_store.specs.{Addresses.map_of, Nodes.cell_at, Nodes.pointee_of};
 
     ghost Value = { map.FinMap nat_cmp CellValue };
 

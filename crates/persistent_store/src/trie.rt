@@ -1,8 +1,7 @@
 //! The trie under a root: five levels of nodes, which are told apart by their types.
-ghost use Rattle.std.specs.Prelude.{◌≡◌, ◌+◌, ◌/◌, ◌%◌, ◌<◌, ◌≤◌, IfOk, OnOk, OnErr, Some, option_copied};
-ghost use Rattle.persistent_store.specs.Cells.{value_of};
-ghost use Rattle.persistent_store.specs.Nodes.{cell_at, node_entry, in_level1, in_level2, in_level3, pointee_of};
-ghost use Rattle.persistent_store.specs.Nodes.{ChangesAt};
+ghost use Rattle.std.specs.Prelude.{◌%◌, ◌+◌, ◌/◌, ◌<◌, ◌≡◌, ◌≤◌, IfOk, OnErr, OnOk, Some, option_copied};
+ghost use Rattle.persistent_store.specs.{Cells.value_of, Nodes.pointee_of};
+ghost use Rattle.persistent_store.specs.Nodes.{ChangesAt, cell_at, in_level1, in_level2, in_level3, node_entry};
 
 use crate::cells::Cell;
 use crate::nodes::{Branch, Leaf};

@@ -1,5 +1,5 @@
 //! The same map kept whole: the plain program that the trie is compared with.
-ghost use Rattle.std.specs.Prelude.{◌≡◌, ◌<◌, IfOk, OnOk, OnErr};
+ghost use Rattle.std.specs.Prelude.{◌<◌, ◌≡◌, IfOk, OnErr, OnOk};
 ghost use Rattle.std.specs.FinMap as map;
 
 use cell_value::{Memory, Value};
@@ -14,13 +14,12 @@ pub struct WholeMap {
 }
 
 impl Model for WholeMap {
-    ghost use Rattle.std.specs.Ordering.{nat_cmp};
-    ghost use Rattle.std.specs.FinMap as map;
+    ghost use Rattle.std.specs.{Coded.coded_ℕ, Ordering.nat_cmp};
     ghost use Rattle.std.specs.BTreeMap as tree;
-    ghost use Rattle.std.specs.Coded.{coded_ℕ};
-    ghost use Rattle.persistent_store.specs.Addresses.{map_of};
-    ghost use Rattle.cell_value.specs.declared.values.Value.{Value as CellValue};
+    ghost use Rattle.std.specs.FinMap as map;
     ghost use Rattle.cell_value.specs.contracts.values.Value as cells;
+    ghost use Rattle.cell_value.specs.declared.values.Value.{Value as CellValue};
+    ghost use Rattle.persistent_store.specs.Addresses.{map_of};
 
     ghost Value = { map.FinMap nat_cmp CellValue };
 

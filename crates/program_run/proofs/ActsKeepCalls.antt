@@ -1,52 +1,15 @@
 -- What a body does itself enters no call, leaves none and gives nothing out, and the log only grows.
-use Rattle.std.proofs.Common.{◌≡◌, ℕ, zero, suc, ◌+◌, ◌-◌, ◌≤◌, length, subst, arith, Bool, true, false, List, [], ◌∷◌, ◌++◌, Option, Some, None, refl, sym, ap}
-use Rattle.std.proofs.Common.{◌∙◌, append_assoc, append-nil}
-use Rattle.std.specs.Prelude.{nat_lt, is_some, if◌then◌else◌}
-use Rattle.std.proofs.lemmas.Bool.{ltb-false}
-use Rattle.std.proofs.lemmas.List.{length-append}
-use Rattle.std.specs.Prelude.{slice_get}
-use Rattle.std.specs.FinMap.{get}
-use Rattle.cell_value.specs.declared.values.Value.{Value}
-use Rattle.cell_value.specs.declared.entries.Touch.{Touch}
-use Rattle.cell_value.specs.declared.entries.Touch.TheVariants as touch
-use Rattle.core_program.specs.ProgramRows.{ProgramRows}
-use Rattle.cell_value.specs.Effects.{heap_end}
-use Rattle.core_program.specs.State.{State, stack_end, is_in_reach}
-use Rattle.core_program.specs.Blocks.{block_cells, lies_in_heap}
-use Rattle.core_program.specs.Acts.{
-  Act,
-  ActResult,
-  Went,
-  Stops,
-  Spend,
-  ReadCell,
-  HasCell,
-  WriteCell,
-  TakeIf,
-  GiveByte,
-  OutOfSteps,
-  MakeBlock,
-  DropBlock,
-  perform,
-  with_steps,
-  on_cell,
-  read_as,
-  put_value,
-  put_asked,
-  after_touches,
-  take_item,
-  take_looked,
-  look_item,
-  spent,
-  made_block,
-  dropped_block,
-}
-use Rattle.core_program.specs.Tree.{ActTree, Ret, Halt, Meaningless, Do, Sub, Enter, Line, way_of, bind}
-use Rattle.core_program.specs.Layer.{layer}
-use Rattle.core_program.specs.Run.{Halted}
-use Rattle.core_program.proofs.OutcomesCompose.{some_same, none_some}
+use Rattle.std.proofs.Common.{if◌then◌else◌, ◌++◌, ◌+◌, ◌-◌, ◌∙◌, ◌∷◌, ◌≡◌, ◌≤◌, [], ℕ, Bool, List, None, Option, Some, ap, append-nil, append_assoc, arith}
+use Rattle.std.proofs.Common.{false, is_some, length, nat_lt, refl, slice_get, subst, suc, sym, true, zero}
+use Rattle.std.{proofs.lemmas.Bool.ltb-false, proofs.lemmas.List.length-append, specs.FinMap.get}
+use Rattle.cell_value.specs.{Effects.heap_end, declared.entries.Touch.Touch, declared.values.Value.Value}
+use Rattle.core_program.{proofs.OutcomesCompose.none_some, proofs.OutcomesCompose.some_same, specs.State.State, specs.State.is_in_reach, specs.State.stack_end}
+use Rattle.core_program.specs.{Acts.take_looked, Acts.with_steps, Blocks.block_cells, Blocks.lies_in_heap, Layer.layer, ProgramRows.ProgramRows, Run.Halted}
+use Rattle.core_program.specs.Acts.{Act, ActResult, DropBlock, GiveByte, HasCell, MakeBlock, OutOfSteps, ReadCell, Spend, Stops, TakeIf, Went, WriteCell}
+use Rattle.core_program.specs.Acts.{after_touches, dropped_block, look_item, made_block, on_cell, perform, put_asked, put_value, read_as, spent, take_item}
+use Rattle.core_program.specs.Tree.{ActTree, Do, Enter, Halt, Line, Meaningless, Ret, Sub, bind, way_of}
 use Rattle.eval_ops.specs.Machines.{Moment}
-use Rattle.evaluator.specs.Stops.{Stop, AtEnd, on_act, next_stop}
+use Rattle.evaluator.specs.Stops.{AtEnd, Stop, next_stop, on_act}
 
 -- no call was entered and none was left, and each byte that was given out took a step
 pub record SameCalls (σ τ : State) : Type 0 where
@@ -99,7 +62,7 @@ kept_touched w σ (Went x v τ) h = h
 kept_touched w σ (Stops why v τ) h = h
 
 kept_put : (there : Bool) (addr : ℕ) (value : Value) (σ : State) (m : ℕ) → m + 1 ≤ σ.steps → Kept σ (put_asked there addr value (record σ { steps = m }))
-kept_put true addr value σ m l = kept_touched (touch.Has addr true ∷ []) σ (with_steps 1 (record σ { steps = m }) (put_value addr value))
+kept_put true addr value σ m l = kept_touched (Touch.Has addr true ∷ []) σ (with_steps 1 (record σ { steps = m }) (put_value addr value))
     (kept_if σ (nat_lt m 1) _ _ (record { calls = refl; depth = refl; output = omega (arith, l); items = refl })
     (record { calls = refl; depth = refl; output = omega (arith, l); items = refl }))
 kept_put false addr value σ m l = kept_left σ m 1 l
@@ -128,7 +91,7 @@ kept_act : (act : Act) (σ : State) → Kept σ (perform act σ)
 kept_act (Spend n) σ = kept_steps n σ (λ τ. Went tt [] τ) (λ m l. kept_left σ m n l)
 kept_act (ReadCell addr) σ = kept_cell addr σ (λ τ. read_as addr (get σ.cells addr) τ)
     (λ m l. kept_read addr (get σ.cells addr) σ (record σ { steps = m }) (kept_left σ m 1 l))
-kept_act (HasCell addr) σ = kept_cell addr σ (λ τ. Went (is_some (get σ.cells addr)) (touch.Has addr (is_some (get σ.cells addr)) ∷ []) τ)
+kept_act (HasCell addr) σ = kept_cell addr σ (λ τ. Went (is_some (get σ.cells addr)) (Touch.Has addr (is_some (get σ.cells addr)) ∷ []) τ)
     (λ m l. kept_left σ m 1 l)
 kept_act (MakeBlock cells of') σ = kept_if σ (nat_lt heap_end (σ.fresh + block_cells cells)) _ _ (same_calls σ)
     (kept_steps (block_cells cells) σ (made_block (block_cells cells) of')
@@ -137,9 +100,9 @@ kept_act (DropBlock addr cells) σ = kept_if σ (lies_in_heap addr (block_cells 
     (kept_steps (block_cells cells) σ (dropped_block addr (block_cells cells))
     (λ m l. record { calls = refl; depth = refl; output = omega (arith, l); items = refl }))
     (same_calls σ)
-kept_act (TakeIf wanted) σ = kept_steps 1 σ (look_item wanted) (λ m l. kept_touched (touch.Look σ.place ∷ []) σ _
+kept_act (TakeIf wanted) σ = kept_steps 1 σ (look_item wanted) (λ m l. kept_touched (Touch.Look σ.place ∷ []) σ _
     (kept_looked wanted (slice_get σ.items σ.place) σ m l))
-kept_act (GiveByte byte) σ = kept_steps 1 σ (λ τ. Went tt (touch.Give byte ∷ []) (record τ { output = τ.output ++ byte ∷ [] })) (kept_given byte σ)
+kept_act (GiveByte byte) σ = kept_steps 1 σ (λ τ. Went tt (Touch.Give byte ∷ []) (record τ { output = τ.output ++ byte ∷ [] })) (kept_given byte σ)
 kept_act (WriteCell addr value) σ = kept_cell addr σ
     (λ τ. if nat_lt addr stack_end then put_value addr value τ else put_asked (is_some (get τ.cells addr)) addr value τ)
     (kept_write (nat_lt addr stack_end) addr value σ)

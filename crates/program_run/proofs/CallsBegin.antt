@@ -1,18 +1,11 @@
 -- What is left of a call once its frame was made, or not.
-use Rattle.std.proofs.Common.{◌≡◌, ℕ, ◌+◌, Bool, true, false, List, [], ◌++◌, Some, sym, ap, subst, arith, ◌≤◌, ◌∙◌, append-nil, nat_lt, if◌then◌else◌}
-use Rattle.cell_value.specs.declared.values.Value.{Value}
-use Rattle.cell_value.specs.declared.entries.Touch.{Touch}
-use Rattle.cell_value.specs.declared.ways_out.Which.TheVariants.{Stack}
-use Rattle.core_program.specs.declared.program.Routine.{Routine}
-use Rattle.core_program.specs.ProgramRows.{ProgramRows, routine_at}
-use Rattle.core_program.specs.State.{State, stack_end}
-use Rattle.core_program.specs.Acts.{Trouble, OutOfSteps, Limited, ActResult, Went, Stops, spent}
-use Rattle.core_program.specs.Tree.{way_of}
-use Rattle.core_program.specs.Run.{Halted, ends, after_all, opened, with_frame, without_frame, whole, in_frame, at_work, run_of}
-use Rattle.eval_ops.specs.Machines.{Moment}
-use Rattle.eval_ops.specs.Frames.{framing}
-use Rattle.eval_ops.proofs.CallsInFrames.{on_framing, in_frame_made}
-use Rattle.program_run.specs.Tower.{Rests, Ends, CallBegins, activation}
+use Rattle.std.proofs.Common.{if◌then◌else◌, ◌++◌, ◌+◌, ◌∙◌, ◌≡◌, ◌≤◌, [], ℕ, Bool, List, Some, ap, append-nil, arith, false, nat_lt, subst, sym, true}
+use Rattle.cell_value.specs.declared.{entries.Touch.Touch, values.Value.Value, ways_out.Which.TheVariants.Stack}
+use Rattle.core_program.specs.{ProgramRows.ProgramRows, ProgramRows.routine_at, State.State, State.stack_end, Tree.way_of, declared.program.Routine.Routine}
+use Rattle.core_program.specs.Acts.{ActResult, Limited, OutOfSteps, Stops, Trouble, Went, spent}
+use Rattle.core_program.specs.Run.{Halted, after_all, at_work, ends, in_frame, opened, run_of, whole, with_frame, without_frame}
+use Rattle.eval_ops.{proofs.CallsInFrames.in_frame_made, proofs.CallsInFrames.on_framing, specs.Frames.framing, specs.Machines.Moment}
+use Rattle.program_run.specs.Tower.{CallBegins, Ends, Rests, activation}
 
 -- a frame is made or not: no call is entered or left
 record Framed (σ : State) (w : List Touch) (τ : State) : Type 0 where

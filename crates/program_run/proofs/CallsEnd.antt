@@ -1,21 +1,13 @@
 -- How calls end in the code, and where no call is open.
-use Rattle.std.proofs.Common.{◌≡◌, ℕ, List, [], ◌∷◌, Option, Some, None, length, arith, map, refl, sym, ap, subst}
-use Rattle.std.specs.Prelude.{reverse}
-use Rattle.cell_value.specs.declared.values.Value.{Value}
-use Rattle.cell_value.specs.declared.ways_out.WayOut.{WayOut}
-use Rattle.cell_value.specs.declared.ways_out.WayOut.TheVariants as way
-use Rattle.core_program.specs.ProgramRows.{ProgramRows}
-use Rattle.core_program.specs.State.{State}
-use Rattle.core_program.specs.Tree.{Out, Nothing, Scalar, Jump, Ret}
-use Rattle.core_program.specs.Run.{Ended, Halted}
+use Rattle.std.proofs.Common.{◌∷◌, ◌≡◌, [], ℕ, List, None, Option, Some, ap, arith, length, map, refl, reverse, subst, sym}
+use Rattle.cell_value.specs.declared.{values.Value.Value, ways_out.WayOut.WayOut}
+use Rattle.core_program.specs.{ProgramRows.ProgramRows, Replay.end_of, Run.Ended, Run.Halted, State.State}
+use Rattle.core_program.specs.Tree.{Jump, Nothing, Out, Ret, Scalar}
 use Rattle.eval_ops.specs.Machines.{moment_of}
 use Rattle.evaluator.specs.declared.body.Body.{Body}
-use Rattle.core_program.specs.Replay.{end_of}
-use Rattle.program_run.specs.declared.open_call.OpenCall.{OpenCall}
-use Rattle.program_run.specs.declared.runner.Runner.{Runner}
-use Rattle.program_run.specs.Tower.{Rests, Ends, IsOver, stage_after}
-use Rattle.program_run.specs.Runners.{At, Chain, InnermostEnds, open_in, opens_in, rest_in, view_of}
 use Rattle.program_run.proofs.StepsLeadToTheRun.{over}
+use Rattle.program_run.specs.{Tower.Ends, Tower.IsOver, Tower.Rests, Tower.stage_after, declared.open_call.OpenCall.OpenCall, declared.runner.Runner.Runner}
+use Rattle.program_run.specs.Runners.{At, Chain, InnermostEnds, open_in, opens_in, rest_in, view_of}
 
 chain_none : (os : List OpenCall) → Chain None os → os ≡ []
 chain_none [] h = refl
@@ -43,7 +35,7 @@ module _ (p : ProgramRows) (first : State) where
     pub ending : InnermostEnds p first (Ended out) r (w, answer)
     pub is : end_of w answer ≡ Ended out
 
-  pub by_return : (r : Runner) (w : WayOut) (answer : Option Value) → w ≡ way.Returned → At p first (Ends (end_of w answer)) r → Left r w answer
+  pub by_return : (r : Runner) (w : WayOut) (answer : Option Value) → w ≡ WayOut.Returned → At p first (Ends (end_of w answer)) r → Left r w answer
   by_return r w None e h = record {
     out = Nothing;
     ending = record { ends = subst (λ v. At p first (Ends (end_of v None)) r) e h; goes_out = sym e; gives = refl };
@@ -55,7 +47,7 @@ module _ (p : ProgramRows) (first : State) where
     is = ap (λ v. end_of v (Some x)) e;
   }
 
-  pub by_jump : (r : Runner) (w : WayOut) (answer : Option Value) (label base : ℕ) → w ≡ way.Jumped label base → At p first (Ends (end_of w answer)) r
+  pub by_jump : (r : Runner) (w : WayOut) (answer : Option Value) (label base : ℕ) → w ≡ WayOut.Jumped label base → At p first (Ends (end_of w answer)) r
       → Left r w None
   by_jump r w answer label base e h = record {
     out = Jump label base;

@@ -1,21 +1,14 @@
 -- Each call that is kept of a run is told by its part of the log.
-use Rattle.std.proofs.Common.{◌≡◌, ℕ, suc, ◌+◌, ◌^◌, ◌<◌, ◌≤◌, List, [], ◌∷◌, Some, None, refl, sym, subst, length, arith}
-use Rattle.std.specs.Prelude.{All, slice_get}
+use Rattle.std.proofs.Common.{◌+◌, ◌<◌, ◌^◌, ◌∷◌, ◌≡◌, ◌≤◌, [], ℕ, All, List, None, Some, arith, length, refl, slice_get, subst, suc, sym}
 use Rattle.std.proofs.lemmas.List.Elements.{All-cons, All-head, All-nil, All-tail}
 use Rattle.std.proofs.lemmas.Option.{get_or_from_slice_get, slice_get_within}
-use Rattle.cell_value.specs.declared.entries.Touch.{Touch}
-use Rattle.cell_value.specs.Effects.{IsCountable, made_of, taken_of}
-use Rattle.call_tree.specs.Recording.{Recording}
-use Rattle.call_tree.specs.Told.{IsTold}
-use Rattle.call_tree.specs.declared.records.Call as table
-use Rattle.core_program.specs.ProgramRows.{ProgramRows}
-use Rattle.core_program.specs.Run.{Marked, Call, Outcome, input_items, run}
-use Rattle.core_program.specs.Numbering.{each_from}
-use Rattle.core_program.specs.RunLaws.{IsCounted, most_bytes}
+use Rattle.cell_value.specs.{Effects.IsCountable, Effects.made_of, Effects.taken_of, declared.entries.Touch.Touch}
 use Rattle.core_program.proofs.CallsCounted.{calls_counted}
-use Rattle.program_run.specs.declared.history.History.{History}
-use Rattle.program_run.specs.History.{IsOfRun, log_of, recording_of}
-use Rattle.program_run.specs.Table.{table_row}
+use Rattle.core_program.specs.{Numbering.each_from, ProgramRows.ProgramRows, RunLaws.IsCounted, RunLaws.most_bytes}
+use Rattle.core_program.specs.Run.{Call, Marked, Outcome, input_items, run}
+use Rattle.call_tree.specs.{Recording.Recording, Told.IsTold}
+use Rattle.call_tree.specs.declared.records.Call as table
+use Rattle.program_run.specs.{History.IsOfRun, History.log_of, History.recording_of, Table.table_row, declared.history.History.History}
 
 module _ (log : List Touch) (items bs : List ℕ) where
   row_told : (k : ℕ) (c : Marked Call) → IsCounted items log c → IsTold log items (table_row bs k c)

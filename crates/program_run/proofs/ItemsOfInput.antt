@@ -1,10 +1,9 @@
 -- The items of an input, byte by byte.
-use Rattle.std.proofs.Common.{◌≡◌, ℕ, zero, suc, ◌+◌, ◌<◌, Bool, true, false, List, [], ◌∷◌, ◌++◌, Option, Some, None, drop, slice_get, get_or, length}
-use Rattle.std.proofs.Common.{append_assoc, refl, sym, ap, ◌∙◌, append-nil, arith}
-use Rattle.std.specs.Prelude.{◌==◌, ◌&&◌, if◌then◌else◌}
+use Rattle.std.proofs.Common.{if◌then◌else◌, ◌&&◌, ◌++◌, ◌+◌, ◌<◌, ◌==◌, ◌∙◌, ◌∷◌, ◌≡◌, [], ℕ, Bool, List, None, Option, Some, ap, append-nil, append_assoc}
+use Rattle.std.proofs.Common.{arith, drop, false, get_or, length, refl, slice_get, suc, sym, true, zero}
 use Rattle.std.proofs.lemmas.Option.{slice_get-get_or}
-use Rattle.eval_ops.proofs.Lists.{drop_get}
 use Rattle.core_program.specs.Run.{input_items}
+use Rattle.eval_ops.proofs.Lists.{drop_get}
 use Rattle.program_run.specs.History.{items_at}
 
 by_tests : (b : ℕ) (xs : List ℕ) (t u : Bool) → (if t then 256 ∷ xs else if u then xs else b ∷ xs) ≡ (if t then 256 ∷ [] else if u then [] else b ∷ []) ++ xs

@@ -1,18 +1,12 @@
 -- A body gives no step back, and takes one before it tells a line.
-use Rattle.std.proofs.Common.{◌≡◌, ℕ, zero, suc, ◌+◌, ◌<◌, ◌≤◌, List, ◌++◌, Option, Some, None, subst, arith}
-use Rattle.cell_value.specs.declared.values.Value.{Value}
-use Rattle.cell_value.specs.declared.entries.Touch.{Touch}
-use Rattle.cell_value.specs.declared.ways_out.Which.{Which}
-use Rattle.core_program.specs.ProgramRows.{ProgramRows}
-use Rattle.core_program.specs.State.{State}
-use Rattle.core_program.specs.Acts.{Spend, ActResult, Went, Stops, perform, limit_passed}
-use Rattle.core_program.specs.Tree.{Out, ActTree, Ret, Halt, Meaningless, Do, Sub, Enter, Line, way_of, bind}
-use Rattle.core_program.specs.Layer.{layer}
-use Rattle.core_program.specs.Run.{Ended, Halted}
-use Rattle.core_program.proofs.ActsTakeSteps.{cost, Acted, acted}
-use Rattle.core_program.proofs.OutcomesCompose.{some_same, none_some}
+use Rattle.std.proofs.Common.{◌++◌, ◌+◌, ◌<◌, ◌≡◌, ◌≤◌, ℕ, List, None, Option, Some, arith, subst, suc, zero}
+use Rattle.cell_value.specs.declared.{entries.Touch.Touch, values.Value.Value, ways_out.Which.Which}
+use Rattle.core_program.proofs.{ActsTakeSteps.Acted, ActsTakeSteps.acted, ActsTakeSteps.cost, OutcomesCompose.none_some, OutcomesCompose.some_same}
+use Rattle.core_program.specs.{Layer.layer, ProgramRows.ProgramRows, Run.Ended, Run.Halted, State.State}
+use Rattle.core_program.specs.Acts.{ActResult, Spend, Stops, Went, limit_passed, perform}
+use Rattle.core_program.specs.Tree.{ActTree, Do, Enter, Halt, Line, Meaningless, Out, Ret, Sub, bind, way_of}
 use Rattle.eval_ops.specs.Machines.{Moment}
-use Rattle.evaluator.specs.Stops.{Stop, AtLine, AtCall, AtEnd, at_call, on_act, next_stop}
+use Rattle.evaluator.specs.Stops.{AtCall, AtEnd, AtLine, Stop, at_call, next_stop, on_act}
 
 -- the steps that are left at a stop, where there were this many before
 abbrev pub LeftAt : (before : ℕ) → Stop → (steps : ℕ) → Type 0

@@ -1,45 +1,19 @@
 -- The open calls, and what is left of them.
-use Rattle.std.proofs.Common.{◌≡◌, ℕ, zero, suc, ◌+◌, ◌-◌, List, [], ◌∷◌, ◌++◌, Some, None, length, refl, sym, ap, subst, ◌∙◌, append_assoc, append-nil}
-use Rattle.std.proofs.Common.{length-append, slice_get, slice_set, arith}
-use Rattle.std.proofs.Math.Seq.{set-append_seam, get_or-append_seam}
-use Rattle.std.proofs.lemmas.List.{map-append, length-map}
-use Rattle.std.proofs.lemmas.Option.{slice_get_read}
+use Rattle.std.proofs.Common.{◌++◌, ◌+◌, ◌-◌, ◌∙◌, ◌∷◌, ◌≡◌, [], ℕ, List, None, Some, ap, append-nil, append_assoc, arith, length, length-append, refl}
+use Rattle.std.proofs.Common.{slice_get, slice_set, subst, suc, sym, zero}
+use Rattle.std.proofs.{Math.Seq.get_or-append_seam, Math.Seq.set-append_seam, lemmas.List.length-map, lemmas.List.map-append, lemmas.Option.slice_get_read}
 use Rattle.cell_value.specs.declared.entries.Touch.{Touch}
-use Rattle.core_program.specs.ProgramRows.{ProgramRows}
-use Rattle.core_program.specs.State.{State}
-use Rattle.core_program.specs.Tree.{ActTree}
-use Rattle.core_program.specs.Run.{
-  Ended,
-  Halted,
-  End,
-  Marked,
-  Result,
-  Call,
-  Outcome,
-  later_by,
-  in_front,
-  ends,
-  on_end,
-  record_of,
-  call_closed,
-  without_frame,
-  way_out,
-  result_in,
-  plain,
-  run_of,
-}
-use Rattle.core_program.specs.Numbering.{belows, Inside}
-use Rattle.core_program.proofs.MoreDepthSameResult.{Less, less_same, in_front_less, joined_less, recorded_less, after_less, run_less, plain_grows}
-use Rattle.core_program.proofs.NestedCallsAreIntervals.{within_append, within_call}
-use Rattle.core_program.proofs.CallsOfRunsNest.{belows_later}
+use Rattle.core_program.proofs.{CallsOfRunsNest.belows_later, NestedCallsAreIntervals.within_append, NestedCallsAreIntervals.within_call}
+use Rattle.core_program.proofs.MoreDepthSameResult.{Less, after_less, in_front_less, joined_less, less_same, plain_grows, recorded_less, run_less}
 use Rattle.core_program.proofs.OutcomesCompose.{front_twice, less_then, none_some}
-use Rattle.call_tree.specs.Recording.{left, leaving}
-use Rattle.program_run.specs.Table.{side_of}
-use Rattle.program_run.specs.Tower.{Own, OpenLevel, OpenLevels, Bottom, Push, called, followed, whole_from, calls_so_far, numbers_of, logs_of, spot_of, below}
-use Rattle.program_run.specs.Tower.{call_row_at}
-use Rattle.program_run.specs.Tower.{rows_at}
-use Rattle.program_run.specs.Tower.{opened_row, first_spot, rows_of, recording_at, LevelsFit, Open, open_of, opens_of, left_inside, stage_after}
-use Rattle.program_run.proofs.RowsInParts.{rows_append, rows_call, rows_moved, length_each, further}
+use Rattle.core_program.specs.{Numbering.Inside, Numbering.belows, ProgramRows.ProgramRows, State.State, Tree.ActTree}
+use Rattle.core_program.specs.Run.{Call, End, Ended, Halted, Marked, Outcome, Result, call_closed, ends, in_front, later_by, on_end, plain, record_of}
+use Rattle.core_program.specs.Run.{result_in, run_of, way_out, without_frame}
+use Rattle.call_tree.specs.Recording.{leaving, left}
+use Rattle.program_run.proofs.RowsInParts.{further, length_each, rows_append, rows_call, rows_moved}
+use Rattle.program_run.specs.{Table.side_of, Tower.whole_from}
+use Rattle.program_run.specs.Tower.{Bottom, LevelsFit, Open, OpenLevel, OpenLevels, Own, Push, below, call_row_at, called, calls_so_far, first_spot, followed}
+use Rattle.program_run.specs.Tower.{left_inside, logs_of, numbers_of, open_of, opened_row, opens_of, recording_at, rows_at, rows_of, spot_of, stage_after}
 
 -- ---- what is left
 

@@ -1,16 +1,13 @@
 -- The rows of calls, in parts.
-use Rattle.std.proofs.Common.{◌≡◌, ℕ, zero, suc, ◌+◌, ◌<◌, ◌≤◌, Bool, true, false, cond, List, [], ◌∷◌, ◌++◌, Option, Some, None, length, get_or, nat_le, refl}
-use Rattle.std.proofs.Common.{sym, ap, ◌∙◌, arith}
-use Rattle.std.proofs.Math.ListN.{get_or-append}
-use Rattle.std.proofs.lemmas.Bool.{le-leb, lt-leb}
-use Rattle.std.proofs.lemmas.List.{get_or-append-add, map-append, length-map}
+use Rattle.std.proofs.Common.{◌++◌, ◌+◌, ◌<◌, ◌∙◌, ◌∷◌, ◌≡◌, ◌≤◌, [], ℕ, Bool, List, None, Option, Some, ap, arith, cond, false, get_or, length, nat_le, refl}
+use Rattle.std.proofs.{Common.suc, Common.sym, Common.true, Common.zero, Math.ListN.get_or-append}
+use Rattle.std.proofs.lemmas.{Bool.le-leb, Bool.lt-leb, List.get_or-append-add, List.length-map, List.map-append}
+use Rattle.core_program.proofs.{CallsOfRunsNest.belows_later, NestedCallsAreIntervals.count_same, NestedCallsAreIntervals.same_test}
+use Rattle.core_program.specs.Numbering.{Inside, belows, count, each_from, greatest, is_below, parent_of}
+use Rattle.core_program.specs.Run.{Call, Marked, later_by}
 use Rattle.call_tree.specs.declared.records.Call as table
-use Rattle.core_program.specs.Run.{Marked, Call, later_by}
-use Rattle.core_program.specs.Numbering.{greatest, count, belows, is_below, parent_of, each_from, Inside}
-use Rattle.core_program.proofs.NestedCallsAreIntervals.{same_test, count_same}
-use Rattle.core_program.proofs.CallsOfRunsNest.{belows_later}
 use Rattle.program_run.specs.Table.{row_with, table_of}
-use Rattle.program_run.specs.Tower.{RowSpot, below, first_spot, parent_at, call_row_at, rows_at}
+use Rattle.program_run.specs.Tower.{RowSpot, below, call_row_at, first_spot, parent_at, rows_at}
 
 pub greatest_same : (p q : ℕ → Bool) (n : ℕ) → ((j : ℕ) → j < n → p j ≡ q j) → greatest p n ≡ greatest q n
 greatest_same p q zero h = refl

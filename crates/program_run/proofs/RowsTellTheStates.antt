@@ -1,28 +1,18 @@
 -- What the rows of the calls of a run tell of the states before the calls.
-use Rattle.std.proofs.Common.{◌≡◌, ℕ, zero, suc, ◌+◌, ◌-◌, ◌≤◌, List, [], ◌∷◌, ◌++◌, Some, refl, sym, ap, subst, ◌∙◌, append_assoc, append-nil, length}
-use Rattle.std.proofs.Common.{arith}
-use Rattle.std.specs.List.{slice_get}
-use Rattle.std.proofs.lemmas.Bool.Decides.{nat_tests}
-use Rattle.std.proofs.lemmas.List.{map-append, length-map}
-use Rattle.cell_value.specs.declared.values.Value.{Value}
-use Rattle.cell_value.specs.declared.entries.Touch.{Touch}
-use Rattle.cell_value.specs.Effects.{given_of}
-use Rattle.call_tree.specs.declared.records.Call as table
-use Rattle.core_program.specs.ProgramRows.{ProgramRows}
-use Rattle.core_program.specs.State.{State, IsSound}
-use Rattle.core_program.specs.Acts.{Spend}
-use Rattle.core_program.specs.Tree.{ActTree}
-use Rattle.core_program.specs.Run.{Marked, Result, Call, later_by, record_of}
-use Rattle.core_program.specs.Numbering.{belows, each_from, Inside}
-use Rattle.core_program.proofs.CallsOfRunsNest.{belows_later}
-use Rattle.core_program.proofs.NestedCallsAreIntervals.{within_append, within_call}
-use Rattle.core_program.proofs.OutcomesCompose.{some_same, none_some}
+use Rattle.std.proofs.Common.{◌++◌, ◌+◌, ◌-◌, ◌∙◌, ◌∷◌, ◌≡◌, ◌≤◌, [], ℕ, List, Some, ap, append-nil, append_assoc, arith, length, refl, subst, suc, sym, zero}
+use Rattle.std.{proofs.lemmas.Bool.Decides.nat_tests, proofs.lemmas.List.length-map, proofs.lemmas.List.map-append, specs.List.slice_get}
+use Rattle.cell_value.specs.{Effects.given_of, declared.entries.Touch.Touch, declared.values.Value.Value}
+use Rattle.core_program.proofs.{CallsOfRunsNest.belows_later, NestedCallsAreIntervals.within_append, NestedCallsAreIntervals.within_call}
+use Rattle.core_program.proofs.{OutcomesCompose.none_some, OutcomesCompose.some_same, Ways.Ran, Ways.RanCall, Ways.RanFrame, Ways.of_call}
 use Rattle.core_program.proofs.ActsLeave.{Leaves, MayEnter, leaves_same, limits_hold}
+use Rattle.core_program.proofs.RunsLeave.{act_left, call_leaves, ran_leaves, sound_framed, sound_opened}
 use Rattle.core_program.proofs.Ways as ways
-use Rattle.core_program.proofs.Ways.{of_call, Ran, RanFrame, RanCall}
-use Rattle.core_program.proofs.RunsLeave.{act_left, sound_framed, sound_opened, ran_leaves, call_leaves}
+use Rattle.core_program.specs.{Acts.Spend, ProgramRows.ProgramRows, State.IsSound, State.State, Tree.ActTree}
+use Rattle.core_program.specs.Numbering.{Inside, belows, each_from}
+use Rattle.core_program.specs.Run.{Call, Marked, Result, later_by, record_of}
+use Rattle.call_tree.specs.declared.records.Call as table
+use Rattle.program_run.proofs.RowsInParts.{further, later, rows_append, rows_call, rows_moved}
 use Rattle.program_run.specs.Tower.{RowSpot, rows_at}
-use Rattle.program_run.proofs.RowsInParts.{rows_append, rows_moved, rows_call, further, later}
 
 -- A row tells the depth at which its call was entered; and the call was entered with at most this many steps left, after
 -- a beginning of this output.

@@ -1,23 +1,14 @@
 -- What the steps of a runner do with its open calls.
-use Rattle.std.proofs.Common.{◌≡◌, ℕ, ◌<◌, List, [], ◌∷◌, ◌++◌, Option, Some, None, length, map, sym, ap, subst, ◌∙◌, arith, length-append}
-use Rattle.std.specs.Prelude.{reverse, OnOk, Result, Ok, Err}
-use Rattle.std.proofs.Common.{◌+◌}
-use Rattle.std.proofs.lemmas.List.{reverse-append}
-use Rattle.cell_value.specs.declared.values.Value.{Value}
-use Rattle.cell_value.specs.declared.ways_out.WayOut.{WayOut}
+use Rattle.std.proofs.Common.{◌++◌, ◌+◌, ◌<◌, ◌∙◌, ◌∷◌, ◌≡◌, [], ℕ, Err, List, None, Ok, OnOk, Option, Result, Some, ap, arith, length, length-append, map}
+use Rattle.std.proofs.{Common.reverse, Common.subst, Common.sym, lemmas.List.reverse-append}
+use Rattle.cell_value.specs.declared.{values.Value.Value, ways_out.WayOut.WayOut}
+use Rattle.core_program.specs.{ProgramRows.ProgramRows, State.State, Tree.ActTree, Tree.Out}
 use Rattle.call_tree.specs.Recording.{Recording, entered}
-use Rattle.core_program.specs.ProgramRows.{ProgramRows}
-use Rattle.core_program.specs.State.{State}
-use Rattle.core_program.specs.Tree.{Out, ActTree}
 use Rattle.eval_ops.specs.Machines.{Moment}
-use Rattle.evaluator.specs.Stops.{Stop, NextStopIs}
-use Rattle.program_run.specs.declared.open_call.OpenCall.{OpenCall}
-use Rattle.program_run.specs.Table.{side_of}
-use Rattle.program_run.specs.Tower.{Activation, Calls, View, TowerAt, CallBegins}
-use Rattle.program_run.specs.Runners.{CallBegun, Invocation, open_in}
-use Rattle.program_run.proofs.ActsKeepCalls.{onward}
-use Rattle.program_run.proofs.LinesTakeSteps.{LeftAt, left_at_stop}
-use Rattle.program_run.proofs.StepsLeadToTheRun.{climb_enter}
+use Rattle.evaluator.specs.Stops.{NextStopIs, Stop}
+use Rattle.program_run.proofs.{ActsKeepCalls.onward, LinesTakeSteps.LeftAt, LinesTakeSteps.left_at_stop, StepsLeadToTheRun.climb_enter}
+use Rattle.program_run.specs.{Runners.CallBegun, Runners.Invocation, Runners.open_in, Table.side_of, declared.open_call.OpenCall.OpenCall}
+use Rattle.program_run.specs.Tower.{Activation, CallBegins, Calls, TowerAt, View}
 
 -- an open call more
 pub pushed : (p : ProgramRows) (xs ys : List OpenCall) (o : OpenCall) → ys ≡ xs ++ o ∷ []

@@ -1,17 +1,13 @@
 -- What is left once no call is open is the run of the program.
-use Rattle.std.proofs.Common.{◌≡◌, ℕ, List, [], ◌∷◌, Some, length, refl, sym, ap, subst, ◌∙◌}
-use Rattle.cell_value.specs.declared.values.Value.{Value}
-use Rattle.cell_value.specs.declared.values.Value.TheVariants.{Nil}
-use Rattle.core_program.specs.ProgramRows.{ProgramRows}
-use Rattle.core_program.specs.WholeTables.{WholeTables}
-use Rattle.core_program.specs.Tree.{Ret}
-use Rattle.core_program.specs.Run.{run, start}
+use Rattle.std.proofs.Common.{◌∙◌, ◌∷◌, ◌≡◌, [], ℕ, List, Some, ap, length, refl, subst, sym}
+use Rattle.cell_value.specs.declared.values.Value.{Value, TheVariants.Nil}
 use Rattle.core_program.proofs.RunAtAnyDepth.{run_is}
+use Rattle.core_program.specs.{ProgramRows.ProgramRows, Run.run, Run.start, Tree.Ret, WholeTables.WholeTables}
 use Rattle.call_tree.specs.Recording.{Recording, nothing_entered}
 use Rattle.eval_ops.specs.Machines.{Moment}
-use Rattle.program_run.specs.History.{first_state, recording_of, log_of, output_of}
-use Rattle.program_run.specs.Tower.{Calls, View, TowerAt, IsOver}
 use Rattle.program_run.proofs.StepsLeadToTheRun.{at_first}
+use Rattle.program_run.specs.History.{first_state, log_of, output_of, recording_of}
+use Rattle.program_run.specs.Tower.{Calls, IsOver, TowerAt, View}
 
 -- no call is entered yet
 pub record Starts (p : ProgramRows) (items : List ℕ) (budget : ℕ) (v : View) : Type 0 where

@@ -1,52 +1,20 @@
 -- How the open calls change, from stop to stop.
-use Rattle.std.proofs.Common.{◌≡◌, ℕ, suc, ◌-◌, List, [], ◌∷◌, ◌++◌, Some, None, length, refl, sym, ap, subst, ◌∙◌, append-nil, arith}
-use Rattle.cell_value.specs.declared.values.Value.TheVariants.{Nil}
-use Rattle.cell_value.specs.declared.entries.Touch.{Touch}
-use Rattle.core_program.specs.ProgramRows.{ProgramRows}
-use Rattle.core_program.specs.State.{State}
-use Rattle.core_program.specs.Acts.{limit_passed}
-use Rattle.core_program.specs.Tree.{Out, ActTree, Ret}
-use Rattle.core_program.specs.Run.{End, Result, Call, Outcome, in_front, ends, joined, if_allowed, recorded, after_all, call_closed, without_frame, call_of}
-use Rattle.core_program.specs.Run.{way_out, result_in}
-use Rattle.core_program.specs.Run.{plain, run_of}
-use Rattle.core_program.proofs.MoreDepthSameResult.{Less, less_same, joined_less, run_less, plain_grows}
-use Rattle.core_program.proofs.OutcomesCompose.{front_nothing, less_then, less_is}
-use Rattle.call_tree.specs.Recording.{Recording, nothing_entered, entered, left, new_call}
+use Rattle.std.proofs.Common.{◌++◌, ◌-◌, ◌∙◌, ◌∷◌, ◌≡◌, [], ℕ, List, None, Some, ap, append-nil, arith, length, refl, subst, suc, sym}
+use Rattle.cell_value.specs.declared.{entries.Touch.Touch, values.Value.TheVariants.Nil}
+use Rattle.core_program.proofs.MoreDepthSameResult.{Less, joined_less, less_same, plain_grows, run_less}
+use Rattle.core_program.proofs.OutcomesCompose.{front_nothing, less_is, less_then}
+use Rattle.core_program.specs.{Acts.limit_passed, ProgramRows.ProgramRows, State.State, Tree.ActTree, Tree.Out, Tree.Ret}
+use Rattle.core_program.specs.Run.{Call, End, Outcome, Result, after_all, call_closed, call_of, ends, if_allowed, in_front, joined, plain, recorded, result_in}
+use Rattle.core_program.specs.Run.{run_of, way_out, without_frame}
+use Rattle.call_tree.specs.Recording.{Recording, entered, left, new_call, nothing_entered}
 use Rattle.eval_ops.specs.Machines.{Moment}
-use Rattle.evaluator.specs.Stops.{Stop, AtLine, AtCall, AtEnd, NextStopIs}
-use Rattle.program_run.specs.Table.{side_of}
-use Rattle.program_run.specs.Tower.{OpenLevel, OpenLevels, Bottom, Push, called, followed, whole_from, Stage, Rests, Calls, Ends, stage_of, stage_after}
-use Rattle.program_run.specs.Tower.{left_inside, Leads}
-use Rattle.program_run.specs.Tower.{calls_so_far, numbers_of, logs_of, rows_of, recording_at, LevelsFit, Open, open_of, opens_of, View, TowerAt, Activation}
-use Rattle.program_run.specs.Tower.{CallBegins}
-use Rattle.program_run.specs.Tower.{IsOver}
-use Rattle.program_run.proofs.RowsInParts.{rows_whole}
-use Rattle.program_run.proofs.StopsLeadOn.{finish, IsLens, runs}
-use Rattle.program_run.proofs.ActsKeepCalls.{onward}
-use Rattle.program_run.proofs.OpenCalls.{
-  whole_more,
-  whole_some,
-  front_some,
-  more,
-  more_comm,
-  run_more,
-  done,
-  whole_done,
-  logs_done,
-  numbers_done,
-  opens_done,
-  size_done,
-  fits_more,
-  lengths_same,
-  rows_length,
-  rows_done,
-  ended,
-  call_ends,
-  recording_left,
-  fits_ended,
-  Top,
-  top_of,
-}
+use Rattle.evaluator.specs.Stops.{AtCall, AtEnd, AtLine, NextStopIs, Stop}
+use Rattle.program_run.proofs.{ActsKeepCalls.onward, RowsInParts.rows_whole, StopsLeadOn.IsLens, StopsLeadOn.finish, StopsLeadOn.runs}
+use Rattle.program_run.proofs.OpenCalls.{Top, call_ends, done, ended, fits_ended, fits_more, front_some, lengths_same, logs_done, more, more_comm, numbers_done}
+use Rattle.program_run.proofs.OpenCalls.{opens_done, recording_left, rows_done, rows_length, run_more, size_done, top_of, whole_done, whole_more, whole_some}
+use Rattle.program_run.specs.{Table.side_of, Tower.stage_after, Tower.stage_of, Tower.whole_from}
+use Rattle.program_run.specs.Tower.{Activation, Bottom, CallBegins, Calls, Ends, IsOver, Leads, LevelsFit, Open, OpenLevel, OpenLevels, Push, Rests, Stage}
+use Rattle.program_run.specs.Tower.{TowerAt, View, called, calls_so_far, followed, left_inside, logs_of, numbers_of, open_of, opens_of, recording_at, rows_of}
 
 plain_lens : (p : ProgramRows) → IsLens (plain p)
 plain_lens p = record { set_get = λ σ τ. refl; get_set = λ σ. refl; set_set = λ σ τ υ. refl }

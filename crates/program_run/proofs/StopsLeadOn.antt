@@ -1,19 +1,14 @@
 -- From a tree's next stop on, its run is the rest's.
-use Rattle.std.proofs.Common.{◌≡◌, ℕ, zero, suc, List, [], ◌++◌, Option, Some, None, refl, sym, ap, ◌∙◌, append_assoc, append-nil}
-use Rattle.cell_value.specs.declared.values.Value.{Value}
-use Rattle.cell_value.specs.declared.entries.Touch.{Touch}
-use Rattle.cell_value.specs.declared.ways_out.WayOut.TheVariants as way
-use Rattle.cell_value.specs.declared.ways_out.Which.{Which}
-use Rattle.core_program.specs.ProgramRows.{ProgramRows}
-use Rattle.core_program.specs.State.{State}
-use Rattle.core_program.specs.Acts.{Act, Answer, Spend, ActResult, Went, Stops, perform, limit_passed}
-use Rattle.core_program.specs.Tree.{Out, ActTree, Ret, Halt, Meaningless, Do, Sub, Enter, Line, way_of, bind}
-use Rattle.core_program.specs.Layer.{layer}
-use Rattle.core_program.specs.Run.{Ended, Halted, Result, Rules, in_front, ends, joined, on_done, if_allowed, within}
-use Rattle.core_program.proofs.MoreDepthSameResult.{Less, Grows, run_less, joined_less, less_same, in_front_less}
+use Rattle.std.proofs.Common.{◌++◌, ◌∙◌, ◌≡◌, [], ℕ, List, None, Option, Some, ap, append-nil, append_assoc, refl, suc, sym, zero}
+use Rattle.cell_value.specs.declared.{entries.Touch.Touch, values.Value.Value, ways_out.WayOut.WayOut, ways_out.Which.Which}
+use Rattle.core_program.proofs.MoreDepthSameResult.{Grows, Less, in_front_less, joined_less, less_same, run_less}
+use Rattle.core_program.proofs.OutcomesCompose.{front_nothing, front_twice, less_is, less_then, none_some, some_same, walk_bind}
+use Rattle.core_program.specs.{Layer.layer, ProgramRows.ProgramRows, State.State}
+use Rattle.core_program.specs.Acts.{Act, ActResult, Answer, Spend, Stops, Went, limit_passed, perform}
+use Rattle.core_program.specs.Run.{Ended, Halted, Result, Rules, ends, if_allowed, in_front, joined, on_done, within}
+use Rattle.core_program.specs.Tree.{ActTree, Do, Enter, Halt, Line, Meaningless, Out, Ret, Sub, bind, way_of}
 use Rattle.eval_ops.specs.Machines.{Moment}
-use Rattle.evaluator.specs.Stops.{Stop, AtLine, AtCall, AtEnd, at_call, on_act, next_stop}
-use Rattle.core_program.proofs.OutcomesCompose.{front_nothing, front_twice, walk_bind, some_same, none_some, less_then, less_is}
+use Rattle.evaluator.specs.Stops.{AtCall, AtEnd, AtLine, Stop, at_call, next_stop, on_act}
 
 -- a call that passes no limit, and what follows it
 abbrev pub met : {S E : Type 0} → Rules S E → ProgramRows → ℕ → ℕ → List Value → (Out → ActTree) → S → Option (Result S E)
@@ -124,7 +119,7 @@ module _ {S E : Type 0} (rules : Rules S E) (grows : Grows rules) (lens : IsLens
   runs_call p f cells args next s l stop m' n r None e h g = runs_stop p (Enter f cells args next) s l (AtCall f args next) stop m' n r
       (less_then (less_is (sym (met_is p n f cells args next s e))) (run_less rules grows p n (Enter f cells args next) s)) h g
   runs_call p f cells args next s l stop m' n r (Some which) e h g =
-      runs_stop p (Enter f cells args next) s l (AtEnd (Halted (way.Limited which))) stop m' n r
+      runs_stop p (Enter f cells args next) s l (AtEnd (Halted (WayOut.Limited which))) stop m' n r
       (less_is (sym (ap (λ o. if_allowed o s (met rules p (suc n) f args next s)) e))) h g
 
   pub runs : (p : ProgramRows) (k : ℕ) (t : ActTree) (s : S) (σ : State) (l : List Touch) (n : ℕ) (stop : Stop) (m' : Moment) (r : Result S E)

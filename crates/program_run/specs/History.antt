@@ -1,14 +1,11 @@
 -- What is kept of a run.
-use Rattle.std.specs.Prelude.{◌≡◌, ℕ, List, [], ◌∷◌, ◌&&◌, ◌==◌, Option, Some, None, length, if◌then◌else◌}
+use Rattle.std.specs.Prelude.{if◌then◌else◌, ◌&&◌, ◌==◌, ◌∷◌, ◌≡◌, [], ℕ, List, None, Option, Some, length}
 use Rattle.std.specs.FinMap.{empty}
 use Rattle.cell_value.specs.declared.entries.Touch.{Touch}
-use Rattle.call_tree.specs.Recording.{Recording}
-use Rattle.core_program.specs.ProgramRows.{ProgramRows}
-use Rattle.core_program.specs.State.{State, stack_end}
+use Rattle.core_program.specs.{Numbering.calls_of, ProgramRows.ProgramRows, State.State, State.stack_end}
 use Rattle.core_program.specs.Run.{Outcome, input_items, run}
-use Rattle.core_program.specs.Numbering.{calls_of}
-use Rattle.program_run.specs.declared.history.History.{History}
-use Rattle.program_run.specs.Table.{table_of}
+use Rattle.call_tree.specs.Recording.{Recording}
+use Rattle.program_run.specs.{Table.table_of, declared.history.History.History}
 
 -- what is recorded of the calls of a run of a program, of which none is open
 abbrev pub recording_of : ProgramRows → Outcome → Recording

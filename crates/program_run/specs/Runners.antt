@@ -1,18 +1,13 @@
 -- What a runner stands for, and what its steps do.
-use Rattle.std.specs.Prelude.{◌≡◌, ℕ, ◌<◌, List, [], ◌∷◌, Option, Some, None, length, map, reverse, ◌+◌, ◌-◌, ◌*◌}
-use Rattle.cell_value.specs.declared.values.Value.{Value}
-use Rattle.cell_value.specs.declared.ways_out.WayOut.{WayOut}
+use Rattle.std.specs.Prelude.{◌*◌, ◌+◌, ◌-◌, ◌<◌, ◌∷◌, ◌≡◌, [], ℕ, List, None, Option, Some, length, map, reverse}
+use Rattle.cell_value.specs.declared.{values.Value.Value, ways_out.WayOut.WayOut}
+use Rattle.core_program.specs.{ProgramRows.ProgramRows, State.State, Tree.ActTree, Tree.Out, Tree.Ret}
+use Rattle.core_program.specs.Run.{End, Halted, result_in, way_out, whole}
 use Rattle.core_program.specs.declared.program.Routine.{Routine}
-use Rattle.core_program.specs.ProgramRows.{ProgramRows}
-use Rattle.core_program.specs.State.{State}
-use Rattle.core_program.specs.Tree.{Out, ActTree, Ret}
-use Rattle.core_program.specs.Run.{End, Halted, whole, way_out, result_in}
 use Rattle.eval_ops.specs.Machines.{IsReady, Moment, moment_of}
-use Rattle.evaluator.specs.declared.body.Body.{Body}
-use Rattle.evaluator.specs.Rest.{rest_of, waiting}
-use Rattle.program_run.specs.declared.open_call.OpenCall.{OpenCall}
-use Rattle.program_run.specs.declared.runner.Runner.{Runner}
-use Rattle.program_run.specs.Tower.{Stage, Rests, Ends, Open, View, TowerAt, CallBegins, IsOver, activation}
+use Rattle.evaluator.specs.{Rest.rest_of, Rest.waiting, declared.body.Body.Body}
+use Rattle.program_run.specs.Tower.{CallBegins, Ends, IsOver, Open, Rests, Stage, TowerAt, View, activation}
+use Rattle.program_run.specs.declared.{open_call.OpenCall.OpenCall, runner.Runner.Runner}
 
 -- what is done after a call, by its caller
 abbrev pub rest_in : ProgramRows → Option Body → Out → ActTree

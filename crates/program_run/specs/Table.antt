@@ -1,10 +1,9 @@
 -- The calls of a run as a table keeps them.
-use Rattle.std.specs.Prelude.{ℕ, ◌+◌, List, Option, length}
-use Rattle.call_tree.specs.declared.records.Side.{Side}
+use Rattle.std.specs.Prelude.{◌+◌, ℕ, List, Option, length}
+use Rattle.core_program.specs.{Run.Call, Run.Marked, State.State}
+use Rattle.core_program.specs.Numbering.{belows, depth_of, each_from, last_below, parent_of}
 use Rattle.call_tree.specs.declared.records.Call as table
-use Rattle.core_program.specs.State.{State}
-use Rattle.core_program.specs.Run.{Marked, Call}
-use Rattle.core_program.specs.Numbering.{belows, parent_of, depth_of, last_below, each_from}
+use Rattle.call_tree.specs.declared.records.Side.{Side}
 
 -- what is kept of a state beside a call, at a mark of the log
 abbrev pub side_of : (mark : ℕ) → State → Side

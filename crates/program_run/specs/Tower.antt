@@ -1,54 +1,16 @@
 -- Open calls over one another, and the run that they are part of.
-use Rattle.std.specs.Prelude.{
-  ◌≡◌,
-  ◌≤◌,
-  ℕ,
-  suc,
-  ◌+◌,
-  List,
-  [],
-  ◌∷◌,
-  ◌++◌,
-  Option,
-  Some,
-  None,
-  length,
-  slice_get,
-}
-use Rattle.cell_value.specs.declared.values.Value.{Value}
-use Rattle.cell_value.specs.declared.entries.Touch.{Touch}
-use Rattle.call_tree.specs.declared.records.Call as table
-use Rattle.call_tree.specs.Recording.{Recording, new_call}
+use Rattle.std.specs.Prelude.{◌++◌, ◌+◌, ◌∷◌, ◌≡◌, ◌≤◌, [], ℕ, List, None, Option, Some, length, slice_get, suc}
+use Rattle.cell_value.specs.declared.{entries.Touch.Touch, values.Value.Value}
+use Rattle.core_program.specs.{Run.without_frame, State.State, Tree.ActTree, Tree.Out}
+use Rattle.core_program.specs.Numbering.{Inside, belows, depth_of, each_from, last_below, parent_of}
 use Rattle.core_program.specs.ProgramRows.{ProgramRows, routine_at}
-use Rattle.core_program.specs.State.{State}
-use Rattle.core_program.specs.Tree.{Out, ActTree}
-use Rattle.core_program.specs.Run.{
-  End,
-  Ended,
-  Halted,
-  Marked,
-  Result,
-  Call,
-  Outcome,
-  in_front,
-  ends,
-  joined,
-  recorded,
-  after_all,
-  call_closed,
-  without_frame,
-  opened,
-  in_frame,
-  at_work,
-  call_of,
-  run_of,
-  block,
-}
-use Rattle.core_program.specs.Numbering.{belows, parent_of, depth_of, last_below, each_from, Inside}
+use Rattle.core_program.specs.Run.{Call, End, Ended, Halted, Marked, Outcome, Result, after_all, at_work, block}
+use Rattle.core_program.specs.Run.{call_closed, call_of, ends, in_frame, in_front, joined, opened, recorded, run_of}
+use Rattle.call_tree.specs.Recording.{Recording, new_call}
+use Rattle.call_tree.specs.declared.records.Call as table
 use Rattle.eval_ops.specs.Machines.{Moment}
-use Rattle.evaluator.specs.Stops.{Stop, AtLine, AtCall, AtEnd}
-use Rattle.program_run.specs.Table.{side_of, row_with}
-use Rattle.program_run.specs.History.{recording_of}
+use Rattle.evaluator.specs.Stops.{AtCall, AtEnd, AtLine, Stop}
+use Rattle.program_run.specs.{History.recording_of, Table.row_with, Table.side_of}
 
 -- what a body has done so far: its part of the log, and the calls below it, whose marks are counted from there on
 pub record Own : Type 0 where

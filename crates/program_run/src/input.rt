@@ -1,6 +1,6 @@
 //! The items of an input.
 
-ghost use Rattle.std.specs.Prelude.{◌≡◌, ◌+◌, ◌<◌, ◌≤◌, ◌++◌, IfOk, OnOk, length, slice_get};
+ghost use Rattle.std.specs.Prelude.{◌++◌, ◌+◌, ◌<◌, ◌≡◌, ◌≤◌, IfOk, OnOk, length, slice_get};
 ghost use Rattle.core_program.specs.Run as meaning;
 ghost use Rattle.program_run.specs.History.{items_at};
 

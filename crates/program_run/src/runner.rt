@@ -1,19 +1,14 @@
 //! The runner: it runs a program with the open calls in a list.
 
-ghost use Rattle.std.specs.Prelude.{◌≡◌, ℕ, ◌+◌, ◌<◌, ◌≤◌, IfOk, OnOk, IsSome, Some, None, Option, length};
+ghost use Rattle.std.specs.Prelude.{◌+◌, ◌<◌, ◌≡◌, ◌≤◌, ℕ, IfOk, IsSome, None, OnOk, Option, Some, length};
+ghost use Rattle.core_program.specs.{ProgramRows.ProgramRows, ProgramRows.routine_at, Replay.end_of, Run.End};
+ghost use Rattle.core_program.specs.{Run.Ended, Run.Halted, State.State, State.stack_end, Tree.Out};
 ghost use Rattle.core_program.specs.declared.program.Routine as table;
-ghost use Rattle.core_program.specs.ProgramRows.{ProgramRows, routine_at};
-ghost use Rattle.core_program.specs.State.{State, stack_end};
-ghost use Rattle.core_program.specs.Run.{End, Ended, Halted};
-ghost use Rattle.core_program.specs.Tree.{Out};
 ghost use Rattle.eval_ops.specs.Machines.{AllowsCall, IsReady, machine_state, moment_of};
 ghost use Rattle.evaluator.specs.declared.body.Body as bodies;
-ghost use Rattle.core_program.specs.Replay.{end_of};
-ghost use Rattle.program_run.specs.Table.{side_of};
-ghost use Rattle.program_run.specs.Tower.{Calls as Calling, Ends, IsOver, stage_after};
+ghost use Rattle.program_run.specs.{Runners.rest_in, Runners.work_left, Table.side_of};
 ghost use Rattle.program_run.specs.Runners.{At, AtRest, CallBegun, Chain, InnermostEnds, IsWell, invocation, opens_in};
-ghost use Rattle.program_run.specs.Runners.{rest_in};
-ghost use Rattle.program_run.specs.Runners.{work_left};
+ghost use Rattle.program_run.specs.Tower.{Calls as Calling, Ends, IsOver, stage_after};
 
 use crate::open_call::OpenCall;
 use call_tree::{Calls, Side};

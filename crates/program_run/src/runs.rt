@@ -1,8 +1,8 @@
 //! The run of a program.
 
-ghost use Rattle.std.specs.Prelude.{◌≡◌, ◌<◌, ◌≤◌, [], IfOk, IsSome, length};
-ghost use Rattle.core_program.specs.Run as meaning;
+ghost use Rattle.std.specs.Prelude.{◌<◌, ◌≡◌, ◌≤◌, [], IfOk, IsSome, length};
 ghost use Rattle.core_program.specs.ProgramRows.{routine_at};
+ghost use Rattle.core_program.specs.Run as meaning;
 ghost use Rattle.eval_ops.specs.Machines.{IsReady, machine_state, moment_of};
 ghost use Rattle.program_run.specs.History.{first_state, log_of, output_of, recording_of};
 ghost use Rattle.program_run.specs.Tower.{IsOver};

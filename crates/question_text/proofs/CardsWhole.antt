@@ -1,15 +1,10 @@
 -- A card from its first line and its other lines.
-use Rattle.std.proofs.Common.{◌≡◌, ℕ, ◌≤◌, List, [], ◌++◌, length, Option, Some, slice_get, sym, ap, ◌∙◌, append_assoc}
+use Rattle.std.proofs.Common.{◌++◌, ◌∙◌, ◌≡◌, ◌≤◌, [], ℕ, List, Option, Some, ap, append_assoc, length, slice_get, sym}
 use Rattle.std.proofs.lemmas.Option.{slice_get_past}
-use Rattle.call_tree.specs.declared.records.Call.{Call}
-use Rattle.call_tree.specs.Recording.{routines_of}
-use Rattle.cell_names.specs.declared.places.PlacedPart.{PlacedPart}
-use Rattle.cell_names.specs.Places.{finds}
-use Rattle.cell_names.specs.Finding.{Finding, finding_of}
-use Rattle.cell_names.specs.Names.{Scene}
+use Rattle.call_tree.specs.{Recording.routines_of, declared.records.Call.Call}
+use Rattle.cell_names.specs.{Finding.Finding, Finding.finding_of, Names.Scene, Places.finds, declared.places.PlacedPart.PlacedPart}
+use Rattle.question_text.specs.{Frames.opened_from, Lines.call_line}
 use Rattle.question_text.specs.Cards.{Recorded, card, card_by, card_lines, scene_of}
-use Rattle.question_text.specs.Frames.{opened_from}
-use Rattle.question_text.specs.Lines.{call_line}
 
 -- what names stand on, by its parts
 abbrev pub scene_by : Recorded → Finding → List ℕ → (ℕ → Option PlacedPart) → Scene

@@ -1,16 +1,11 @@
 -- The cells that a name names, one address after another.
-use Rattle.std.proofs.Common.{◌≡◌, ℕ, zero, suc, ◌+◌, ◌-◌, ◌<◌, ◌≤◌, Bool, true, false, ◌||◌, List, [], ◌++◌, refl, sym, ap, ◌∙◌, arith}
-use Rattle.std.proofs.Common.{append_assoc, append-nil}
-use Rattle.std.specs.Prelude.{flat_map, is_some, nat_lt, Option, Some, None, ◌&&◌, if◌then◌else◌}
-use Rattle.std.specs.List.{list_any, range_with_len}
+use Rattle.std.proofs.Common.{if◌then◌else◌, ◌&&◌, ◌++◌, ◌+◌, ◌-◌, ◌<◌, ◌||◌, ◌∙◌, ◌≡◌, ◌≤◌, [], ℕ, Bool, List, None, Option, Some, ap, append-nil}
+use Rattle.std.proofs.Common.{append_assoc, arith, false, flat_map, is_some, nat_lt, refl, suc, sym, true, zero}
+use Rattle.std.{proofs.lemmas.Bool.Decides.nat_tests, specs.List.list_any, specs.List.range_with_len}
 use Rattle.call_tree.specs.declared.records.Call.{Call}
-use Rattle.std.proofs.lemmas.Bool.Decides.{nat_tests}
-use Rattle.cell_names.specs.declared.names.Root.{Root}
-use Rattle.cell_names.specs.Names.{Scene, root_at}
-use Rattle.cell_names.specs.NamedBy.{is_named_by}
-use Rattle.cell_names.specs.Walks.{is_named_at, is_named_root}
-use Rattle.question_text.specs.declared.states.CellSides.{CellSides}
+use Rattle.cell_names.specs.{NamedBy.is_named_by, Names.Scene, Names.root_at, Walks.is_named_at, Walks.is_named_root, declared.names.Root.Root}
 use Rattle.question_text.specs.States.{cell_at, if_cell, is_between, is_cell, line_at, line_by, lines_between, named_root, sides_at}
+use Rattle.question_text.specs.declared.states.CellSides.{CellSides}
 
 or_assoc : (a b c : Bool) → ((a || b) || c) ≡ (a || (b || c))
 or_assoc true b c = refl

@@ -1,16 +1,11 @@
 -- The frames of open calls, from one on outward.
-use Rattle.std.proofs.Common.{◌≡◌, ℕ, zero, suc, ◌+◌, ◌-◌, ◌<◌, ◌≤◌, true, false, List, [], ◌∷◌, ◌++◌, length, take, get_or, reverse, Option, Some, None, sym}
-use Rattle.std.proofs.Common.{ap, ◌∙◌, arith, append_assoc, append-nil}
-use Rattle.std.specs.Prelude.{◌==◌, if◌then◌else◌, slice_index_or}
-use Rattle.std.proofs.Math.Seq.{take-length, take-suc}
-use Rattle.std.proofs.lemmas.List.{reverse-append}
-use Rattle.std.proofs.lemmas.Bool.Decides.{nat_tests}
-use Rattle.call_tree.specs.declared.records.Call.{Call}
+use Rattle.std.proofs.Common.{if◌then◌else◌, ◌++◌, ◌+◌, ◌-◌, ◌<◌, ◌==◌, ◌∙◌, ◌∷◌, ◌≡◌, ◌≤◌, [], ℕ, List, None, Option, Some, ap, append_assoc, arith, false}
+use Rattle.std.proofs.Common.{length, refl, reverse, slice_get, suc, sym, true, zero}
+use Rattle.std.proofs.lemmas.{Bool.Decides.nat_tests, List.reverse-append}
+use Rattle.call_tree.specs.{Recording.starts_of, declared.records.Call.Call, declared.records.FrameStart.FrameStart}
 use Rattle.cell_names.specs.declared.places.PlacedPart.{PlacedPart}
+use Rattle.question_text.specs.Frames.{call_of_frame, frame_by, frame_from, frame_of_call, framed_by, opened_by, opened_from}
 use Rattle.question_text.specs.declared.opened.OpenFrame.{OpenFrame}
-use Rattle.cell_names.specs.Places.{finds}
-use Rattle.question_text.specs.Frames.{call_of_frame, frame_of_call, framed_by, opened_by, opened_from}
-use Rattle.cell_names.proofs.PartsInTurn.{finds_more}
 
 reverse-push : {X : Type 0} (xs : List X) (x : X) → reverse (xs ++ x ∷ []) ≡ x ∷ reverse xs
 reverse-push xs x = reverse-append xs (x ∷ [])
@@ -29,31 +24,15 @@ row_on calls left at frames more all o f some is found pushed so_far =
     ∙ sym (ap (λ n. opened_from calls n at ++ reverse frames) (let e : left ≡ suc (left - 1) = omega (arith, some) in e)
     ∙ ap (λ g. opened_by g (opened_from calls (left - 1)) ++ reverse frames) (sym is ∙ found)) ∙ so_far
 
-reverse_taken : {X : Type 0} (xs : List X) (n : ℕ) (d : X) → n < length xs → reverse (take (suc n) xs) ≡ get_or xs n d ∷ reverse (take n xs)
-reverse_taken xs n d below = ap reverse (take-suc xs n d below) ∙ reverse-push (take n xs) (get_or xs n d)
+started : (n : ℕ) (calls : List Call) (k : ℕ) → frame_by n (slice_get calls k) ≡ frame_from n (slice_get (starts_of calls) k)
+started n [] k = refl
+started n (x ∷ xs) zero = refl
+started n (x ∷ xs) (suc k) = started n xs k
 
--- one frame further in
-pub inward_on : (frames places more : List PlacedPart) (left : ℕ) (d : PlacedPart) → 0 < left → left ≤ length frames
-    → finds more ≡ finds (places ++ slice_index_or frames (left - 1) d ∷ []) → finds (places ++ reverse (take left frames)) ≡ finds (reverse frames)
-    → finds (more ++ reverse (take (left - 1) frames)) ≡ finds (reverse frames)
-inward_on frames places more left d some inside pushed so_far =
-    let e : left ≡ suc (left - 1) = omega (arith, some) in
-    let below : left - 1 < length frames = omega (arith, some, inside) in
-    let x = slice_index_or frames (left - 1) d in
-    finds_more more (places ++ x ∷ []) (reverse (take (left - 1) frames)) pushed
-    ∙ ap finds (append_assoc places (x ∷ []) (reverse (take (left - 1) frames)) ∙ ap (λ l. places ++ l) (sym (reverse_taken frames (left - 1) d below)))
-    ∙ ap (λ n. finds (places ++ reverse (take n frames))) (sym e) ∙ so_far
-
-pub inward_first : (frames places : List PlacedPart) (left : ℕ) → left ≡ length frames → places ≡ []
-    → finds (places ++ reverse (take left frames)) ≡ finds (reverse frames)
-inward_first frames places left e none =
-    ap (λ n. finds (places ++ reverse (take n frames))) e ∙ ap (λ l. finds (places ++ reverse l)) (take-length frames)
-    ∙ ap (λ l. finds (l ++ reverse frames)) none
-
-pub inward_all : (frames places : List PlacedPart) (left : ℕ) → left ≤ 0 → finds (places ++ reverse (take left frames)) ≡ finds (reverse frames)
-    → finds places ≡ finds (reverse frames)
-inward_all frames places left none so_far =
-    ap finds (sym (append-nil places)) ∙ ap (λ n. finds (places ++ reverse (take n frames))) (let e : 0 ≡ left = omega (arith, none) in e) ∙ so_far
+-- the frame of a call by where it begins
+pub by_start : (calls : List Call) (start : Option FrameStart) (call : ℕ) → start ≡ slice_get (starts_of calls) call
+    → frame_from call start ≡ frame_of_call calls (Some call)
+by_start calls start call e = ap (frame_from call) e ∙ sym (started call calls call)
 
 -- this many calls are still to be looked at, from one on
 abbrev pub from_there : List Call → (looked : ℕ) → Option ℕ → ℕ → Option ℕ

@@ -1,17 +1,11 @@
 -- Lines of a card, one after another.
-use Rattle.std.proofs.Common.{◌≡◌, ℕ, suc, ◌+◌, ◌<◌, ◌≤◌, List, ◌∷◌, ◌++◌, length, drop, Some, slice_get, sym, ap, ◌∙◌}
-use Rattle.std.proofs.Common.{append_assoc, append-nil, add-one, arith}
-use Rattle.std.specs.Prelude.{flat_map, slice_index_or}
-use Rattle.std.proofs.Math.Seq.{drop-cons}
-use Rattle.std.proofs.lemmas.List.{drop_all}
-use Rattle.call_tree.specs.declared.records.Call.{Call}
-use Rattle.call_tree.specs.declared.records.Mark.{Mark}
-use Rattle.core_program.specs.ProgramRows.{ProgramRows}
-use Rattle.question_text.specs.Trees.{tree_from, tree_line}
+use Rattle.std.proofs.Common.{◌++◌, ◌+◌, ◌<◌, ◌∙◌, ◌∷◌, ◌≡◌, ◌≤◌, ℕ, List, Some, add-one, ap, append-nil, append_assoc, arith, drop, flat_map, length}
+use Rattle.std.proofs.{Common.slice_get, Common.slice_index_or, Common.suc, Common.sym, Math.Seq.drop-cons, lemmas.List.drop_all}
 use Rattle.cell_value.specs.declared.values.Value.{Value}
-use Rattle.cell_names.specs.Names.{Scene, local_at}
-use Rattle.question_text.specs.Cells.{parameter_line, parameters_text}
-use Rattle.cell_names.proofs.WrittenInTurn.{drop_get}
+use Rattle.core_program.specs.ProgramRows.{ProgramRows}
+use Rattle.call_tree.specs.declared.records.{Call.Call, Mark.Mark}
+use Rattle.cell_names.{proofs.WrittenInTurn.drop_get, specs.Names.Scene, specs.Names.local_at}
+use Rattle.question_text.specs.{Cells.parameter_line, Cells.parameters_text, Trees.tree_from, Trees.tree_line}
 
 -- one more line
 pub line_on : {X : Type 0} (f : X → List ℕ) (xs : List X) (i : ℕ) (x : X) (before after all : List ℕ) → slice_get xs i ≡ Some x

@@ -1,16 +1,10 @@
 -- The states of a call, by what names stand on.
-use Rattle.std.proofs.Common.{◌≡◌, ℕ, ◌≤◌, Bool, false, List, [], ◌++◌, length, Option, Some, slice_get, sym, ap, ◌∙◌}
+use Rattle.std.proofs.Common.{◌++◌, ◌∙◌, ◌≡◌, ◌≤◌, [], ℕ, Bool, List, Option, Some, ap, false, length, slice_get, sym}
 use Rattle.std.proofs.lemmas.Option.{slice_get_past}
-use Rattle.call_tree.specs.declared.records.Call.{Call}
-use Rattle.call_tree.specs.Recording.{routines_of}
-use Rattle.cell_names.specs.declared.places.PlacedPart.{PlacedPart}
-use Rattle.cell_names.specs.Places.{finds}
-use Rattle.cell_names.specs.Finding.{Finding, finding_of}
-use Rattle.cell_names.specs.Names.{Scene}
-use Rattle.question_text.specs.Cards.{Recorded, scene_of}
-use Rattle.question_text.specs.Frames.{opened_from}
-use Rattle.question_text.specs.States.{has_cell, has_cell_by, lines_by, state_text}
+use Rattle.call_tree.specs.{Recording.routines_of, declared.records.Call.Call}
+use Rattle.cell_names.specs.{Finding.Finding, Finding.finding_of, Names.Scene, Places.finds, declared.places.PlacedPart.PlacedPart}
 use Rattle.question_text.proofs.CardsWhole.{scene_by}
+use Rattle.question_text.specs.{Cards.Recorded, Cards.scene_of, Frames.opened_from, States.has_cell, States.has_cell_by, States.lines_by, States.state_text}
 
 pub no_state : (r : Recorded) (k : ℕ) (name : List ℕ) → length r.calls ≤ k → state_text r k name ≡ []
 unfolding state_text

@@ -1,23 +1,15 @@
 -- What is shown of a call that is to be judged: the lines of its card, in order.
-use Rattle.std.specs.Prelude.{ℕ, ◌+◌, ◌==◌, nat_lt, min, List, [], ◌∷◌, ◌++◌, codes, drop}
-use Rattle.std.specs.Prelude.{flat_map, length, Option, Some, None, slice_get, slice_range, if◌then◌else◌}
-use Rattle.cell_value.specs.declared.values.Value.{Value}
-use Rattle.cell_value.specs.declared.entries.Touch.{Touch}
+use Rattle.std.specs.Prelude.{if◌then◌else◌, ◌++◌, ◌+◌, ◌==◌, ◌∷◌, [], ℕ, List, None, Option, Some, codes, drop}
+use Rattle.std.specs.Prelude.{flat_map, length, min, nat_lt, slice_get, slice_range}
 use Rattle.cell_value.specs.Effects.{changes_of, given_of, looked_of, reads_of, taken_of}
-use Rattle.call_tree.specs.declared.records.Call.{Call}
-use Rattle.call_tree.specs.Recording.{routines_of}
-use Rattle.call_tree.specs.Told.{part_of}
-use Rattle.core_program.specs.declared.program.Routine.{Routine}
+use Rattle.cell_value.specs.declared.{entries.Touch.Touch, values.Value.Value}
 use Rattle.core_program.specs.ProgramRows.{ProgramRows, routine_at, row_at}
-use Rattle.cell_names.specs.Places.{finds}
-use Rattle.cell_names.specs.Finding.{finding_of}
-use Rattle.cell_names.specs.Pieces.{in_quotation_marks}
-use Rattle.cell_names.specs.Values.{typed_text}
+use Rattle.core_program.specs.declared.program.Routine.{Routine}
+use Rattle.call_tree.specs.{Recording.routines_of, Told.part_of, declared.records.Call.Call}
+use Rattle.cell_names.specs.{Finding.finding_of, Pieces.in_quotation_marks, Places.finds, Values.typed_text}
 use Rattle.cell_names.specs.Names.{Scene, result_of}
-use Rattle.question_text.specs.Lines.{inner_line, call_line}
-use Rattle.question_text.specs.Frames.{opened_from}
-use Rattle.question_text.specs.WaysOut.{way_text}
-use Rattle.question_text.specs.Cells.{parameters_text, seen_line, change_line}
+use Rattle.question_text.specs.{Frames.opened_from, Lines.call_line, Lines.inner_line, WaysOut.way_text}
+use Rattle.question_text.specs.Cells.{change_line, parameters_text, seen_line}
 use Rattle.question_text.specs.declared.cards.Recorded as kept
 
 abbrev pub end_text : (items to : ℕ) → List ℕ

@@ -1,35 +1,30 @@
 -- What is shown of cells: what a parameter holds, what a call showed of a cell, and what it left there.
-use Rattle.std.specs.Prelude.{ℕ, ◌+◌, ◌==◌, List, [], ◌∷◌, ◌++◌, codes, Option, Some, None, if◌then◌else◌}
+use Rattle.std.specs.Prelude.{if◌then◌else◌, ◌++◌, ◌+◌, ◌==◌, ◌∷◌, [], ℕ, List, None, Option, Some, codes}
 use Rattle.std.specs.Fmt.{signed_decimal}
+use Rattle.cell_value.specs.declared.entries.Change.{Change, TheVariants.Gone, TheVariants.Set}
+use Rattle.cell_value.specs.declared.entries.Seen.{Seen, TheVariants.Absent, TheVariants.Held, TheVariants.There}
 use Rattle.cell_value.specs.declared.values.Value.{Value}
-use Rattle.cell_value.specs.declared.values.Value.TheVariants as value
-use Rattle.cell_value.specs.declared.entries.Seen.{Seen}
-use Rattle.cell_value.specs.declared.entries.Seen.TheVariants.{Held, There, Absent}
-use Rattle.cell_value.specs.declared.entries.Change.{Change}
-use Rattle.cell_value.specs.declared.entries.Change.TheVariants.{Set, Gone}
 use Rattle.core_program.specs.ProgramRows.{ProgramRows, name_of, size_of, text_at}
-use Rattle.cell_names.specs.declared.names.Local.{Local}
-use Rattle.cell_names.specs.declared.names.Root.{Root}
-use Rattle.cell_names.specs.Values.{typed_text, unknown}
+use Rattle.cell_names.specs.{Values.typed_text, Values.unknown, declared.names.Local.Local, declared.names.Root.Root}
 use Rattle.cell_names.specs.Names.{Scene, cell_held, cell_text, local_at, root_at, variable_name, way_down}
-use Rattle.question_text.specs.Lines.{inner_line}
 use Rattle.cell_names.specs.declared.names.Held as names_held
 use Rattle.cell_names.specs.declared.names.Held.TheVariants as held
+use Rattle.question_text.specs.Lines.{inner_line}
 
 -- the variable that a variable parameter of a type stands for; one without cells has no name
 abbrev pub place_text : Scene → (of' : ℕ) → Value → List ℕ
-place_text s of' (value.Place address) =
+place_text s of' (Value.Place address) =
     codes "at " ++ (if size_of s.program of' == 0 then codes "nothing" else variable_name s of' address)
 place_text s of' v = unknown
 
 -- a hidden tag: the position of the variant that it chooses, from 1
 abbrev pub tag_text : Value → List ℕ
-tag_text (value.Number position) = signed_decimal position
+tag_text (Value.Number position) = signed_decimal position
 tag_text v = unknown
 
 -- a procedure or function as a parameter: the name of the one that it stands for
 abbrev pub routine_text : ProgramRows → Value → List ℕ
-routine_text p (value.Routine routine frame) = name_of p routine
+routine_text p (Value.Routine routine frame) = name_of p routine
 routine_text p v = unknown
 
 -- what a cell holds

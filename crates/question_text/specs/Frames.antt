@@ -1,13 +1,17 @@
 -- The frames of the calls that are open while one runs.
-use Rattle.std.specs.Prelude.{ℕ, zero, suc, ◌==◌, List, [], ◌∷◌, ◌++◌, Option, Some, None, slice_get, if◌then◌else◌}
-use Rattle.call_tree.specs.declared.records.Call.{Call}
-use Rattle.cell_names.specs.declared.places.PlacedPart.{PlacedPart}
+use Rattle.std.specs.Prelude.{if◌then◌else◌, ◌++◌, ◌==◌, ◌∷◌, [], ℕ, List, None, Option, Some, slice_get, suc, zero}
+use Rattle.call_tree.specs.declared.records.{Call.Call, FrameStart.FrameStart}
+use Rattle.cell_names.specs.{Layouts.part, declared.places.PlacedPart.PlacedPart}
 use Rattle.question_text.specs.declared.opened.OpenFrame.{OpenFrame}
-use Rattle.cell_names.specs.Layouts.{part}
 
 abbrev pub frame_by : (call : ℕ) → Option Call → Option OpenFrame
 frame_by call None = None
 frame_by call (Some row) = Some (record { part = part row.entry.top call; outer = row.parent })
+
+-- the same by where it begins, and the call that made that one
+abbrev pub frame_from : (call : ℕ) → Option FrameStart → Option OpenFrame
+frame_from call None = None
+frame_from call (Some start) = Some (record { part = part start.top call; outer = start.parent })
 
 -- the frame of a call, and the call that made that one
 abbrev pub frame_of_call : List Call → (call : Option ℕ) → Option OpenFrame

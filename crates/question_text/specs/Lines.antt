@@ -1,7 +1,7 @@
 -- The lines of a card: its first one, and how those after it stand.
-use Rattle.std.specs.Prelude.{ℕ, List, [], ◌++◌, codes, decimal, Option, Some, None}
-use Rattle.call_tree.specs.declared.records.Call.{Call}
+use Rattle.std.specs.Prelude.{◌++◌, [], ℕ, List, None, Option, Some, codes, decimal}
 use Rattle.core_program.specs.ProgramRows.{ProgramRows, name_of}
+use Rattle.call_tree.specs.declared.records.Call.{Call}
 
 -- a line after the first one of a card
 abbrev pub inner_line : List ℕ → List ℕ

@@ -1,31 +1,24 @@
 -- What cells held before a call and after it: those that a name names, a line for each, rising by address.
-use Rattle.std.specs.Prelude.{ℕ, ◌-◌, ◌==◌, Bool, true, false, ◌&&◌, ◌||◌, List, [], ◌++◌, codes, flat_map, Option}
-use Rattle.std.specs.Prelude.{Some, None, is_some, slice_get, if◌then◌else◌}
-use Rattle.std.specs.List.{list_any, range_with_len}
+use Rattle.std.specs.Prelude.{if◌then◌else◌, ◌&&◌, ◌++◌, ◌-◌, ◌==◌, ◌||◌, [], ℕ, Bool, List, None, Option, Some, codes}
+use Rattle.std.specs.Prelude.{false, flat_map, is_some, slice_get, true}
+use Rattle.std.specs.{List.list_any, List.range_with_len, Ordering.int_eq}
 use Rattle.std.specs.FinMap as map
-use Rattle.std.specs.Ordering.{int_eq}
-use Rattle.cell_value.specs.Effects.{heap_start}
-use Rattle.cell_value.specs.declared.values.Value.{Value}
-use Rattle.cell_value.specs.declared.values.Value.TheVariants as value
-use Rattle.cell_value.specs.Sets.{is_included}
+use Rattle.cell_value.specs.{Effects.heap_start, Sets.is_included, declared.values.Value.Value}
 use Rattle.call_tree.specs.declared.records.Call.{Call}
-use Rattle.cell_names.specs.declared.names.Root.{Root}
+use Rattle.cell_names.specs.{NamedBy.is_named_by, declared.names.Root.Root}
 use Rattle.cell_names.specs.Names.{Scene, cell_held, cell_text, root_at}
-use Rattle.cell_names.specs.NamedBy.{is_named_by}
+use Rattle.question_text.specs.{Cards.Recorded, Cards.scene_of, Cells.held_text, Lines.inner_line}
 use Rattle.question_text.specs.declared.states.CellSides.{CellSides}
-use Rattle.question_text.specs.Cards.{Recorded, scene_of}
-use Rattle.question_text.specs.Cells.{held_text}
-use Rattle.question_text.specs.Lines.{inner_line}
 
 abbrev pub is_same_value : Value → Value → Bool
-is_same_value value.Undefined value.Undefined = true
-is_same_value (value.Number a) (value.Number b) = int_eq a b
-is_same_value (value.Bits a) (value.Bits b) = is_included a b && is_included b a
-is_same_value value.Nil value.Nil = true
-is_same_value (value.Heap a) (value.Heap b) = a == b
-is_same_value (value.Place a) (value.Place b) = a == b
-is_same_value (value.Frame a) (value.Frame b) = a == b
-is_same_value (value.Routine a frame) (value.Routine b other) = (a == b) && (frame == other)
+is_same_value Value.Undefined Value.Undefined = true
+is_same_value (Value.Number a) (Value.Number b) = int_eq a b
+is_same_value (Value.Bits a) (Value.Bits b) = is_included a b && is_included b a
+is_same_value Value.Nil Value.Nil = true
+is_same_value (Value.Heap a) (Value.Heap b) = a == b
+is_same_value (Value.Place a) (Value.Place b) = a == b
+is_same_value (Value.Frame a) (Value.Frame b) = a == b
+is_same_value (Value.Routine a frame) (Value.Routine b other) = (a == b) && (frame == other)
 is_same_value v w = false
 
 -- what a cell held before a call, and what became of it; the text of a value is told

@@ -1,13 +1,10 @@
 -- The trace of a call: what happened in its body, a line for each event, and how the call ended.
-use Rattle.std.specs.Prelude.{ℕ, List, [], ◌++◌, codes, decimal, flat_map, Option, Some, None, slice_get}
+use Rattle.std.specs.Prelude.{◌++◌, [], ℕ, List, None, Option, Some, codes, decimal, flat_map, slice_get}
 use Rattle.cell_value.specs.declared.ways_out.WayOut.{WayOut}
-use Rattle.call_tree.specs.declared.events.Event.{Event}
-use Rattle.call_tree.specs.declared.events.Event.TheVariants.{Line, Child}
-use Rattle.call_tree.specs.declared.records.Call.{Call}
 use Rattle.core_program.specs.ProgramRows.{ProgramRows}
-use Rattle.question_text.specs.Cards.{Recorded}
-use Rattle.question_text.specs.Lines.{call_text, inner_line}
-use Rattle.question_text.specs.WaysOut.{way_text}
+use Rattle.call_tree.specs.declared.events.Event.{Event, TheVariants.Child, TheVariants.Line}
+use Rattle.call_tree.specs.declared.records.Call.{Call}
+use Rattle.question_text.specs.{Cards.Recorded, Lines.call_text, Lines.inner_line, WaysOut.way_text}
 
 -- a call that a body made: its number and the name of its routine
 abbrev pub child_line : ProgramRows → (k : ℕ) → Option Call → List ℕ

@@ -1,16 +1,14 @@
 -- The calls of a run, a line for each.
-use Rattle.std.specs.Prelude.{ℕ, ◌+◌, List, [], ◌∷◌, ◌++◌, codes, decimal, Option, Some, None}
-use Rattle.call_tree.specs.declared.records.Call.{Call}
+use Rattle.std.specs.Prelude.{◌++◌, ◌+◌, ◌∷◌, [], ℕ, List, None, Option, Some, codes, decimal}
 use Rattle.core_program.specs.ProgramRows.{ProgramRows, name_of}
-use Rattle.call_tree.specs.declared.records.Mark.{Mark}
-use Rattle.call_tree.specs.declared.records.Mark.TheVariants as mark
+use Rattle.call_tree.specs.declared.records.{Call.Call, Mark.Mark}
 
 abbrev pub mark_text : Mark → List ℕ
-mark_text mark.Unjudged = codes "unjudged"
-mark_text mark.Right = codes "right"
-mark_text mark.Wrong = codes "wrong"
-mark_text mark.Unknown = codes "unknown"
-mark_text mark.Trusted = codes "trusted"
+mark_text Mark.Unjudged = codes "unjudged"
+mark_text Mark.Right = codes "right"
+mark_text Mark.Wrong = codes "wrong"
+mark_text Mark.Unknown = codes "unknown"
+mark_text Mark.Trusted = codes "trusted"
 
 abbrev pub under : (parent : Option ℕ) → List ℕ
 under None = []

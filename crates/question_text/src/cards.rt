@@ -1,14 +1,11 @@
 //! The card of a call.
 
-ghost use Rattle.std.specs.Prelude.{◌≡◌, ◌+◌, ◌++◌, ◌≤◌, OnErr, OnOk, Some, flat_map, length, min, slice_get};
+ghost use Rattle.std.specs.Prelude.{◌++◌, ◌+◌, ◌≡◌, ◌≤◌, OnErr, OnOk, Some, flat_map, length, min, slice_get};
 ghost use Rattle.std.specs.Prelude.{slice_range};
-ghost use Rattle.call_tree.specs.declared.records.Call.{Call as TableCall};
 ghost use Rattle.core_program.specs.ProgramRows.{routine_at};
-ghost use Rattle.cell_names.specs.Finding.{finding_of, finding_in};
-ghost use Rattle.cell_names.specs.Names.{scene_in};
-ghost use Rattle.cell_names.specs.Pieces.{in_quotation_marks};
-ghost use Rattle.call_tree.specs.Told.{IsTold, part_of};
-ghost use Rattle.question_text.specs.Cards.{card, effect_text, end_text, gives_text, card_lines, looks_text};
+ghost use Rattle.call_tree.specs.{Told.IsTold, Told.part_of, declared.records.Call.Call as TableCall};
+ghost use Rattle.cell_names.specs.{Finding.finding_in, Finding.finding_of, Names.scene_in, Pieces.in_quotation_marks};
+ghost use Rattle.question_text.specs.Cards.{card, card_lines, effect_text, end_text, gives_text, looks_text};
 ghost use Rattle.question_text.specs.Cards.{recorded_in, result_by, result_text, result_type, takes_text};
 ghost use Rattle.question_text.specs.Cells.{change_line, seen_line};
 

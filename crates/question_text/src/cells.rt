@@ -1,6 +1,6 @@
 //! The lines of a card on cells: parameters, what was seen, and what was changed.
 
-ghost use Rattle.std.specs.Prelude.{◌≡◌, ◌++◌, OnOk, None, drop, flat_map};
+ghost use Rattle.std.specs.Prelude.{◌++◌, ◌≡◌, None, OnOk, drop, flat_map};
 ghost use Rattle.cell_names.specs.Names.{cell_text, scene_in, variable_name};
 ghost use Rattle.question_text.specs.Cells.{cell_value_text, change_at_root, change_line, change_text, held_text};
 ghost use Rattle.question_text.specs.Cells.{parameter_line, parameter_text, parameters_text, place_text, routine_text};

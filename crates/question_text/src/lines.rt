@@ -1,6 +1,6 @@
 //! The first line of a card, and its parts.
 
-ghost use Rattle.std.specs.Prelude.{◌≡◌, ◌++◌, OnOk};
+ghost use Rattle.std.specs.Prelude.{◌++◌, ◌≡◌, OnOk};
 ghost use Rattle.question_text.specs.Lines.{call_line, call_text, in_parent};
 
 use call_tree::Call;

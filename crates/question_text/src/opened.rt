@@ -1,10 +1,11 @@
 //! The calls that are open while one runs.
 
-ghost use Rattle.std.specs.Prelude.{◌≡◌, ◌<◌, ◌++◌, IfOk, Some, length, option_copied, reverse, slice_get, true};
+ghost use Rattle.std.specs.Prelude.{◌++◌, ◌<◌, ◌≡◌, IfOk, Some, length, option_copied, reverse, slice_get, true};
+ghost use Rattle.call_tree.specs.Recording.{starts_of};
 ghost use Rattle.cell_names.specs.Places.{finds};
-ghost use Rattle.question_text.specs.Frames.{frame_of_call, opened_from};
+ghost use Rattle.question_text.specs.Frames.{frame_from, frame_of_call, opened_from};
 
-use call_tree::{Call, Calls};
+use call_tree::{Call, Calls, FrameStart};
 use cell_names::{PlacedPart, PlacedParts};
 use std::alloc::{AllocError, Global};
 
@@ -26,22 +27,39 @@ pub(crate) fn call_at(calls: &Calls, number: u32) -> Option<&Call>
     }
 }
 
+/// Where the frame of a call begins, if there is such a call.
+#[inline]
+fn start_of(calls: &Calls, number: u32) -> Option<FrameStart>
+    ensures { result ≡ slice_get (starts_of calls.now.calls) number }
+{
+    calls.start_column().get(number as usize).copied()
+}
+
+/// The frame of the call of a number, by where it begins.
+#[inline]
+fn frame_from(number: u32, start: Option<FrameStart>) -> Option<OpenFrame>
+    ensures { result ≡ frame_from number start }
+{
+    match start {
+        None => None,
+        Some(start) => Some(OpenFrame {
+            part: PlacedPart {
+                place: start.top,
+                number,
+            },
+            outer: start.parent,
+        }),
+    }
+}
+
 /// The frame of a call, if there is such a call.
+#[inline]
 pub(crate) fn frame_of(calls: &Calls, call: Option<u32>) -> Option<OpenFrame>
     ensures { result ≡ frame_of_call calls.now.calls call }
 {
     match call {
         None => None,
-        Some(number) => match call_at(calls, number) {
-            None => None,
-            Some(call) => Some(OpenFrame {
-                part: PlacedPart {
-                    place: call.entry.top,
-                    number,
-                },
-                outer: call.parent,
-            }),
-        },
+        Some(number) => frame_from(number, start_of(calls, number)),
     }
 }
 
@@ -125,19 +143,6 @@ fn frames_outward(alloc: Global, calls: &Calls, call: u32) -> Result<Vec<PlacedP
     Ok(frames)
 }
 
-/// The same from the outermost inward.
-fn frames_inward(alloc: Global, frames: &[PlacedPart]) -> Result<PlacedParts, AllocError>
-    ensures { IfOk result (λ places. finds places ≡ finds (reverse frames.now)) }
-{
-    let mut places = PlacedParts::new(alloc);
-    let mut left = frames.len();
-    'frames: while left > 0 {
-        left -= 1;
-        places.push(frames[left])?;
-    }
-    Ok(places)
-}
-
 /// The calls that are open while one runs, by where their frames begin.
 pub(crate) fn opened_calls(
     alloc: Global,
@@ -147,7 +152,8 @@ pub(crate) fn opened_calls(
     ensures { IfOk result (λ places. finds places
         ≡ finds (opened_from calls.now.calls (length calls.now.calls) (Some call))) }
 {
-    let frames = frames_outward(alloc, calls, call)?;
-    let places = frames_inward(alloc, &frames)?;
+    let mut frames = frames_outward(alloc, calls, call)?;
+    frames.reverse();
+    let places = PlacedParts::of(alloc, frames)?;
     Ok(places)
 }

@@ -1,12 +1,9 @@
 //! What cells held before a call and after it.
 
-ghost use Rattle.std.specs.Prelude.{◌≡◌, ◌<◌, ◌≤◌, ◌+◌, ◌++◌, ℕ, IfOk, OnErr, OnOk, Some, false, is_some};
+ghost use Rattle.std.specs.Prelude.{◌++◌, ◌+◌, ◌<◌, ◌≡◌, ◌≤◌, ℕ, IfOk, OnErr, OnOk, Some, false, is_some};
 ghost use Rattle.std.specs.FinMap as map;
-ghost use Rattle.cell_names.specs.Finding.{finding_of, finding_in};
-ghost use Rattle.cell_names.specs.Names.{scene_in};
-ghost use Rattle.cell_names.specs.Walks.{is_named_at};
-ghost use Rattle.question_text.specs.Cards.{recorded_in};
-ghost use Rattle.question_text.specs.Cells.{held_text};
+ghost use Rattle.cell_names.specs.{Finding.finding_in, Finding.finding_of, Names.scene_in, Walks.is_named_at};
+ghost use Rattle.question_text.specs.{Cards.recorded_in, Cells.held_text};
 ghost use Rattle.question_text.specs.States.{cell_at, has_cell, has_cell_by, if_cell, is_between, is_cell};
 ghost use Rattle.question_text.specs.States.{is_same_value, line_at, line_by, lines_between, lines_by, sides_at};
 ghost use Rattle.question_text.specs.States.{sides_line, sides_text, state_text};

@@ -1,8 +1,7 @@
 //! The trace of a call: what happened in its body, a line for each event, and how the call ended.
 
-ghost use Rattle.std.specs.Prelude.{◌≡◌, ◌++◌, OnErr, OnOk, flat_map};
-ghost use Rattle.question_text.specs.Cards.{recorded_in};
-ghost use Rattle.question_text.specs.Traces.{event_line, trace_text};
+ghost use Rattle.std.specs.Prelude.{◌++◌, ◌≡◌, OnErr, OnOk, flat_map};
+ghost use Rattle.question_text.specs.{Cards.recorded_in, Traces.event_line, Traces.trace_text};
 
 use crate::cards::Recorded;
 use crate::lines::write_call_text;

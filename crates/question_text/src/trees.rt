@@ -1,6 +1,6 @@
 //! The calls of a run, a line for each.
 
-ghost use Rattle.std.specs.Prelude.{◌≡◌, ◌++◌, OnErr, OnOk, length};
+ghost use Rattle.std.specs.Prelude.{◌++◌, ◌≡◌, OnErr, OnOk, length};
 ghost use Rattle.question_text.specs.Trees.{mark_text, numbered_routine, tree_line, tree_text, under};
 
 use call_tree::{Call, Calls, Mark};

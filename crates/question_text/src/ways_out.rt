@@ -1,8 +1,7 @@
 //! How a call ended.
 
-ghost use Rattle.std.specs.Prelude.{◌≡◌, ◌++◌, OnOk, codes, decimal, length};
-ghost use Rattle.question_text.specs.Frames.{call_of_frame};
-ghost use Rattle.question_text.specs.Lines.{inner_line};
+ghost use Rattle.std.specs.Prelude.{◌++◌, ◌≡◌, OnOk, codes, decimal, length};
+ghost use Rattle.question_text.specs.{Frames.call_of_frame, Lines.inner_line};
 ghost use Rattle.question_text.specs.WaysOut.{fault_text, limit_text, of_call, way_text};
 
 use crate::opened::frame_of;

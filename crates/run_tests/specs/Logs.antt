@@ -1,7 +1,6 @@
 -- Logs whose effect can be counted.
-use Rattle.std.specs.Prelude.{◌≡◌, ◌≤◌, ◌*◌, ℕ, All, List, length}
-use Rattle.cell_value.specs.declared.entries.Touch.{Touch}
-use Rattle.cell_value.specs.Effects.{IsCountable, made_of, taken_of}
+use Rattle.std.specs.Prelude.{◌*◌, ◌≡◌, ◌≤◌, ℕ, All, List, length}
+use Rattle.cell_value.specs.{Effects.IsCountable, Effects.made_of, Effects.taken_of, declared.entries.Touch.Touch}
 
 -- this many touches, each of which makes three cells at most and takes one item at most
 pub record IsLogOf (entries : ℕ) (touches : List Touch) : Type 0 where

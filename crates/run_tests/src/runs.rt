@@ -1,5 +1,5 @@
 //! The run of a program, and the work of its calls done again.
-ghost use Rattle.std.specs.Prelude.{◌≡◌, ◌≤◌, ◌<◌, List, ℕ, IfOk, length};
+ghost use Rattle.std.specs.Prelude.{◌<◌, ◌≡◌, ◌≤◌, ℕ, IfOk, List, length};
 ghost use Rattle.core_program.specs.RunLaws.{most_bytes};
 ghost use Rattle.program_run.specs.History.{IsOfRun};
 

@@ -1,15 +1,13 @@
 -- Denoters as they would lie in no memory.
-use Rattle.pas_tree.specs.declared.denoters.Denoter.{Denoter, Name, Enumeration, Subrange, Pointer, Structure'}
-use Rattle.pas_tree.specs.declared.denoters.Structure.{Structure, Array, Record', Set'}
-use Rattle.pas_tree.specs.declared.denoters.Enumeration.{Enumeration as EnumerationTree}
-use Rattle.pas_tree.specs.declared.denoters.ArrayDenoter.{ArrayDenoter, ArrayDenoter', Row_of-NextDenoter, end_of-NextDenoter, more_of-NextDenoter}
-use Rattle.pas_tree.specs.declared.denoters.Fields.{Fields, Empty, Fixed', Variants' as FieldsVariants', Held-Fields-Fixed-1, None', Some'}
-use Rattle.pas_tree.specs.declared.denoters.Fixed.{Fixed as FixedTree, Fixed' as FixedTree', Row_of-NextSection, end_of-NextSection, more_of-NextSection}
-use Rattle.pas_tree.specs.declared.denoters.NextVariants.{NextVariants', NextVariants}
-use Rattle.pas_tree.specs.declared.denoters.Variants.{Variants as VariantsTree, Variants', Row_of-NextArm, end_of-NextArm, more_of-NextArm}
 use Rattle.pas_tree.proofs.Memory.{boxed}
-use Rattle.same_programs.proofs.Memory.{again, shaped}
-use Rattle.same_programs.proofs.BareNames.{bare_names, bare_constants}
+use Rattle.pas_tree.specs.declared.denoters.{Enumeration.Enumeration as EnumerationTree, NextVariants.NextVariants, NextVariants.NextVariants'}
+use Rattle.pas_tree.specs.declared.denoters.ArrayDenoter.{ArrayDenoter, ArrayDenoter', Row_of-NextDenoter, end_of-NextDenoter, more_of-NextDenoter}
+use Rattle.pas_tree.specs.declared.denoters.Denoter.{Denoter, Enumeration, Name, Pointer, Structure', Subrange}
+use Rattle.pas_tree.specs.declared.denoters.Fields.{Empty, Fields, Fixed', Held-Fields-Fixed-1, None', Some', Variants' as FieldsVariants'}
+use Rattle.pas_tree.specs.declared.denoters.Fixed.{Fixed as FixedTree, Fixed' as FixedTree', Row_of-NextSection, end_of-NextSection, more_of-NextSection}
+use Rattle.pas_tree.specs.declared.denoters.Structure.{Array, Record', Set', Structure}
+use Rattle.pas_tree.specs.declared.denoters.Variants.{Row_of-NextArm, Variants as VariantsTree, Variants', end_of-NextArm, more_of-NextArm}
+use Rattle.same_programs.proofs.{BareNames.bare_constants, BareNames.bare_names, Memory.again, Memory.shaped}
 
 abbrev pub bare_enumeration : EnumerationTree → EnumerationTree
 bare_enumeration a = record { «open» = a.«open»; names = bare_names a.names; close = a.close }

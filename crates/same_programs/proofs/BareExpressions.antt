@@ -1,23 +1,18 @@
 -- Expressions as they would lie in no memory.
-use Rattle.pas_tree.specs.declared.expressions.Factor.{Factor, Number, Text, Nil, Access', Call', Paren', Set', Not'}
-use Rattle.pas_tree.specs.declared.expressions.Access.{Access, Row_of-Selector, end_of-Selector, more_of-Selector}
-use Rattle.pas_tree.specs.declared.expressions.Selector.{Selector, Index, Field, Dereference}
-use Rattle.pas_tree.specs.declared.expressions.Index.{Index as IndexTree, Index'}
-use Rattle.pas_tree.specs.declared.expressions.Arguments.{Arguments, Arguments', Row_of-NextExpression, end_of-NextExpression, more_of-NextExpression}
-use Rattle.pas_tree.specs.declared.expressions.NextExpression.{NextExpression', NextExpression}
-use Rattle.pas_tree.specs.declared.expressions.Expression as e
-use Rattle.pas_tree.specs.declared.expressions.Relation.{Relation', Relation}
-use Rattle.pas_tree.specs.declared.expressions.Simple.{Simple, Simple', Row_of-NextTerm, end_of-NextTerm, more_of-NextTerm}
-use Rattle.pas_tree.specs.declared.expressions.NextTerm.{NextTerm', NextTerm}
-use Rattle.pas_tree.specs.declared.expressions.Term.{Term, Term', Row_of-NextFactor, end_of-NextFactor, more_of-NextFactor}
-use Rattle.pas_tree.specs.declared.expressions.Members.{Members, Empty, Some}
-use Rattle.pas_tree.specs.declared.expressions.SomeMembers.{SomeMembers', Row_of-NextMember, end_of-NextMember, more_of-NextMember, SomeMembers}
-use Rattle.pas_tree.specs.declared.expressions.NextMember.{NextMember', NextMember}
-use Rattle.pas_tree.specs.declared.expressions.Member.{Member, Member', Held-Member-last, Member-last-None', Member-last-Some'}
-use Rattle.pas_tree.specs.declared.expressions.RangeEnd.{RangeEnd', RangeEnd}
 use Rattle.pas_tree.proofs.Memory.{boxed}
+use Rattle.pas_tree.specs.declared.expressions.{Index.Index as IndexTree, Index.Index', Members.Empty, Members.Members, Members.Some}
+use Rattle.pas_tree.specs.declared.expressions.{NextExpression.NextExpression, NextExpression.NextExpression', NextFactor.NextFactor, NextMember.NextMember}
+use Rattle.pas_tree.specs.declared.expressions.{NextMember.NextMember', NextTerm.NextTerm, NextTerm.NextTerm', RangeEnd.RangeEnd, RangeEnd.RangeEnd'}
+use Rattle.pas_tree.specs.declared.expressions.{Relation.Relation, Relation.Relation', Selector.Dereference, Selector.Field, Selector.Index, Selector.Selector}
+use Rattle.pas_tree.specs.declared.expressions.Access.{Access, Row_of-Selector, end_of-Selector, more_of-Selector}
+use Rattle.pas_tree.specs.declared.expressions.Arguments.{Arguments, Arguments', Row_of-NextExpression, end_of-NextExpression, more_of-NextExpression}
+use Rattle.pas_tree.specs.declared.expressions.Expression as e
+use Rattle.pas_tree.specs.declared.expressions.Factor.{Access', Call', Factor, Nil, Not', Number, Paren', Set', Text}
+use Rattle.pas_tree.specs.declared.expressions.Member.{Held-Member-last, Member, Member', Member-last-None', Member-last-Some'}
+use Rattle.pas_tree.specs.declared.expressions.Simple.{Row_of-NextTerm, Simple, Simple', end_of-NextTerm, more_of-NextTerm}
+use Rattle.pas_tree.specs.declared.expressions.SomeMembers.{Row_of-NextMember, SomeMembers, SomeMembers', end_of-NextMember, more_of-NextMember}
+use Rattle.pas_tree.specs.declared.expressions.Term.{Row_of-NextFactor, Term, Term', end_of-NextFactor, more_of-NextFactor}
 use Rattle.same_programs.proofs.Memory.{again, bare, shaped}
-use Rattle.pas_tree.specs.declared.expressions.NextFactor.{NextFactor}
 
 abbrev mutual
   pub bare_expression : e.Expression → e.Expression

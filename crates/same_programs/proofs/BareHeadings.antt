@@ -1,14 +1,10 @@
 -- Headings as they would lie in no memory.
-use Rattle.pas_tree.specs.declared.headings.Heading.{Heading, Procedure, Function}
-use Rattle.pas_tree.specs.declared.headings.ProcedureHeading.{ProcedureHeading, ProcedureHeading'}
-use Rattle.pas_tree.specs.declared.headings.FunctionHeading.{FunctionHeading, FunctionHeading', Held-FunctionHeading-formals, None', Some'}
+use Rattle.pas_tree.{proofs.Memory.boxed, specs.declared.headings.ProcedureHeading.ProcedureHeading, specs.declared.headings.ProcedureHeading.ProcedureHeading'}
+use Rattle.pas_tree.specs.declared.headings.{FormalNames.FormalNames, Heading.Function, Heading.Heading, Heading.Procedure, NextFormal.NextFormal}
+use Rattle.pas_tree.specs.declared.headings.Formal.{Formal, Routine', Value, Variable}
 use Rattle.pas_tree.specs.declared.headings.Formals.{Formals, Formals', Row_of-NextFormal, end_of-NextFormal, more_of-NextFormal}
-use Rattle.pas_tree.specs.declared.headings.Formal.{Formal, Value, Variable, Routine'}
-use Rattle.pas_tree.specs.declared.headings.FormalNames.{FormalNames}
-use Rattle.pas_tree.proofs.Memory.{boxed}
-use Rattle.same_programs.proofs.Memory.{again, shaped}
-use Rattle.same_programs.proofs.BareNames.{bare_names}
-use Rattle.pas_tree.specs.declared.headings.NextFormal.{NextFormal}
+use Rattle.pas_tree.specs.declared.headings.FunctionHeading.{FunctionHeading, FunctionHeading', Held-FunctionHeading-formals, None', Some'}
+use Rattle.same_programs.proofs.{BareNames.bare_names, Memory.again, Memory.shaped}
 
 abbrev pub bare_formal_names : FormalNames → FormalNames
 bare_formal_names a = record { names = bare_names a.names; colon = a.colon; name = a.name }

@@ -1,7 +1,5 @@
 -- Names as they would lie in no memory.
-use Rattle.pas_tree.specs.declared.constants.Names.{Names}
-use Rattle.pas_tree.specs.declared.constants.Constants.{Constants}
-use Rattle.pas_tree.proofs.Memory.{held}
+use Rattle.pas_tree.{proofs.Memory.held, specs.declared.constants.Constants.Constants, specs.declared.constants.Names.Names}
 use Rattle.same_programs.proofs.Memory.{is_short}
 
 abbrev pub bare_names : Names → Names

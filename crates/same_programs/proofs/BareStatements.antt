@@ -1,23 +1,14 @@
 -- Statements as they would lie in no memory.
-use Rattle.std.specs.Global.{Box}
-use Rattle.pas_tree.specs.declared.statements.Plain.{Plain, Empty, Assignment as Assignment', Call, Goto, Compound', If', Case', Repeat', While', For', With'}
-use Rattle.pas_tree.specs.declared.statements.Compound.{Compound, Compound' as CompoundTree'}
-use Rattle.pas_tree.specs.declared.statements.Statements.{Statements, Statements', Row_of-NextStatement, end_of-NextStatement, more_of-NextStatement}
-use Rattle.pas_tree.specs.declared.statements.Assignment.{Assignment}
-use Rattle.pas_tree.specs.declared.statements.Actuals.{Actuals}
-use Rattle.pas_tree.specs.declared.statements.NextActual.{NextActual}
-use Rattle.pas_tree.specs.declared.statements.Actual.{Actual}
-use Rattle.pas_tree.specs.declared.statements.Width.{Width}
-use Rattle.pas_tree.specs.declared.statements.If.{If, If' as IfTree', Held-If-alternative, None', Some'}
+use Rattle.std.{proofs.Common.option_map, specs.Global.Box}
+use Rattle.pas_tree.{proofs.Memory.boxed, specs.declared.statements.Compound.Compound, specs.declared.statements.Compound.Compound' as CompoundTree'}
+use Rattle.pas_tree.specs.declared.statements.{Actual.Actual, Actuals.Actuals, Assignment.Assignment, NextAccess.NextAccess, NextActual.NextActual}
+use Rattle.pas_tree.specs.declared.statements.{NextStatement.NextStatement, Repeat.Repeat, Repeat.Repeat' as RepeatTree', Width.Width}
 use Rattle.pas_tree.specs.declared.statements.Case.{Case, Case' as CaseTree', Row_of-NextBranch, end_of-NextBranch, more_of-NextBranch}
-use Rattle.pas_tree.specs.declared.statements.Repeat.{Repeat, Repeat' as RepeatTree'}
-use Rattle.pas_tree.specs.declared.statements.NextAccess.{NextAccess}
-use Rattle.pas_tree.proofs.Memory.{boxed}
-use Rattle.same_programs.proofs.Memory.{again, bare, shaped}
-use Rattle.same_programs.proofs.BareNames.{bare_constants}
-use Rattle.same_programs.proofs.BareExpressions.{bare_expression, bare_access}
-use Rattle.std.proofs.Common.{option_map}
-use Rattle.pas_tree.specs.declared.statements.NextStatement.{NextStatement}
+use Rattle.pas_tree.specs.declared.statements.If.{Held-If-alternative, If, If' as IfTree', None', Some'}
+use Rattle.pas_tree.specs.declared.statements.Plain.{Assignment as Assignment', Call, Case', Compound', Empty, For', Goto, If', Plain, Repeat', While', With'}
+use Rattle.pas_tree.specs.declared.statements.Statements.{Row_of-NextStatement, Statements, Statements', end_of-NextStatement, more_of-NextStatement}
+use Rattle.same_programs.proofs.{BareNames.bare_constants, Memory.again, Memory.bare, Memory.shaped}
+use Rattle.same_programs.proofs.BareExpressions.{bare_access, bare_expression}
 
 abbrev pub bare_width : Width → Width
 bare_width a = record { colon = a.colon; width = bare_expression a.width }

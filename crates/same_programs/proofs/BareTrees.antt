@@ -1,22 +1,12 @@
 -- Trees as they would lie in no memory.
-use Rattle.pas_tree.specs.declared.blocks.Tree.{Tree}
-use Rattle.pas_tree.specs.declared.blocks.Parameters.{Parameters}
-use Rattle.pas_tree.specs.declared.blocks.Block.{Block, Block' as BlockTree', Row_of-Routine, end_of-Routine, more_of-Routine}
-use Rattle.pas_tree.specs.declared.blocks.LabelPart.{LabelPart}
-use Rattle.pas_tree.specs.declared.blocks.ConstantPart.{ConstantPart}
-use Rattle.pas_tree.specs.declared.blocks.TypePart.{TypePart}
-use Rattle.pas_tree.specs.declared.blocks.TypeDefinition.{TypeDefinition}
-use Rattle.pas_tree.specs.declared.blocks.VariablePart.{VariablePart}
-use Rattle.pas_tree.specs.declared.blocks.VariableDeclaration.{VariableDeclaration}
-use Rattle.pas_tree.specs.declared.blocks.RoutineBody.{RoutineBody, Directive, Block'}
-use Rattle.pas_tree.proofs.Memory.{boxed, held}
-use Rattle.same_programs.proofs.Memory.{again, bare, is_short, shaped}
-use Rattle.same_programs.proofs.BareNames.{bare_names}
-use Rattle.same_programs.proofs.BareDenoters.{bare_denoter}
-use Rattle.same_programs.proofs.BareHeadings.{bare_heading}
-use Rattle.same_programs.proofs.BareStatements.{bare_compound}
 use Rattle.std.proofs.Common.{option_map}
-use Rattle.pas_tree.specs.declared.blocks.Routine.{Routine}
+use Rattle.pas_tree.proofs.Memory.{boxed, held}
+use Rattle.pas_tree.specs.declared.blocks.{ConstantPart.ConstantPart, LabelPart.LabelPart, Parameters.Parameters, Routine.Routine, Tree.Tree}
+use Rattle.pas_tree.specs.declared.blocks.{TypeDefinition.TypeDefinition, TypePart.TypePart, VariableDeclaration.VariableDeclaration, VariablePart.VariablePart}
+use Rattle.pas_tree.specs.declared.blocks.Block.{Block, Block' as BlockTree', Row_of-Routine, end_of-Routine, more_of-Routine}
+use Rattle.pas_tree.specs.declared.blocks.RoutineBody.{Block', Directive, RoutineBody}
+use Rattle.same_programs.proofs.{BareDenoters.bare_denoter, BareHeadings.bare_heading, BareNames.bare_names, BareStatements.bare_compound}
+use Rattle.same_programs.proofs.Memory.{again, bare, is_short, shaped}
 
 abbrev pub bare_label_part : LabelPart → LabelPart
 bare_label_part a = record { word = a.word; first = a.first; others = held a.others.items (is_short a.others); semicolon = a.semicolon }

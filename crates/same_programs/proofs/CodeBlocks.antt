@@ -1,24 +1,16 @@
 -- What the definitions of `Rattle.code_checker.specs.Blocks` say of bare trees.
-use Rattle.std.specs.Prelude.{ℕ, Bool}
+use Rattle.std.proofs.Common.{◌∙◌, ◌≡◌, ℕ, Bool, refl}
 use Rattle.pas_tree.specs.declared.blocks.Block.{Block, Block' as BlockTree', Row_of-Routine, end_of-Routine, more_of-Routine}
-use Rattle.pas_tree.specs.declared.blocks.RoutineBody.{RoutineBody, Directive, Block'}
+use Rattle.pas_tree.specs.declared.blocks.RoutineBody.{Block', Directive, RoutineBody}
 use Rattle.pas_tree.specs.declared.statements.Compound.{Compound, out-Compound}
-use Rattle.check_steps.specs.declared.regions.Span.{Span}
-use Rattle.check_steps.specs.Steps.{give, ◌>>=◌, look, enter_block}
-use Rattle.statement_checker.specs.Labels.{reach_all}
+use Rattle.check_steps.specs.{Steps.◌>>=◌, Steps.enter_block, Steps.give, Steps.look, declared.regions.Span.Span}
 use Rattle.decl_checker.specs.Routines.{own_frame}
-use Rattle.code_checker.specs.CodePlaces.{span_of}
-use Rattle.code_checker.specs.Results.{function_result, name_in_first}
-use Rattle.code_checker.specs.Blocks.{statement_part, code_block, code_routines, code_body}
-use Rattle.std.proofs.Common.{◌≡◌, refl, ◌∙◌}
+use Rattle.statement_checker.specs.Labels.{reach_all}
+use Rattle.code_checker.specs.{CodePlaces.span_of, Results.function_result, Results.name_in_first}
+use Rattle.code_checker.specs.Blocks.{code_block, code_body, code_routines, statement_part}
+use Rattle.same_programs.proofs.{BareStatements.bare_compound, CodePlaces.span_of-bare, HeadingFormals.is_function-bare, PlacesHeadings.heading_name-bare}
+use Rattle.same_programs.proofs.{Readers.compound_statements, RuleLabels.reach_all-bare, StatementStatements.compound-bare}
 use Rattle.same_programs.proofs.BareTrees.{bare_block, bare_body, bare_routines}
-use Rattle.same_programs.proofs.BareStatements.{bare_compound}
-use Rattle.same_programs.proofs.StatementStatements.{compound-bare}
-use Rattle.same_programs.proofs.HeadingFormals.{is_function-bare}
-use Rattle.same_programs.proofs.PlacesHeadings.{heading_name-bare}
-use Rattle.same_programs.proofs.Readers.{compound_statements}
-use Rattle.same_programs.proofs.RuleLabels.{reach_all-bare}
-use Rattle.same_programs.proofs.CodePlaces.{span_of-bare}
 
 pub statement_part-bare : (frame : ℕ) (span : Span) (c : Compound) → statement_part frame span (bare_compound c) ≡ statement_part frame span c
 unfolding statement_part

@@ -1,16 +1,12 @@
 -- What the definitions of `Rattle.code_checker.specs.CodePlaces` say of bare trees.
-use Rattle.std.specs.Prelude.{ℕ, Option, Some, None}
-use Rattle.pas_tree.specs.declared.blocks.Block.{Block, out-Block}
-use Rattle.pas_tree.specs.declared.blocks.LabelPart.{LabelPart}
-use Rattle.pas_tree.specs.declared.blocks.ConstantPart.{ConstantPart}
-use Rattle.pas_tree.specs.declared.blocks.TypePart.{TypePart}
+use Rattle.std.proofs.Common.{◌∙◌, ◌≡◌, ℕ, None, Option, Some, option_map, refl}
+use Rattle.pas_tree.specs.declared.blocks.{Block.Block, Block.out-Block, ConstantPart.ConstantPart, LabelPart.LabelPart, TypePart.TypePart}
 use Rattle.pas_tree.specs.declared.statements.Compound.{out-Compound}
 use Rattle.decl_checker.specs.Blocks.{after_types}
-use Rattle.code_checker.specs.CodePlaces.{first_of_parts, first_of_block, span_of}
-use Rattle.std.proofs.Common.{◌≡◌, refl, ◌∙◌, option_map}
+use Rattle.code_checker.specs.CodePlaces.{first_of_block, first_of_parts, span_of}
 use Rattle.same_programs.proofs.BareTrees.{bare_block, bare_constant_part, bare_label_part, bare_type_part}
-use Rattle.same_programs.proofs.Readers.{block_body, block_constants, block_labels, block_types, compound_begin}
 use Rattle.same_programs.proofs.DeclareBlocks.{after_types-bare}
+use Rattle.same_programs.proofs.Readers.{block_body, block_constants, block_labels, block_types, compound_begin}
 
 pub first_of_parts-bare : (l : Option LabelPart) (constants : Option ConstantPart) (types : Option TypePart) (after : ℕ)
     → first_of_parts (option_map bare_label_part l) (option_map bare_constant_part constants) (option_map bare_type_part types) after

@@ -1,28 +1,17 @@
 -- What the definitions of `Rattle.decl_checker.specs.Blocks` say of bare trees.
-use Rattle.std.specs.Prelude.{ℕ, List, [], ◌∷◌, Option, Some, None}
-use Rattle.pas_tree.specs.declared.blocks.Block.{Block, out-Block}
-use Rattle.pas_tree.specs.declared.blocks.Routine.{Routine}
-use Rattle.pas_tree.specs.declared.blocks.ConstantPart.{ConstantPart}
-use Rattle.pas_tree.specs.declared.blocks.TypePart.{TypePart}
-use Rattle.pas_tree.specs.declared.blocks.VariablePart.{VariablePart}
-use Rattle.pas_tree.specs.declared.statements.Compound.{Compound}
-use Rattle.check_steps.specs.Known.{frame_at}
-use Rattle.check_steps.specs.Steps.{◌>>=◌, look}
+use Rattle.std.proofs.Common.{◌∙◌, ◌∷◌, ◌≡◌, [], ℕ, List, None, Option, Some, map, option_map, refl}
+use Rattle.pas_tree.specs.declared.{blocks.Block.Block, blocks.Block.out-Block, statements.Compound.Compound}
+use Rattle.pas_tree.specs.declared.blocks.{ConstantPart.ConstantPart, Routine.Routine, TypePart.TypePart, VariablePart.VariablePart}
+use Rattle.check_steps.specs.{Known.frame_at, Steps.◌>>=◌, Steps.look}
 use Rattle.denoter_checker.specs.Parts.{define_type, define_variable, types_in, variable_declaration, variables_in}
 use Rattle.denoter_checker.specs.RoutineParts.{define_routines}
-use Rattle.decl_checker.specs.Labels.{define_labels}
-use Rattle.decl_checker.specs.Blocks.{define_constants, define_types, define_variables, define_block, constants, types, variables, first_word, word_after}
-use Rattle.decl_checker.specs.Blocks.{after_types, parts}
-use Rattle.std.proofs.Common.{◌≡◌, refl, ◌∙◌, map, option_map}
-use Rattle.same_programs.proofs.Steps.{each-bare}
+use Rattle.decl_checker.specs.{Blocks.variables, Blocks.word_after, Labels.define_labels}
+use Rattle.decl_checker.specs.Blocks.{after_types, constants, define_block, define_constants, define_types, define_variables, first_word, parts, types}
+use Rattle.same_programs.proofs.{BareStatements.bare_compound, BareTrees.bare_variable_part, DeclareLabels.define_labels-bare}
+use Rattle.same_programs.proofs.{HeadingRoutineParts.define_routines-bare, PlacesHeadings.heading_word-bare, Steps.each-bare}
 use Rattle.same_programs.proofs.BareTrees.{bare_block, bare_constant_part, bare_routine, bare_type_definition, bare_type_part, bare_variable_declaration}
-use Rattle.same_programs.proofs.BareTrees.{bare_variable_part}
-use Rattle.same_programs.proofs.BareStatements.{bare_compound}
 use Rattle.same_programs.proofs.DenoterParts.{define_type-bare, define_variable-bare, type_part-bare, variable_declaration-bare}
 use Rattle.same_programs.proofs.Readers.{block_body, block_constants, block_labels, block_routines, block_types, block_variables, compound_begin}
-use Rattle.same_programs.proofs.DeclareLabels.{define_labels-bare}
-use Rattle.same_programs.proofs.HeadingRoutineParts.{define_routines-bare}
-use Rattle.same_programs.proofs.PlacesHeadings.{heading_word-bare}
 
 pub define_constants-bare : (region : ℕ) (c : Option ConstantPart) → define_constants region (option_map bare_constant_part c)
     ≡ define_constants region c

@@ -1,14 +1,9 @@
 -- What the definitions of `Rattle.decl_checker.specs.Programs` say of bare trees.
-use Rattle.std.specs.Prelude.{ℕ}
+use Rattle.std.proofs.Common.{◌≡◌, ℕ}
 use Rattle.pas_tree.specs.declared.blocks.Tree.{Tree}
-use Rattle.check_steps.specs.Known.{frame_at}
-use Rattle.check_steps.specs.Steps.{give, ◌>>=◌, look, add_routine}
-use Rattle.decl_checker.specs.Programs.{main_row, open_program, define_program, program_step}
-use Rattle.std.proofs.Common.{◌≡◌}
-use Rattle.same_programs.proofs.BareTrees.{bare_tree}
-use Rattle.same_programs.proofs.DeclareParameters.{parameters-bare}
-use Rattle.same_programs.proofs.DeclareBlocks.{define_block-bare}
-use Rattle.same_programs.proofs.DeclareRoutines.{block-bare}
+use Rattle.check_steps.specs.{Known.frame_at, Steps.◌>>=◌, Steps.add_routine, Steps.give, Steps.look}
+use Rattle.decl_checker.specs.Programs.{define_program, main_row, open_program, program_step}
+use Rattle.same_programs.proofs.{BareTrees.bare_tree, DeclareBlocks.define_block-bare, DeclareParameters.parameters-bare, DeclareRoutines.block-bare}
 
 pub define_program-bare : (frame : ℕ) (t : Tree) → define_program frame (bare_tree t) ≡ define_program frame t
 unfolding define_program

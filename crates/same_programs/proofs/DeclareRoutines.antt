@@ -1,32 +1,20 @@
 -- What the definitions of `Rattle.decl_checker.specs.Routines` say of bare trees.
-use Rattle.std.specs.Prelude.{ℕ, false, List, Option, Some, None}
-use Rattle.pas_tree.specs.declared.blocks.Block.{Block, Block' as BlockTree', Row_of-Routine, end_of-Routine, more_of-Routine, items-the_row-Routine}
-use Rattle.pas_tree.specs.declared.blocks.Routine.{Routine}
-use Rattle.pas_tree.specs.declared.blocks.RoutineBody.{RoutineBody, Directive, Block'}
-use Rattle.pas_tree.specs.declared.headings.Heading.{Heading}
-use Rattle.pas_tree.specs.declared.statements.Compound.{out-Compound}
-use Rattle.core_program.specs.declared.rows.Row.TheVariants as row
-use Rattle.core_program.specs.declared.rows.NameRow.TheVariants as named
+use Rattle.std.proofs.Common.{◌∙◌, ◌≡◌, ℕ, List, None, Option, Some, false, map, option_map, refl}
+use Rattle.pas_tree.specs.declared.{headings.Heading.Heading, statements.Compound.out-Compound}
+use Rattle.pas_tree.specs.declared.blocks.{Routine.Routine, RoutineBody.Block', RoutineBody.Directive, RoutineBody.RoutineBody}
+use Rattle.pas_tree.specs.declared.blocks.Block.{Block, Block' as BlockTree', Row_of-Routine, end_of-Routine, items-the_row-Routine, more_of-Routine}
+use Rattle.core_program.specs.declared.rows.{NameRow.NameRow, Row.Row}
 use Rattle.check_steps.specs.Known.{frame_at, row_at}
-use Rattle.check_steps.specs.Steps.{give, ◌>>=◌, look, put, add_routine}
-use Rattle.denoter_checker.specs.Formals.{is_function}
-use Rattle.denoter_checker.specs.Headings.{signature}
-use Rattle.denoter_checker.specs.RoutineParts.{completion_of, routine_name}
-use Rattle.decl_checker.specs.Statements.{compound_uses}
-use Rattle.decl_checker.specs.declared.routines.Entered.{Entered}
-use Rattle.decl_checker.specs.Blocks.{parts, put_body}
-use Rattle.decl_checker.specs.Routines.{open_routine, define_body, define_completion, define_inside, result_place, place_after_result, heading_row}
-use Rattle.decl_checker.specs.Routines.{add_heading, first_heading, first_name, enter_at, enter_heading, block, routines_in, body_in}
-use Rattle.std.proofs.Common.{◌≡◌, refl, ◌∙◌, map, option_map}
+use Rattle.check_steps.specs.Steps.{◌>>=◌, add_routine, give, look, put}
+use Rattle.denoter_checker.specs.{Formals.is_function, Headings.signature, RoutineParts.completion_of, RoutineParts.routine_name}
+use Rattle.decl_checker.specs.{Blocks.parts, Blocks.put_body, Statements.compound_uses, declared.routines.Entered.Entered}
+use Rattle.decl_checker.specs.Routines.{add_heading, block, body_in, define_body, define_completion, define_inside, enter_at, enter_heading, first_heading}
+use Rattle.decl_checker.specs.Routines.{first_name, heading_row, open_routine, place_after_result, result_place, routines_in}
+use Rattle.same_programs.proofs.{BareHeadings.bare_heading, DeclareBlocks.define_block-bare, DeclareBlocks.parts-bare, HeadingFormals.define_formals_at-bare}
+use Rattle.same_programs.proofs.{HeadingFormals.is_function-bare, HeadingHeadings.signature-bare, PlacesHeadings.heading_name-bare}
+use Rattle.same_programs.proofs.{PlacesHeadings.heading_word-bare, Readers.compound_begin, Readers.routines_items, UseStatements.compound_uses-bare}
 use Rattle.same_programs.proofs.BareTrees.{bare_block, bare_body, bare_routine, bare_routines}
-use Rattle.same_programs.proofs.BareHeadings.{bare_heading}
-use Rattle.same_programs.proofs.DeclareBlocks.{define_block-bare, parts-bare}
-use Rattle.same_programs.proofs.HeadingFormals.{define_formals_at-bare, is_function-bare}
-use Rattle.same_programs.proofs.PlacesHeadings.{heading_name-bare, heading_word-bare}
-use Rattle.same_programs.proofs.HeadingRoutineParts.{routine_name-bare, completion_of-bare}
-use Rattle.same_programs.proofs.HeadingHeadings.{signature-bare}
-use Rattle.same_programs.proofs.UseStatements.{compound_uses-bare}
-use Rattle.same_programs.proofs.Readers.{compound_begin, routines_items}
+use Rattle.same_programs.proofs.HeadingRoutineParts.{completion_of-bare, routine_name-bare}
 
 pub define_body-bare : (frame : ℕ) (b : RoutineBody) → define_body frame (bare_body b) ≡ define_body frame b
 define_body-bare frame (Directive directive) = refl
@@ -59,7 +47,7 @@ pub add_heading-bare : (frame : ℕ) (h : Heading) (end : ℕ) → add_heading f
 unfolding add_heading
 add_heading-bare frame h end =
     λ i. look (λ k. frame_at k frame) >>= λ here. add_routine (heading_row-bare h here.level end i)
-    >>= λ number. put (heading_name-bare h i) (row.Name (named.Routine false number here.region)) >>= λ _. give number
+    >>= λ number. put (heading_name-bare h i) (Row.Name (NameRow.Routine false number here.region)) >>= λ _. give number
 
 pub first_heading-bare : (frame : ℕ) (rs : List Routine) (r : Routine) → first_heading frame (map bare_routine rs) (bare_routine r)
     ≡ first_heading frame rs r

@@ -1,21 +1,17 @@
 -- What the definitions of `Rattle.denoter_checker.specs.Defines` say of bare trees.
-use Rattle.std.specs.Prelude.{ℕ}
-use Rattle.pas_tree.specs.declared.denoters.Denoter.{Denoter, Name, Enumeration, Subrange, Pointer, Structure'}
-use Rattle.pas_tree.specs.declared.denoters.Structure.{Structure, Array, Record', Set'}
+use Rattle.std.proofs.Common.{◌≡◌, ℕ, refl}
 use Rattle.pas_tree.specs.declared.denoters.ArrayDenoter.{ArrayDenoter, ArrayDenoter', Row_of-NextDenoter, end_of-NextDenoter, more_of-NextDenoter}
-use Rattle.pas_tree.specs.declared.denoters.Fields.{Fields, Empty, Fixed', Variants' as FieldsVariants', Held-Fields-Fixed-1, None', Some'}
+use Rattle.pas_tree.specs.declared.denoters.Denoter.{Denoter, Enumeration, Name, Pointer, Structure', Subrange}
+use Rattle.pas_tree.specs.declared.denoters.Fields.{Empty, Fields, Fixed', Held-Fields-Fixed-1, None', Some', Variants' as FieldsVariants'}
 use Rattle.pas_tree.specs.declared.denoters.Fixed.{Fixed as FixedTree, Fixed' as FixedTree', Row_of-NextSection, end_of-NextSection, more_of-NextSection}
 use Rattle.pas_tree.specs.declared.denoters.NextVariants.{NextVariants, NextVariants'}
-use Rattle.pas_tree.specs.declared.denoters.Variants.{Variants as VariantsTree, Variants', Row_of-NextArm, end_of-NextArm, more_of-NextArm}
-use Rattle.check_steps.specs.Known.{frame_at}
-use Rattle.check_steps.specs.Steps.{◌>>=◌, look}
-use Rattle.kind_checker.specs.declared.names.NameKind.TheVariants as kind
-use Rattle.kind_checker.specs.Names.{define_name, each_name}
+use Rattle.pas_tree.specs.declared.denoters.Structure.{Array, Record', Set', Structure}
+use Rattle.pas_tree.specs.declared.denoters.Variants.{Row_of-NextArm, Variants as VariantsTree, Variants', end_of-NextArm, more_of-NextArm}
+use Rattle.check_steps.specs.{Known.frame_at, Steps.◌>>=◌, Steps.look}
+use Rattle.kind_checker.specs.{Names.define_name, Names.each_name, declared.names.NameKind.NameKind}
+use Rattle.denoter_checker.specs.Defines.{by, define_arms, define_array, define_denoter, define_fixed, define_held, define_in_fields, define_next_variants}
+use Rattle.denoter_checker.specs.Defines.{define_others, define_record, define_sections, define_structure, define_tag, define_variants}
 use Rattle.denoter_checker.specs.declared.defines.Wanted.{Wanted}
-use Rattle.denoter_checker.specs.declared.defines.Wanted.TheVariants as wanted
-use Rattle.denoter_checker.specs.Defines.{by, define_tag, define_denoter, define_structure, define_array, define_others, define_in_fields, define_fixed}
-use Rattle.denoter_checker.specs.Defines.{define_sections, define_held, define_next_variants, define_variants, define_arms, define_record}
-use Rattle.std.proofs.Common.{◌≡◌, refl}
 use Rattle.same_programs.proofs.BareDenoters.{bare_arms, bare_array, bare_denoter, bare_denoters, bare_fields, bare_fixed, bare_next_variants, bare_sections}
 use Rattle.same_programs.proofs.BareDenoters.{bare_structure, bare_variant_part, bare_variants}
 
@@ -29,7 +25,7 @@ mutual
 
   pub define_structure-bare : (region : ℕ) (s : Structure) → define_structure region (bare_structure s) ≡ define_structure region s
   define_structure-bare region (Array a) = λ i. define_array-bare region a i
-  define_structure-bare region (Record' word fields end) = λ i. define_in_fields-bare wanted.Constants region fields i
+  define_structure-bare region (Record' word fields end) = λ i. define_in_fields-bare Wanted.Constants region fields i
   define_structure-bare region (Set' word of base) = λ i. define_denoter-bare region base i
 
   pub define_array-bare : (region : ℕ) (a : ArrayDenoter) → define_array region (bare_array a) ≡ define_array region a
@@ -47,13 +43,13 @@ mutual
 
   pub define_fixed-bare : (w : Wanted) (region : ℕ) (f : FixedTree) → define_fixed w region (bare_fixed f) ≡ define_fixed w region f
   define_fixed-bare w region (FixedTree' names colon d _ others) =
-      λ i. by w (each_name (define_name region kind.Field) tt names) (define_denoter-bare region d i) >>= λ _. define_sections-bare w region others i
+      λ i. by w (each_name (define_name region NameKind.Field) tt names) (define_denoter-bare region d i) >>= λ _. define_sections-bare w region others i
 
   pub define_sections-bare : (w : Wanted) (region : ℕ) {m : _} (r : Row_of-NextSection m) → define_sections w region (bare_sections r)
       ≡ define_sections w region r
   define_sections-bare w region end_of-NextSection = refl
   define_sections-bare w region (more_of-NextSection semicolon names colon d rest) =
-      λ i. by w (each_name (define_name region kind.Field) tt names) (define_denoter-bare region d i) >>= λ _. define_sections-bare w region rest i
+      λ i. by w (each_name (define_name region NameKind.Field) tt names) (define_denoter-bare region d i) >>= λ _. define_sections-bare w region rest i
 
   pub define_held-bare : (w : Wanted) (region : ℕ) (h : Held-Fields-Fixed-1) → define_held w region (bare_next_variants h) ≡ define_held w region h
   define_held-bare w region None' = refl
@@ -74,4 +70,4 @@ mutual
 
 pub define_record-bare : (frame : ℕ) (fields : Fields) → define_record frame (bare_fields fields) ≡ define_record frame fields
 unfolding define_record
-define_record-bare frame fields = λ i. look (λ k. (frame_at k frame).region) >>= λ region. define_in_fields-bare wanted.Fields region fields i
+define_record-bare frame fields = λ i. look (λ k. (frame_at k frame).region) >>= λ region. define_in_fields-bare Wanted.Fields region fields i

@@ -1,35 +1,22 @@
 -- What the definitions of `Rattle.denoter_checker.specs.Denoters` say of bare trees.
-use Rattle.std.specs.Prelude.{ℕ, ◌+◌, Bool, Some, is_none, is_some}
-use Rattle.pas_tree.specs.declared.constants.Constants.{Constants}
-use Rattle.pas_tree.specs.declared.denoters.Denoter.{Denoter, Name, Enumeration, Subrange, Pointer, Structure'}
-use Rattle.pas_tree.specs.declared.denoters.Structure.{Structure, Array, Record', Set'}
+use Rattle.std.proofs.Common.{◌+◌, ◌≡◌, ℕ, Bool, Some, is_none, is_some, refl}
+use Rattle.pas_tree.specs.declared.{constants.Constants.Constants, denoters.NextVariants.NextVariants, denoters.NextVariants.NextVariants', denoters.Tag.Tag}
 use Rattle.pas_tree.specs.declared.denoters.ArrayDenoter.{ArrayDenoter, ArrayDenoter', Row_of-NextDenoter, end_of-NextDenoter, more_of-NextDenoter}
-use Rattle.pas_tree.specs.declared.denoters.Fields.{Fields, Empty, Fixed', Variants' as FieldsVariants', Held-Fields-Fixed-1, None', Some'}
+use Rattle.pas_tree.specs.declared.denoters.Denoter.{Denoter, Enumeration, Name, Pointer, Structure', Subrange}
+use Rattle.pas_tree.specs.declared.denoters.Fields.{Empty, Fields, Fixed', Held-Fields-Fixed-1, None', Some', Variants' as FieldsVariants'}
 use Rattle.pas_tree.specs.declared.denoters.Fixed.{Fixed as FixedTree, Fixed' as FixedTree', Row_of-NextSection, end_of-NextSection, more_of-NextSection}
-use Rattle.pas_tree.specs.declared.denoters.NextVariants.{NextVariants, NextVariants'}
-use Rattle.pas_tree.specs.declared.denoters.Variants.{Variants as VariantsTree, Variants', Row_of-NextArm, end_of-NextArm, more_of-NextArm}
-use Rattle.pas_tree.specs.declared.denoters.Tag.{Tag}
+use Rattle.pas_tree.specs.declared.denoters.Structure.{Array, Record', Set', Structure}
+use Rattle.pas_tree.specs.declared.denoters.Variants.{Row_of-NextArm, Variants as VariantsTree, Variants', end_of-NextArm, more_of-NextArm}
 use Rattle.check_steps.specs.Steps.{◌>>=◌}
-use Rattle.kind_checker.specs.declared.types.Scope.{Scope}
-use Rattle.kind_checker.specs.Names.{each_name}
-use Rattle.kind_checker.specs.Sizes.{capped}
-use Rattle.kind_checker.specs.Types.{ordinal, set_type}
-use Rattle.denoter_checker.specs.declared.variants.PartPlace.{PartPlace}
-use Rattle.denoter_checker.specs.Arrays.{array, joined, put_index}
+use Rattle.kind_checker.specs.{Names.each_name, Sizes.capped, Types.ordinal, Types.set_type, declared.types.Scope.Scope}
+use Rattle.denoter_checker.specs.{Arrays.array, Arrays.joined, Arrays.put_index, Denoters.variants_held, Denoters.variants_word}
+use Rattle.denoter_checker.specs.Denoters.{arms, array_denoter, case_word, choosing, denoter, field_place, fields_at, fixed_at, held_word, joins, more_choices}
+use Rattle.denoter_checker.specs.Denoters.{next_variants, open_record, other_indexes, part_at, put_record, scope_inside, sections, structure, variants_at}
 use Rattle.denoter_checker.specs.Variants.{choosing_at, nothing_listed, tag_part, variant_part}
-use Rattle.denoter_checker.specs.declared.variants.Choosing.{Choosing}
-use Rattle.denoter_checker.specs.declared.variants.Listed.{Listed}
-use Rattle.denoter_checker.specs.Denoters.{open_record, scope_inside, field_place, put_record, case_word, held_word, variants_word, part_at, more_choices}
-use Rattle.denoter_checker.specs.Denoters.{choosing}
-use Rattle.denoter_checker.specs.Denoters.{joins, denoter, structure, array_denoter, other_indexes, fields_at, fixed_at, sections, variants_held}
-use Rattle.denoter_checker.specs.Denoters.{next_variants, variants_at, arms}
-use Rattle.std.proofs.Common.{◌≡◌, refl}
+use Rattle.denoter_checker.specs.declared.variants.{Choosing.Choosing, Listed.Listed, PartPlace.PartPlace}
+use Rattle.same_programs.proofs.{BareNames.bare_constants, DenoterDefines.define_record-bare, DenoterVariants.arm_choices-bare, KindTypes.enumeration-bare}
 use Rattle.same_programs.proofs.BareDenoters.{bare_arms, bare_array, bare_denoter, bare_denoters, bare_fields, bare_fixed, bare_next_variants, bare_sections}
 use Rattle.same_programs.proofs.BareDenoters.{bare_structure, bare_variant_part, bare_variants}
-use Rattle.same_programs.proofs.BareNames.{bare_constants}
-use Rattle.same_programs.proofs.DenoterVariants.{arm_choices-bare}
-use Rattle.same_programs.proofs.KindTypes.{enumeration-bare}
-use Rattle.same_programs.proofs.DenoterDefines.{define_record-bare}
 use Rattle.same_programs.proofs.PlacesDenoters.{first_of_denoter-bare}
 
 pub word_of-bare : (v : VariantsTree) → case_word (bare_variants v) ≡ case_word v

@@ -1,13 +1,10 @@
 -- What the definitions of `Rattle.expression_checker.specs.Actuals` say of bare trees.
-use Rattle.std.specs.Prelude.{is_none, nat_eq, ◌&&◌, length}
-use Rattle.pas_tree.specs.declared.expressions.Factor.{Factor, Access'}
+use Rattle.std.proofs.Common.{◌&&◌, ◌∙◌, ◌≡◌, is_none, length, nat_eq, refl}
+use lib.ListN.{length-map}
+use Rattle.pas_tree.specs.declared.expressions.{Factor.Access', Factor.Factor, Simple.Simple, Simple.out-Simple, Term.Term, Term.out-Term}
 use Rattle.pas_tree.specs.declared.expressions.Access.{Access, Row_of-Selector, end_of-Selector, more_of-Selector}
 use Rattle.pas_tree.specs.declared.expressions.Expression.{Expression, out-Expression}
-use Rattle.pas_tree.specs.declared.expressions.Simple.{Simple, out-Simple}
-use Rattle.pas_tree.specs.declared.expressions.Term.{Term, out-Term}
-use Rattle.expression_checker.specs.Actuals.{is_name, name_if, factor_name, access_name, name_of_if, term_name, simple_name, name_alone}
-use Rattle.std.proofs.Common.{◌≡◌, refl, ◌∙◌}
-use lib.ListN.{length-map}
+use Rattle.expression_checker.specs.Actuals.{access_name, factor_name, is_name, name_alone, name_if, name_of_if, simple_name, term_name}
 use Rattle.same_programs.proofs.BareExpressions.{bare_access, bare_expression, bare_factor, bare_selector, bare_selectors, bare_simple, bare_term}
 use Rattle.same_programs.proofs.Readers.{expression_left, expression_relation, simple_first, simple_length, simple_sign, term_first, term_length}
 

@@ -1,47 +1,31 @@
 -- What the definitions of `Rattle.expression_checker.specs.Expressions` say of bare trees.
-use Rattle.std.specs.Prelude.{ℕ, ◌+◌}
-use Rattle.pas_tree.specs.declared.expressions.Factor.{Factor, Number, Text, Nil, Access', Call', Paren', Set', Not'}
-use Rattle.pas_tree.specs.declared.expressions.Access.{Access, Row_of-Selector, end_of-Selector, more_of-Selector}
-use Rattle.pas_tree.specs.declared.expressions.Selector.{Selector, Index, Field, Dereference}
-use Rattle.pas_tree.specs.declared.expressions.Index.{Index as IndexTree, Index'}
-use Rattle.pas_tree.specs.declared.expressions.Arguments.{Arguments, Arguments', Row_of-NextExpression, end_of-NextExpression, more_of-NextExpression}
-use Rattle.pas_tree.specs.declared.expressions.NextExpression.{NextExpression, NextExpression'}
-use Rattle.pas_tree.specs.declared.expressions.Expression.{Expression, Expression', Held-Expression-relation, Expression-relation-None'}
-use Rattle.pas_tree.specs.declared.expressions.Expression.{Expression-relation-Some'}
-use Rattle.pas_tree.specs.declared.expressions.Relation.{Relation, Relation'}
-use Rattle.pas_tree.specs.declared.expressions.Simple.{Simple, Simple', Row_of-NextTerm, end_of-NextTerm, more_of-NextTerm}
-use Rattle.pas_tree.specs.declared.expressions.NextTerm.{NextTerm, NextTerm'}
-use Rattle.pas_tree.specs.declared.expressions.Term.{Term, Term', Row_of-NextFactor, end_of-NextFactor, more_of-NextFactor}
-use Rattle.pas_tree.specs.declared.expressions.Members.{Members, Empty, Some as SomeOf}
-use Rattle.pas_tree.specs.declared.expressions.SomeMembers.{SomeMembers, SomeMembers', Row_of-NextMember, end_of-NextMember, more_of-NextMember}
-use Rattle.pas_tree.specs.declared.expressions.NextMember.{NextMember, NextMember'}
-use Rattle.pas_tree.specs.declared.expressions.Member.{Member, Member', Held-Member-last, Member-last-None', Member-last-Some'}
-use Rattle.pas_tree.specs.declared.expressions.RangeEnd.{RangeEnd, RangeEnd'}
-use Rattle.check_steps.specs.Steps.{give, ◌>>=◌}
+use Rattle.std.proofs.Common.{◌+◌, ◌≡◌, ℕ, refl}
 use Rattle.pas_tree.specs.OperatorPlaces.{adding_token, multiplying_token, relational_token}
-use Rattle.expression_checker.specs.declared.actuals.Passing.{Passing}
-use Rattle.expression_checker.specs.declared.members.MemberStart.{MemberStart}
-use Rattle.expression_checker.specs.declared.members.Gathered.{Gathered}
-use Rattle.expression_checker.specs.declared.typed.Typed.{Typed}
-use Rattle.expression_checker.specs.Actuals.{actual_by}
-use Rattle.expression_checker.specs.Callees.{applied, called_function}
+use Rattle.pas_tree.specs.declared.expressions.{Expression.Held-Expression-relation, Index.Index as IndexTree, Index.Index', Members.Empty, Members.Members}
+use Rattle.pas_tree.specs.declared.expressions.{Members.Some as SomeOf, NextExpression.NextExpression, NextExpression.NextExpression', NextMember.NextMember}
+use Rattle.pas_tree.specs.declared.expressions.{NextMember.NextMember', NextTerm.NextTerm, NextTerm.NextTerm', RangeEnd.RangeEnd, RangeEnd.RangeEnd'}
+use Rattle.pas_tree.specs.declared.expressions.{Relation.Relation, Relation.Relation', Selector.Dereference, Selector.Field, Selector.Index, Selector.Selector}
+use Rattle.pas_tree.specs.declared.expressions.Access.{Access, Row_of-Selector, end_of-Selector, more_of-Selector}
+use Rattle.pas_tree.specs.declared.expressions.Arguments.{Arguments, Arguments', Row_of-NextExpression, end_of-NextExpression, more_of-NextExpression}
+use Rattle.pas_tree.specs.declared.expressions.Expression.{Expression, Expression', Expression-relation-None', Expression-relation-Some'}
+use Rattle.pas_tree.specs.declared.expressions.Factor.{Access', Call', Factor, Nil, Not', Number, Paren', Set', Text}
+use Rattle.pas_tree.specs.declared.expressions.Member.{Held-Member-last, Member, Member', Member-last-None', Member-last-Some'}
+use Rattle.pas_tree.specs.declared.expressions.Simple.{Row_of-NextTerm, Simple, Simple', end_of-NextTerm, more_of-NextTerm}
+use Rattle.pas_tree.specs.declared.expressions.SomeMembers.{Row_of-NextMember, SomeMembers, SomeMembers', end_of-NextMember, more_of-NextMember}
+use Rattle.pas_tree.specs.declared.expressions.Term.{Row_of-NextFactor, Term, Term', end_of-NextFactor, more_of-NextFactor}
+use Rattle.check_steps.specs.Steps.{◌>>=◌, give}
+use Rattle.expression_checker.specs.{Actuals.actual_by, Callees.applied, Callees.called_function, Names.variable, Selectors.indexed, Typed.bracketed}
+use Rattle.expression_checker.specs.Expressions.{access, actual, call, constructor, count_of, expression, factor, factors, index_at, member, more_arguments}
+use Rattle.expression_checker.specs.Expressions.{more_indexes, more_members, next_argument, next_index, next_member, next_term, passing_to, range, range_held}
+use Rattle.expression_checker.specs.Expressions.{related, relation_held, root_name, selected, selector, simple, some_members, term, terms}
 use Rattle.expression_checker.specs.Members.{member_range, nothing_gathered, set_constructor}
-use Rattle.expression_checker.specs.Names.{variable}
 use Rattle.expression_checker.specs.Operations.{adding_operator, multiplying_operator, negated, operated, relational_operator, signed}
-use Rattle.expression_checker.specs.Selectors.{indexed}
-use Rattle.expression_checker.specs.Typed.{bracketed}
-use Rattle.expression_checker.specs.Expressions.{root_name, count_of, passing_to, expression, relation_held, related, simple, terms, next_term, term, factors}
-use Rattle.expression_checker.specs.Expressions.{factor, call, more_arguments, next_argument, selected, selector, index_at, more_indexes, next_index}
-use Rattle.expression_checker.specs.Expressions.{constructor, some_members, more_members, next_member, member, range_held, range, actual, access}
-use Rattle.std.proofs.Common.{◌≡◌, refl}
-use Rattle.same_programs.proofs.Steps.{each-bare}
+use Rattle.expression_checker.specs.declared.{actuals.Passing.Passing, members.Gathered.Gathered, members.MemberStart.MemberStart, typed.Typed.Typed}
+use Rattle.same_programs.proofs.{BareExpressions.bare_some_members, BareExpressions.bare_term, BareExpressions.bare_terms, ExpressionActuals.is_name-bare}
+use Rattle.same_programs.proofs.{ExpressionActuals.name_alone-bare, PlacesExpressions.first_of_expression-bare, Readers.arguments_length, Steps.each-bare}
 use Rattle.same_programs.proofs.BareExpressions.{bare_access, bare_arguments, bare_end, bare_expression, bare_expressions, bare_factor, bare_factors}
 use Rattle.same_programs.proofs.BareExpressions.{bare_index, bare_member, bare_members, bare_more_members, bare_next_expression, bare_next_member}
 use Rattle.same_programs.proofs.BareExpressions.{bare_next_term, bare_range_end, bare_related, bare_relation, bare_selector, bare_selectors, bare_simple}
-use Rattle.same_programs.proofs.BareExpressions.{bare_some_members, bare_term, bare_terms}
-use Rattle.same_programs.proofs.ExpressionActuals.{is_name-bare, name_alone-bare}
-use Rattle.same_programs.proofs.PlacesExpressions.{first_of_expression-bare}
-use Rattle.same_programs.proofs.Readers.{arguments_length}
 
 pub count_of-bare : (a : Arguments) → count_of (bare_arguments a) ≡ count_of a
 count_of-bare a = λ i. arguments_length a i + 1

@@ -1,23 +1,14 @@
 -- What the definitions of `Rattle.denoter_checker.specs.Formals` say of bare trees.
-use Rattle.std.specs.Prelude.{ℕ, Option, Some, None, is_some, not, ◌||◌}
-use Rattle.pas_tree.specs.declared.headings.Heading.{Heading, Procedure, Function}
-use Rattle.pas_tree.specs.declared.headings.ProcedureHeading.{ProcedureHeading'}
+use Rattle.std.proofs.Common.{◌||◌, ◌∙◌, ◌≡◌, ℕ, None, Option, Some, is_some, map, not, option_map, refl}
+use Rattle.pas_tree.specs.declared.headings.{Formal.Formal, Formal.Routine', Formal.Value, Formal.Variable, Formals.Formals, Heading.Function, Heading.Heading}
+use Rattle.pas_tree.specs.declared.headings.{Heading.Procedure, NextFormal.NextFormal, ProcedureHeading.ProcedureHeading'}
 use Rattle.pas_tree.specs.declared.headings.FunctionHeading.{FunctionHeading', Held-FunctionHeading-formals, None', Some'}
-use Rattle.pas_tree.specs.declared.headings.Formals.{Formals}
-use Rattle.pas_tree.specs.declared.headings.NextFormal.{NextFormal}
-use Rattle.pas_tree.specs.declared.headings.Formal.{Formal, Value, Variable, Routine'}
-use Rattle.check_steps.specs.Known.{frame_at}
-use Rattle.check_steps.specs.Steps.{◌>>=◌, look, each}
-use Rattle.kind_checker.specs.declared.names.NameKind.TheVariants as kind
-use Rattle.kind_checker.specs.Names.{define_name}
-use Rattle.denoter_checker.specs.Formals.{is_function, held_formals, formals_of, result_of, is_complete, opening_parenthesis, first_formal}
-use Rattle.denoter_checker.specs.Formals.{other_formals}
-use Rattle.denoter_checker.specs.Formals.{define_formal, define_next_formal, define_each_formal, define_held, define_formals, define_formals_at}
-use Rattle.std.proofs.Common.{◌≡◌, refl, ◌∙◌, map, option_map}
-use Rattle.same_programs.proofs.Steps.{each-bare}
+use Rattle.check_steps.specs.{Known.frame_at, Steps.◌>>=◌, Steps.each, Steps.look}
+use Rattle.kind_checker.specs.{Names.define_name, declared.names.NameKind.NameKind}
+use Rattle.denoter_checker.specs.Formals.{define_each_formal, define_formal, define_formals, define_formals_at, define_held, define_next_formal, first_formal}
+use Rattle.denoter_checker.specs.Formals.{formals_of, held_formals, is_complete, is_function, opening_parenthesis, other_formals, result_of}
+use Rattle.same_programs.proofs.{PlacesHeadings.heading_name-bare, Readers.formals_first, Readers.formals_open, Readers.formals_others, Steps.each-bare}
 use Rattle.same_programs.proofs.BareHeadings.{bare_formal, bare_formals, bare_heading, bare_held_formals, bare_next_formal}
-use Rattle.same_programs.proofs.PlacesHeadings.{heading_name-bare}
-use Rattle.same_programs.proofs.Readers.{formals_first, formals_open, formals_others}
 
 pub is_function-bare : (h : Heading) → is_function (bare_heading h) ≡ is_function h
 is_function-bare (Procedure p) = refl
@@ -50,7 +41,7 @@ other_formals-bare f = formals_others f
 pub define_formal-bare : (region : ℕ) (f : Formal) → define_formal region (bare_formal f) ≡ define_formal region f
 define_formal-bare region (Value f) = refl
 define_formal-bare region (Variable word f) = refl
-define_formal-bare region (Routine' _ h) = λ i. define_name region kind.Formal tt (heading_name-bare h i)
+define_formal-bare region (Routine' _ h) = λ i. define_name region NameKind.Formal tt (heading_name-bare h i)
 
 pub define_next_formal-bare : (region : ℕ) (u : Unit {0}) (n : NextFormal) → define_next_formal region u (bare_next_formal n)
     ≡ define_next_formal region u n

@@ -1,35 +1,22 @@
 -- What the definitions of `Rattle.denoter_checker.specs.Headings` say of bare trees.
-use Rattle.std.specs.Prelude.{ℕ, ◌+◌, Option, Some, None}
-use Rattle.pas_tree.specs.declared.constants.Names.{Names}
-use Rattle.pas_tree.specs.declared.headings.Heading.{Heading, Procedure, Function}
-use Rattle.pas_tree.specs.declared.headings.ProcedureHeading.{ProcedureHeading, ProcedureHeading'}
-use Rattle.pas_tree.specs.declared.headings.FunctionHeading.{FunctionHeading, FunctionHeading', Held-FunctionHeading-formals, None', Some'}
-use Rattle.pas_tree.specs.declared.headings.ResultType.{ResultType}
+use Rattle.std.proofs.Common.{◌+◌, ◌∙◌, ◌≡◌, ℕ, None, Option, Some, option_map, refl}
+use Rattle.pas_tree.specs.declared.{constants.Names.Names, headings.ProcedureHeading.ProcedureHeading, headings.ProcedureHeading.ProcedureHeading'}
+use Rattle.pas_tree.specs.declared.headings.{Formal.Formal, Formal.Routine', Formal.Value, Formal.Variable, FormalNames.FormalNames, Heading.Function}
+use Rattle.pas_tree.specs.declared.headings.{Heading.Heading, Heading.Procedure, NextFormal.NextFormal, ResultType.ResultType}
 use Rattle.pas_tree.specs.declared.headings.Formals.{Formals, Formals', Row_of-NextFormal, end_of-NextFormal, more_of-NextFormal}
-use Rattle.pas_tree.specs.declared.headings.NextFormal.{NextFormal}
-use Rattle.pas_tree.specs.declared.headings.Formal.{Formal, Value, Variable, Routine'}
-use Rattle.pas_tree.specs.declared.headings.FormalNames.{FormalNames}
-use Rattle.core_program.specs.declared.rows.Row.TheVariants as row
-use Rattle.core_program.specs.declared.rows.NameRow.TheVariants as named
-use Rattle.core_program.specs.declared.rows.Mode.{Mode}
-use Rattle.core_program.specs.declared.rows.Mode.TheVariants as mode
-use Rattle.core_program.specs.declared.rows.PartRow.TheVariants as part
-use Rattle.core_program.specs.declared.rows.ItemRow.TheVariants as item
+use Rattle.pas_tree.specs.declared.headings.FunctionHeading.{FunctionHeading, FunctionHeading', Held-FunctionHeading-formals, None', Some'}
+use Rattle.core_program.specs.declared.rows.{ItemRow.ItemRow, Mode.Mode, NameRow.NameRow, PartRow.PartRow, Row.Row}
 use Rattle.check_steps.specs.Known.{frame_at}
-use Rattle.check_steps.specs.Steps.{give, ◌>>=◌, look, early, put, open_region, each_back}
+use Rattle.check_steps.specs.Steps.{◌>>=◌, each_back, early, give, look, open_region, put}
 use Rattle.kind_checker.specs.Sizes.{frame_capped}
-use Rattle.denoter_checker.specs.Formals.{held_formals, opening_parenthesis, first_formal, other_formals}
-use Rattle.denoter_checker.specs.Headings.{parameters, routine_formal, open_heading, count_of, section_row, put_section, put_next_section, put_sections}
-use Rattle.denoter_checker.specs.Headings.{section_list, result_or, procedure_row, function_row, signature, procedure_signature, function_signature}
-use Rattle.denoter_checker.specs.Headings.{places_held, places, more_places, formal_place}
-use Rattle.std.proofs.Common.{◌≡◌, refl, ◌∙◌, option_map}
-use Rattle.same_programs.proofs.Steps.{each_back-bare}
+use Rattle.denoter_checker.specs.Formals.{first_formal, held_formals, opening_parenthesis, other_formals}
+use Rattle.denoter_checker.specs.Headings.{count_of, formal_place, function_row, function_signature, more_places, open_heading, parameters, places, places_held}
+use Rattle.denoter_checker.specs.Headings.{procedure_row, procedure_signature, put_next_section, put_section, put_sections, result_or, routine_formal}
+use Rattle.denoter_checker.specs.Headings.{section_list, section_row, signature}
+use Rattle.same_programs.proofs.{BareHeadings.bare_next_formal, BareHeadings.bare_procedure, BareNames.bare_names, HeadingFormals.other_formals-bare}
+use Rattle.same_programs.proofs.{PlacesHeadings.heading_name-bare, PlacesHeadings.heading_word-bare, Steps.each_back-bare}
 use Rattle.same_programs.proofs.BareHeadings.{bare_formal, bare_formal_names, bare_formals, bare_function, bare_heading, bare_held_formals, bare_more_formals}
-use Rattle.same_programs.proofs.BareHeadings.{bare_next_formal, bare_procedure}
-use Rattle.same_programs.proofs.BareNames.{bare_names}
-use Rattle.same_programs.proofs.PlacesHeadings.{heading_name-bare, heading_word-bare}
-use Rattle.same_programs.proofs.HeadingFormals.{is_complete-bare, define_formals_at-bare, other_formals-bare, opening-bare, first_formal-bare}
-use Rattle.same_programs.proofs.HeadingFormals.{held_formals-bare}
+use Rattle.same_programs.proofs.HeadingFormals.{define_formals_at-bare, first_formal-bare, held_formals-bare, is_complete-bare, opening-bare}
 
 pub parameters-bare : (m : Mode) (frame : ℕ) (at : ℕ) (f : FormalNames) → parameters m frame at (bare_formal_names f) ≡ parameters m frame at f
 unfolding parameters
@@ -39,7 +26,7 @@ pub routine_formal-bare : (frame : ℕ) (at : ℕ) (h : Heading) → routine_for
 unfolding routine_formal
 routine_formal-bare frame at h =
     λ i. look (λ k. (frame_at k frame).level)
-    >>= λ level. put (heading_name-bare h i) (row.Name (named.RoutineFormal at level (heading_word-bare h i)))
+    >>= λ level. put (heading_name-bare h i) (Row.Name (NameRow.RoutineFormal at level (heading_word-bare h i)))
     >>= λ _. early 9 (heading_name-bare h i) (is_complete-bare h i)
 
 pub open_heading-bare : (frame : ℕ) (h : Heading) → open_heading frame (bare_heading h) ≡ open_heading frame h
@@ -52,9 +39,9 @@ pub count_of-bare : (n : Names) → count_of (bare_names n) ≡ count_of n
 count_of-bare n = refl
 
 pub section_row-bare : (f : Formal) (next : ℕ) → section_row (bare_formal f) next ≡ section_row f next
-section_row-bare (Value f) next = λ i. row.Item (item.Section mode.Value f.names.first (count_of-bare f.names i) next)
-section_row-bare (Variable word f) next = λ i. row.Item (item.Section mode.Place f.names.first (count_of-bare f.names i) next)
-section_row-bare (Routine' _ h) next = λ i. row.Item (item.RoutineSection (heading_word-bare h i) next)
+section_row-bare (Value f) next = λ i. Row.Item (ItemRow.Section Mode.Value f.names.first (count_of-bare f.names i) next)
+section_row-bare (Variable word f) next = λ i. Row.Item (ItemRow.Section Mode.Place f.names.first (count_of-bare f.names i) next)
+section_row-bare (Routine' _ h) next = λ i. Row.Item (ItemRow.RoutineSection (heading_word-bare h i) next)
 
 pub put_section-bare : (slot : ℕ) (f : Formal) (next : ℕ) → put_section slot (bare_formal f) next ≡ put_section slot f next
 unfolding put_section
@@ -79,13 +66,13 @@ section_list-bare (Some f) = λ i. put_sections-bare f i
 pub procedure_row-bare : (word : ℕ) (name : ℕ) (formals : Option Formals) → procedure_row word name (option_map bare_formals formals)
     ≡ procedure_row word name formals
 unfolding procedure_row
-procedure_row-bare word name formals = λ i. section_list-bare formals i >>= λ list. put word (row.Part (part.Heading name list None))
+procedure_row-bare word name formals = λ i. section_list-bare formals i >>= λ list. put word (Row.Part (PartRow.Heading name list None))
 
 pub function_row-bare : (around : ℕ) (word : ℕ) (name : ℕ) (formals : Option Formals) (result : Option ResultType)
     → function_row around word name (option_map bare_formals formals) result ≡ function_row around word name formals result
 unfolding function_row
 function_row-bare around word name formals result =
-    λ i. section_list-bare formals i >>= λ list. result_or around name result >>= λ t. put word (row.Part (part.Heading name list (Some t)))
+    λ i. section_list-bare formals i >>= λ list. result_or around name result >>= λ t. put word (Row.Part (PartRow.Heading name list (Some t)))
 
 mutual
   pub signature-bare : (around : ℕ) (frame : ℕ) (h : Heading) → signature around frame (bare_heading h) ≡ signature around frame h
@@ -116,8 +103,8 @@ mutual
       λ i. formal_place-bare frame at formal i >>= λ next. more_places-bare frame next rest i
 
   pub formal_place-bare : (frame : ℕ) (at : ℕ) (f : Formal) → formal_place frame at (bare_formal f) ≡ formal_place frame at f
-  formal_place-bare frame at (Value f) = λ i. parameters-bare mode.Value frame at f i
-  formal_place-bare frame at (Variable word f) = λ i. parameters-bare mode.Place frame at f i
+  formal_place-bare frame at (Value f) = λ i. parameters-bare Mode.Value frame at f i
+  formal_place-bare frame at (Variable word f) = λ i. parameters-bare Mode.Place frame at f i
   formal_place-bare frame at (Routine' _ h) =
       λ i. routine_formal-bare frame at h i >>= λ _. open_heading-bare frame h i >>= λ inner. signature-bare frame inner h i
       >>= λ _. give (frame_capped (at + 1))

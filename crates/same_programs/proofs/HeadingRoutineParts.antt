@@ -1,27 +1,16 @@
 -- What the definitions of `Rattle.denoter_checker.specs.RoutineParts` say of bare trees.
-use Rattle.std.specs.Prelude.{ℕ, ◌+◌, min, false, List, Option, Some, None, not}
-use Rattle.pas_tree.specs.declared.headings.Heading.{Heading}
-use Rattle.pas_tree.specs.declared.headings.Formals.{Formals}
-use Rattle.pas_tree.specs.declared.blocks.Routine.{Routine}
-use Rattle.pas_tree.specs.declared.blocks.RoutineBody.{RoutineBody, Directive, Block'}
-use Rattle.core_program.specs.declared.rows.Row.TheVariants as row
-use Rattle.core_program.specs.declared.rows.PartRow.TheVariants as part
-use Rattle.check_steps.specs.declared.regions.Def.TheVariants as def
-use Rattle.check_steps.specs.Known.{Known, name_at, row_at}
-use Rattle.check_steps.specs.Regions.{defined_in}
-use Rattle.check_steps.specs.Names.{define_in}
-use Rattle.check_steps.specs.Steps.{give, ◌>>=◌, look, early, when, put}
-use Rattle.pas_tree.specs.HeadingPlaces.{heading_name}
-use Rattle.denoter_checker.specs.Formals.{is_function, formals_of, result_of}
-use Rattle.denoter_checker.specs.RoutineParts.{routine_name, awaiting, completed_by, define_heading, is_forward, directed, directive_in, defining, no_formals}
-use Rattle.denoter_checker.specs.RoutineParts.{no_result, completing, complete_or_define, define_routine, is_waiting, has_block, define_routines, block_in}
-use Rattle.denoter_checker.specs.RoutineParts.{routine_at, completion_of}
-use Rattle.std.proofs.Common.{◌≡◌, refl, ◌∙◌, map, option_map}
-use Rattle.same_programs.proofs.Steps.{each-bare, slice_get-map}
-use Rattle.same_programs.proofs.BareTrees.{bare_body, bare_routine}
+use Rattle.std.proofs.Common.{◌+◌, ◌∙◌, ◌≡◌, ℕ, List, None, Option, Some, false, map, min, not, option_map, refl}
+use Rattle.pas_tree.specs.{HeadingPlaces.heading_name, declared.headings.Formals.Formals, declared.headings.Heading.Heading}
+use Rattle.pas_tree.specs.declared.blocks.{Routine.Routine, RoutineBody.Block', RoutineBody.Directive, RoutineBody.RoutineBody}
+use Rattle.core_program.specs.declared.rows.{PartRow.PartRow, Row.Row}
+use Rattle.check_steps.specs.{Known.Known, Known.name_at, Known.row_at, Names.define_in, Regions.defined_in, declared.regions.Def.Def}
+use Rattle.check_steps.specs.Steps.{◌>>=◌, early, give, look, put, when}
+use Rattle.denoter_checker.specs.{Formals.formals_of, Formals.is_function, Formals.result_of, RoutineParts.routine_at, RoutineParts.routine_name}
+use Rattle.denoter_checker.specs.RoutineParts.{awaiting, block_in, complete_or_define, completed_by, completing, completion_of, define_heading, define_routine}
+use Rattle.denoter_checker.specs.RoutineParts.{define_routines, defining, directed, directive_in, has_block, is_forward, is_waiting, no_formals, no_result}
+use Rattle.same_programs.proofs.{BareTrees.bare_body, BareTrees.bare_routine, PlacesHeadings.heading_name-bare, Steps.each-bare, Steps.slice_get-map}
 use Rattle.same_programs.proofs.BareHeadings.{bare_formals, bare_heading}
-use Rattle.same_programs.proofs.PlacesHeadings.{heading_name-bare}
-use Rattle.same_programs.proofs.HeadingFormals.{is_function-bare, is_complete-bare, opening-bare, formals_of-bare, result_of-bare}
+use Rattle.same_programs.proofs.HeadingFormals.{formals_of-bare, is_complete-bare, is_function-bare, opening-bare, result_of-bare}
 
 pub routine_name-bare : (r : Routine) → routine_name (bare_routine r) ≡ routine_name r
 routine_name-bare r = λ i. heading_name-bare r.heading i
@@ -34,14 +23,14 @@ completed_by-bare k region h (Block' _ b) = λ i. awaiting k (is_function-bare h
 pub define_heading-bare : (region : ℕ) (h : Heading) → define_heading region (bare_heading h) ≡ define_heading region h
 unfolding define_heading
 define_heading-bare region h =
-    λ i. define_in region (record { def = def.Routine (heading_name-bare h i); token = heading_name-bare h i; end = heading_name-bare h i })
+    λ i. define_in region (record { def = Def.Routine (heading_name-bare h i); token = heading_name-bare h i; end = heading_name-bare h i })
     >>= λ _. early 9 (heading_name-bare h i) (is_complete-bare h i)
 
 pub directed-bare : (h : Heading) (directive : ℕ) → directed (bare_heading h) directive ≡ directed h directive
 unfolding directed
 directed-bare h directive =
     λ i. look (λ k. is_forward k directive) >>= λ forward. early 10 directive forward
-    >>= λ _. when forward (put (heading_name-bare h i) (row.Part (part.Forward (is_function-bare h i) None)))
+    >>= λ _. when forward (put (heading_name-bare h i) (Row.Part (PartRow.Forward (is_function-bare h i) None)))
 
 pub directive_in-bare : (h : Heading) (b : RoutineBody) → directive_in (bare_heading h) (bare_body b) ≡ directive_in h b
 directive_in-bare h (Directive directive) = λ i. directed-bare h directive i
@@ -59,10 +48,10 @@ pub completing-bare : (first : ℕ) (position : ℕ) (h : Heading) → completin
 unfolding completing
 completing-bare first position h =
     (λ i. no_formals (formals_of-bare h i) >>= λ _. no_result (result_of-bare h i)
-    >>= λ _. put first (row.Part (part.Forward (is_function-bare h i) (Some position)))
-    >>= λ _. put (heading_name-bare h i) (row.Part (part.Completing first))) ∙ (λ i. no_formals-bare (formals_of h) i
-    >>= λ _. no_result (result_of h) >>= λ _. put first (row.Part (part.Forward (is_function h) (Some position)))
-    >>= λ _. put (heading_name h) (row.Part (part.Completing first)))
+    >>= λ _. put first (Row.Part (PartRow.Forward (is_function-bare h i) (Some position)))
+    >>= λ _. put (heading_name-bare h i) (Row.Part (PartRow.Completing first))) ∙ (λ i. no_formals-bare (formals_of h) i
+    >>= λ _. no_result (result_of h) >>= λ _. put first (Row.Part (PartRow.Forward (is_function h) (Some position)))
+    >>= λ _. put (heading_name h) (Row.Part (PartRow.Completing first)))
 
 pub complete_or_define-bare : (x : Option ℕ) (region : ℕ) (position : ℕ) (h : Heading) (body : RoutineBody)
     → complete_or_define x region position (bare_heading h) (bare_body body) ≡ complete_or_define x region position h body

@@ -1,11 +1,10 @@
 -- Vectors that say what others say, and lie in no memory.
-use Rattle.std.proofs.Common.{◌≡◌, suc, ◌<◌, ◌^◌, ◌≤◌, List, [], ◌∷◌, map, length, refl, sym, ap, subst, Vec, Global, lt_of_le_of_lt}
-use mathlib.Core.HLevel.{is_prop→PathP}
-use mathlib.Core.Former.{Count, none_left, one_more, list_count, this}
-use native.Mathlib.Bridge.{le_prop}
+use Rattle.std.proofs.Common.{◌<◌, ◌^◌, ◌∷◌, ◌≡◌, ◌≤◌, [], Global, List, Vec, ap, length, lt_of_le_of_lt, map, refl, subst, suc, sym}
 use lib.ListN.{length-map}
-use Rattle.pas_tree.specs.SameConstants.{AllSame}
-use Rattle.pas_tree.proofs.Memory.{Short, held}
+use mathlib.Core.Former.{Count, list_count, none_left, one_more, this}
+use mathlib.Core.HLevel.{is_prop→PathP}
+use native.Mathlib.Bridge.{le_prop}
+use Rattle.pas_tree.{proofs.Memory.Short, proofs.Memory.held, specs.SameConstants.AllSame}
 
 abbrev pub held_same : {X : Type 0} (xs ys : List X) (p : Short xs) (q : Short ys) (e : xs ≡ ys) → held xs p ≡ held ys q
 held_same xs ys p q e = λ i. held (e i) (is_prop→PathP (λ j. Short (e j)) (λ j. le_prop) p q i)

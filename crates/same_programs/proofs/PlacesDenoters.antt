@@ -1,10 +1,8 @@
 -- What the definitions of `Rattle.pas_tree.specs.DenoterPlaces` say of bare trees.
-use Rattle.std.specs.Prelude.{Some, None}
-use Rattle.pas_tree.specs.declared.denoters.Denoter.{Denoter, Name, Enumeration, Subrange, Pointer, Structure'}
-use Rattle.pas_tree.specs.declared.denoters.Structure.{Structure, Array, Record', Set'}
-use Rattle.pas_tree.specs.declared.denoters.ArrayDenoter.{ArrayDenoter'}
-use Rattle.pas_tree.specs.DenoterPlaces.{first_of_structure, first_of_denoter}
-use Rattle.std.proofs.Common.{◌≡◌, refl}
+use Rattle.std.proofs.Common.{◌≡◌, None, Some, refl}
+use Rattle.pas_tree.specs.DenoterPlaces.{first_of_denoter, first_of_structure}
+use Rattle.pas_tree.specs.declared.denoters.{ArrayDenoter.ArrayDenoter', Structure.Array, Structure.Record', Structure.Set', Structure.Structure}
+use Rattle.pas_tree.specs.declared.denoters.Denoter.{Denoter, Enumeration, Name, Pointer, Structure', Subrange}
 use Rattle.same_programs.proofs.BareDenoters.{bare_denoter, bare_structure}
 
 pub first_of_structure-bare : (s : Structure) → first_of_structure (bare_structure s) ≡ first_of_structure s

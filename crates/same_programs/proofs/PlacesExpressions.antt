@@ -1,13 +1,9 @@
 -- What the definitions of `Rattle.pas_tree.specs.ExpressionPlaces` say of bare trees.
-use Rattle.std.specs.Prelude.{Some, None}
-use Rattle.pas_tree.specs.declared.expressions.Factor.{Factor, Number, Text, Nil, Access', Call', Paren', Set', Not'}
-use Rattle.pas_tree.specs.declared.expressions.Expression.{Expression, Expression'}
-use Rattle.pas_tree.specs.declared.expressions.Simple.{Simple, Simple'}
-use Rattle.pas_tree.specs.declared.expressions.Term.{Term, Term'}
-use Rattle.pas_tree.specs.declared.expressions.Members.{Members, Empty, Some as SomeMembers}
-use Rattle.pas_tree.specs.declared.expressions.SomeMembers.{SomeMembers'}
-use Rattle.pas_tree.specs.ExpressionPlaces.{first_of_members, first_of_factor, first_of_term, first_of_simple, first_of_expression}
-use Rattle.std.proofs.Common.{◌≡◌, refl}
+use Rattle.std.proofs.Common.{◌≡◌, None, Some, refl}
+use Rattle.pas_tree.specs.ExpressionPlaces.{first_of_expression, first_of_factor, first_of_members, first_of_simple, first_of_term}
+use Rattle.pas_tree.specs.declared.expressions.{Expression.Expression, Expression.Expression', Members.Empty, Members.Members, Members.Some as SomeMembers}
+use Rattle.pas_tree.specs.declared.expressions.{Simple.Simple, Simple.Simple', SomeMembers.SomeMembers', Term.Term, Term.Term'}
+use Rattle.pas_tree.specs.declared.expressions.Factor.{Access', Call', Factor, Nil, Not', Number, Paren', Set', Text}
 use Rattle.same_programs.proofs.BareExpressions.{bare_expression, bare_factor, bare_members, bare_simple, bare_term}
 
 pub first_of_members-bare : (m : Members) → first_of_members (bare_members m) ≡ first_of_members m

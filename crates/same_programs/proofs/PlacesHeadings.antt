@@ -1,9 +1,8 @@
 -- What the definitions of `Rattle.pas_tree.specs.HeadingPlaces` say of bare trees.
-use Rattle.pas_tree.specs.declared.headings.Heading.{Heading, Procedure, Function}
-use Rattle.pas_tree.specs.declared.headings.ProcedureHeading.{ProcedureHeading'}
-use Rattle.pas_tree.specs.declared.headings.FunctionHeading.{FunctionHeading'}
-use Rattle.pas_tree.specs.HeadingPlaces.{heading_word, heading_name}
 use Rattle.std.proofs.Common.{◌≡◌, refl}
+use Rattle.pas_tree.specs.HeadingPlaces.{heading_name, heading_word}
+use Rattle.pas_tree.specs.declared.headings.{FunctionHeading.FunctionHeading', ProcedureHeading.ProcedureHeading'}
+use Rattle.pas_tree.specs.declared.headings.Heading.{Function, Heading, Procedure}
 use Rattle.same_programs.proofs.BareHeadings.{bare_heading}
 
 pub heading_word-bare : (h : Heading) → heading_word (bare_heading h) ≡ heading_word h

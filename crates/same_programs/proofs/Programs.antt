@@ -1,21 +1,12 @@
 -- Trees that are the same break the same rules and denote the same program.
-use Rattle.std.proofs.Common.{◌≡◌, [], ap, sym, subst, ◌∙◌, refl, arith}
+use Rattle.std.proofs.Common.{◌∙◌, ◌≡◌, [], ap, arith, refl, subst, sym}
 use Rattle.pas_lexer.proofs.OneDivision.{same_tokens}
-use Rattle.pas_tree.specs.declared.blocks.Tree.{Tree}
-use Rattle.pas_tree.specs.SameTrees.{SameTree}
-use Rattle.pas_tree.proofs.TreesTold.{text_told}
-use Rattle.check_steps.specs.Words.{known_at_start}
+use Rattle.pas_tree.{proofs.TreesTold.text_told, specs.Blocks.tree_node, specs.SameTrees.SameTree, specs.declared.blocks.Tree.Tree}
+use Rattle.check_steps.specs.{Breaks.IsFirst, Words.known_at_start, declared.breaks.Break.Break}
 use Rattle.decl_checker.specs.Programs.{program_step, tables_of}
-use Rattle.code_checker.specs.CheckedPrograms.{check_step}
-use Rattle.check_steps.specs.declared.breaks.Break.{Break}
-use Rattle.check_steps.specs.Breaks.{IsFirst}
-use Rattle.pas_tree.specs.Blocks.{tree_node}
-use Rattle.code_checker.specs.declared.programs.ProgramFault.TheVariants as refused
-use Rattle.code_checker.specs.Declarations.{IsTextOf}
+use Rattle.code_checker.specs.{CheckedPrograms.check_step, Declarations.IsTextOf, declared.programs.ProgramFault.ProgramFault}
+use Rattle.same_programs.proofs.{CodePrograms.check_step-bare, DeclarePrograms.program_step-bare, SameTrees.same_tree}
 use Rattle.same_programs.specs.Laws.{AtMostOneProgram, DeclaredOnce, MemorySaysNothing, NeverBoth, OneTextOneProgram}
-use Rattle.same_programs.proofs.SameTrees.{same_tree}
-use Rattle.same_programs.proofs.DeclarePrograms.{program_step-bare}
-use Rattle.same_programs.proofs.CodePrograms.{check_step-bare}
 
 same_declarations : (a b : Tree) → SameTree a b → program_step a ≡ program_step b
 same_declarations a b p = sym (program_step-bare a) ∙ ap program_step (same_tree a b p) ∙ program_step-bare b
@@ -42,13 +33,13 @@ none_first : (b : Break) → IsFirst [] b → ⊥
 none_first b first = omega (arith, first.0.1)
 
 pub never_both : NeverBoth
-never_both t p (refused.NotProgram line byte) (x, a, b) (n, none, at) = absurd (none.0 (tree_node x, a.formed, a.spelled))
-never_both t p (refused.TooDeep line byte) (x, a, b) (n, none, at) = absurd (none.0 (tree_node x, a.formed, a.spelled))
-never_both t p (refused.Rule rule line byte) (x, a, b) (y, c, (token, fault, at)) =
+never_both t p (ProgramFault.NotProgram line byte) (x, a, b) (n, none, at) = absurd (none.0 (tree_node x, a.formed, a.spelled))
+never_both t p (ProgramFault.TooDeep line byte) (x, a, b) (n, none, at) = absurd (none.0 (tree_node x, a.formed, a.spelled))
+never_both t p (ProgramFault.Rule rule line byte) (x, a, b) (y, c, (token, fault, at)) =
     absurd (none_first fault.0 (subst (λ bs. IsFirst bs fault.0) ((one_text t y x c a).broken ∙ b.0) fault.1))
-never_both t p (refused.TooBig line byte) (x, a, b) (y, c, (token, fault, at)) =
+never_both t p (ProgramFault.TooBig line byte) (x, a, b) (y, c, (token, fault, at)) =
     absurd (none_first fault.0 (subst (λ bs. IsFirst bs fault.0) ((one_text t y x c a).broken ∙ b.0) fault.1))
-never_both t p refused.Memory h g = refl
+never_both t p ProgramFault.Memory h g = refl
 
 pub declared_once : DeclaredOnce
 declared_once source j k (t, x, has, text, is) (u, y, has', text', is') =

@@ -1,27 +1,23 @@
 -- What is read of the parts of a bare tree.
-use Rattle.std.proofs.Common.{◌≡◌, List, ◌∷◌, map, length, refl, sym, ap, ◌∙◌, option_map, is_none}
+use Rattle.std.proofs.Common.{◌∙◌, ◌∷◌, ◌≡◌, List, ap, is_none, length, map, option_map, refl, sym}
 use denote.Hole.Carrier.{out}
 use lib.ListN.{length-map}
-use Rattle.pas_tree.specs.declared.expressions.Expression.{Expression, Expression', out-Expression, Expression-relation-None', Expression-relation-Some'}
-use Rattle.pas_tree.specs.declared.expressions.Simple.{Simple, Simple', out-Simple, is-Simple', Row_of-NextTerm, end_of-NextTerm, more_of-NextTerm}
-use Rattle.pas_tree.specs.declared.expressions.Simple.{items-the_row-NextTerm, items_hidden-the_row-NextTerm-2}
-use Rattle.pas_tree.specs.declared.expressions.NextTerm.{NextTerm}
-use Rattle.pas_tree.specs.declared.expressions.Term.{Term, Term', out-Term, is-Term', Row_of-NextFactor, end_of-NextFactor, more_of-NextFactor}
-use Rattle.pas_tree.specs.declared.expressions.Term.{items-the_row-NextFactor, items_hidden-the_row-NextFactor-4}
-use Rattle.pas_tree.specs.declared.expressions.NextFactor.{NextFactor}
-use Rattle.pas_tree.specs.declared.expressions.Arguments.{Arguments, Arguments', out-Arguments, is-Arguments', Row_of-NextExpression, end_of-NextExpression}
-use Rattle.pas_tree.specs.declared.expressions.Arguments.{more_of-NextExpression, items-the_row-NextExpression, items_hidden-the_row-NextExpression-1}
-use Rattle.pas_tree.specs.declared.expressions.NextExpression.{NextExpression}
-use Rattle.pas_tree.specs.declared.headings.Formals.{Formals, Formals', out-Formals, is-Formals', Row_of-NextFormal, end_of-NextFormal, more_of-NextFormal}
-use Rattle.pas_tree.specs.declared.headings.Formals.{items-the_row-NextFormal, items_hidden-the_row-NextFormal-0}
-use Rattle.pas_tree.specs.declared.headings.NextFormal.{NextFormal}
+use Rattle.pas_tree.specs.declared.blocks.{Block.items_hidden-the_row-Routine-0, Block.more_of-Routine, Block.out-Block, Routine.Routine}
+use Rattle.pas_tree.specs.declared.blocks.Block.{Block, Block', Row_of-Routine, end_of-Routine, is-Block', items-the_row-Routine}
+use Rattle.pas_tree.specs.declared.expressions.{Arguments.out-Arguments, NextExpression.NextExpression, NextFactor.NextFactor, NextTerm.NextTerm}
+use Rattle.pas_tree.specs.declared.expressions.Arguments.{Arguments, Arguments', Row_of-NextExpression, end_of-NextExpression, is-Arguments'}
+use Rattle.pas_tree.specs.declared.expressions.Arguments.{items-the_row-NextExpression, items_hidden-the_row-NextExpression-1, more_of-NextExpression}
+use Rattle.pas_tree.specs.declared.expressions.Expression.{Expression, Expression', Expression-relation-None', Expression-relation-Some', out-Expression}
+use Rattle.pas_tree.specs.declared.expressions.Simple.{Row_of-NextTerm, Simple, Simple', end_of-NextTerm, is-Simple', items-the_row-NextTerm}
+use Rattle.pas_tree.specs.declared.expressions.Simple.{items_hidden-the_row-NextTerm-2, more_of-NextTerm, out-Simple}
+use Rattle.pas_tree.specs.declared.expressions.Term.{Row_of-NextFactor, Term, Term', end_of-NextFactor, is-Term', items-the_row-NextFactor}
+use Rattle.pas_tree.specs.declared.expressions.Term.{items_hidden-the_row-NextFactor-4, more_of-NextFactor, out-Term}
+use Rattle.pas_tree.specs.declared.headings.{Formals.items_hidden-the_row-NextFormal-0, Formals.more_of-NextFormal, Formals.out-Formals, NextFormal.NextFormal}
+use Rattle.pas_tree.specs.declared.headings.Formals.{Formals, Formals', Row_of-NextFormal, end_of-NextFormal, is-Formals', items-the_row-NextFormal}
+use Rattle.pas_tree.specs.declared.statements.{NextStatement.NextStatement, Statements.out-Statements}
 use Rattle.pas_tree.specs.declared.statements.Compound.{Compound, Compound', out-Compound}
-use Rattle.pas_tree.specs.declared.statements.Statements.{Statements, Statements', out-Statements, is-Statements', Row_of-NextStatement, end_of-NextStatement}
-use Rattle.pas_tree.specs.declared.statements.Statements.{more_of-NextStatement, items-the_row-NextStatement, items_hidden-the_row-NextStatement-1}
-use Rattle.pas_tree.specs.declared.statements.NextStatement.{NextStatement}
-use Rattle.pas_tree.specs.declared.blocks.Block.{Block, Block', out-Block, is-Block', Row_of-Routine, end_of-Routine, more_of-Routine, items-the_row-Routine}
-use Rattle.pas_tree.specs.declared.blocks.Block.{items_hidden-the_row-Routine-0}
-use Rattle.pas_tree.specs.declared.blocks.Routine.{Routine}
+use Rattle.pas_tree.specs.declared.statements.Statements.{Row_of-NextStatement, Statements, Statements', end_of-NextStatement, is-Statements'}
+use Rattle.pas_tree.specs.declared.statements.Statements.{items-the_row-NextStatement, items_hidden-the_row-NextStatement-1, more_of-NextStatement}
 use Rattle.same_programs.proofs.BareExpressions.{bare_arguments, bare_expression, bare_expressions, bare_factor, bare_factors, bare_next_expression}
 use Rattle.same_programs.proofs.BareExpressions.{bare_next_factor, bare_next_term, bare_simple, bare_term, bare_terms}
 use Rattle.same_programs.proofs.BareHeadings.{bare_formal, bare_formals, bare_more_formals, bare_next_formal}

@@ -1,28 +1,18 @@
 -- Tokens are refused for one reason, at one place.
-use Rattle.std.proofs.Common.{◌≡◌, ℕ, false, nat_eq, nat_lt, ◌&&◌, ◌||◌, List, Some, None, Option, slice_get, refl, ap, sym, subst, ◌∙◌, arith}
-use Rattle.std.proofs.Common.{le_antisymm, lt_of_not-le}
-use Rattle.std.proofs.lemmas.Bool.Decides.{nat_tests}
+use Rattle.std.proofs.Common.{◌&&◌, ◌||◌, ◌∙◌, ◌≡◌, ℕ, List, None, Option, Some, ap, arith, false, le_antisymm, lt_of_not-le, nat_eq, nat_lt, refl, slice_get}
+use Rattle.std.proofs.{Common.subst, Common.sym, lemmas.Bool.Decides.nat_tests}
 use native.Mathlib.Decide.{dec_le}
+use Rattle.pas_lexer.specs.{Lexed.Lexed, declared.kinds.Token.Token}
 use Rattle.grammar.specs.Refusals.{IsHopeless, IsLeast, IsTooDeep}
-use Rattle.pas_lexer.specs.declared.kinds.Token.{Token}
-use Rattle.pas_lexer.specs.Lexed.{Lexed}
-use Rattle.pas_tree.specs.declared.blocks.Tree.{Tree}
-use Rattle.pas_tree.specs.Blocks.{tree_node}
-use Rattle.pas_tree.specs.Rules.{program_rule}
-use Rattle.pas_tree.specs.FirstFollow.{pascal}
+use Rattle.pas_tree.specs.{Blocks.tree_node, FirstFollow.pascal, Rules.program_rule, declared.blocks.Tree.Tree}
 use Rattle.pas_parser.specs.Formed.{IsText, items_of}
-use Rattle.check_steps.specs.declared.breaks.Broken.{Broken}
-use Rattle.check_steps.specs.declared.breaks.Broken.TheVariants.{Early, Late, TooBig}
-use Rattle.check_steps.specs.declared.breaks.Break.{Break}
-use Rattle.check_steps.specs.declared.breaks.CheckFault.{CheckFault}
-use Rattle.check_steps.specs.declared.breaks.CheckFault.TheVariants as fault
 use Rattle.check_steps.specs.Breaks.{IsFirst, IsOfFirst, fault_of, group, is_before, number}
-use Rattle.code_checker.specs.declared.programs.ProgramFault.TheVariants as refused
-use Rattle.code_checker.specs.CheckedPrograms.{broken}
-use Rattle.code_checker.specs.Declarations.{IsTextOf}
+use Rattle.check_steps.specs.declared.breaks.{Break.Break, CheckFault.CheckFault}
+use Rattle.check_steps.specs.declared.breaks.Broken.{Broken, TheVariants.Early, TheVariants.Late, TheVariants.TooBig}
+use Rattle.code_checker.specs.{CheckedPrograms.broken, Declarations.IsTextOf, declared.programs.ProgramFault.ProgramFault}
 use Rattle.code_checker.specs.Places.{TokenBegins, TokenOrLastBegins, token_or_last}
-use Rattle.same_programs.specs.Laws.{RefusedOnce}
 use Rattle.same_programs.proofs.Programs.{one_text}
+use Rattle.same_programs.specs.Laws.{RefusedOnce}
 
 -- ---- first ones
 
@@ -73,19 +63,19 @@ for_once t m n line byte line' byte' e a b =
 -- ---- faults
 
 abbrev kind_of : CheckFault → ℕ
-kind_of (fault.Rule rule token) = 0
-kind_of (fault.TooBig token) = 1
-kind_of fault.Memory = 2
+kind_of (CheckFault.Rule rule token) = 0
+kind_of (CheckFault.TooBig token) = 1
+kind_of CheckFault.Memory = 2
 
 abbrev rule_in : CheckFault → ℕ
-rule_in (fault.Rule rule token) = rule
-rule_in (fault.TooBig token) = 0
-rule_in fault.Memory = 0
+rule_in (CheckFault.Rule rule token) = rule
+rule_in (CheckFault.TooBig token) = 0
+rule_in CheckFault.Memory = 0
 
 abbrev token_at : CheckFault → ℕ
-token_at (fault.Rule rule token) = token
-token_at (fault.TooBig token) = token
-token_at fault.Memory = 0
+token_at (CheckFault.Rule rule token) = token
+token_at (CheckFault.TooBig token) = token
+token_at CheckFault.Memory = 0
 
 -- what is answered of the first of what two trees of a text break
 answered_once : (t : Lexed) (x y : Tree) (e f : CheckFault) → IsTextOf t x → IsTextOf t y → IsOfFirst (broken t x) e → IsOfFirst (broken t y) f → e ≡ f
@@ -95,35 +85,35 @@ no_tree : (t : Lexed) (x : Tree) → (IsText t.tokens → ⊥) → IsTextOf t x 
 no_tree t x none a = none (tree_node x, a.formed, a.spelled)
 
 pub refused_once : RefusedOnce
-refused_once t (refused.NotProgram line byte) (refused.NotProgram line' byte') (m, x, at) (n, y, at') p q =
+refused_once t (ProgramFault.NotProgram line byte) (ProgramFault.NotProgram line' byte') (m, x, at) (n, y, at') p q =
     let e : m ≡ n = least_once (IsHopeless pascal program_rule (items_of t.tokens)) m n x.1.1.1 y.1.1.1 in
     let place = at_once t m n line byte line' byte' e at at' in
-    λ i. refused.NotProgram (place.0 i) (place.1 i)
-refused_once t (refused.TooDeep line byte) (refused.TooDeep line' byte') (m, x, at) (n, y, at') p q =
+    λ i. ProgramFault.NotProgram (place.0 i) (place.1 i)
+refused_once t (ProgramFault.TooDeep line byte) (ProgramFault.TooDeep line' byte') (m, x, at) (n, y, at') p q =
     let e : m ≡ n = least_once (IsTooDeep pascal 200 program_rule (items_of t.tokens)) m n x.1.1 y.1.1 in
     let place = at_once t m n line byte line' byte' e at at' in
-    λ i. refused.TooDeep (place.0 i) (place.1 i)
-refused_once t (refused.NotProgram line byte) (refused.TooDeep line' byte') (m, x, at) (n, y, at') p q = absurd (x.1.1.0 n y.1.1.0)
-refused_once t (refused.TooDeep line byte) (refused.NotProgram line' byte') (m, x, at) (n, y, at') p q = absurd (y.1.1.0 m x.1.1.0)
-refused_once t (refused.NotProgram line byte) (refused.Rule rule line' byte') (m, x, at) (z, a, b) p q = absurd (no_tree t z x.0 a)
-refused_once t (refused.NotProgram line byte) (refused.TooBig line' byte') (m, x, at) (z, a, b) p q = absurd (no_tree t z x.0 a)
-refused_once t (refused.TooDeep line byte) (refused.Rule rule line' byte') (m, x, at) (z, a, b) p q = absurd (no_tree t z x.0 a)
-refused_once t (refused.TooDeep line byte) (refused.TooBig line' byte') (m, x, at) (z, a, b) p q = absurd (no_tree t z x.0 a)
-refused_once t (refused.Rule rule line byte) (refused.NotProgram line' byte') (z, a, b) (n, y, at) p q = absurd (no_tree t z y.0 a)
-refused_once t (refused.Rule rule line byte) (refused.TooDeep line' byte') (z, a, b) (n, y, at) p q = absurd (no_tree t z y.0 a)
-refused_once t (refused.TooBig line byte) (refused.NotProgram line' byte') (z, a, b) (n, y, at) p q = absurd (no_tree t z y.0 a)
-refused_once t (refused.TooBig line byte) (refused.TooDeep line' byte') (z, a, b) (n, y, at) p q = absurd (no_tree t z y.0 a)
-refused_once t (refused.Rule rule line byte) (refused.Rule rule' line' byte') (x, a, (m, g, at)) (y, b, (n, h, at')) p q =
-    let e = answered_once t x y (fault.Rule rule m) (fault.Rule rule' n) a b g h in
+    λ i. ProgramFault.TooDeep (place.0 i) (place.1 i)
+refused_once t (ProgramFault.NotProgram line byte) (ProgramFault.TooDeep line' byte') (m, x, at) (n, y, at') p q = absurd (x.1.1.0 n y.1.1.0)
+refused_once t (ProgramFault.TooDeep line byte) (ProgramFault.NotProgram line' byte') (m, x, at) (n, y, at') p q = absurd (y.1.1.0 m x.1.1.0)
+refused_once t (ProgramFault.NotProgram line byte) (ProgramFault.Rule rule line' byte') (m, x, at) (z, a, b) p q = absurd (no_tree t z x.0 a)
+refused_once t (ProgramFault.NotProgram line byte) (ProgramFault.TooBig line' byte') (m, x, at) (z, a, b) p q = absurd (no_tree t z x.0 a)
+refused_once t (ProgramFault.TooDeep line byte) (ProgramFault.Rule rule line' byte') (m, x, at) (z, a, b) p q = absurd (no_tree t z x.0 a)
+refused_once t (ProgramFault.TooDeep line byte) (ProgramFault.TooBig line' byte') (m, x, at) (z, a, b) p q = absurd (no_tree t z x.0 a)
+refused_once t (ProgramFault.Rule rule line byte) (ProgramFault.NotProgram line' byte') (z, a, b) (n, y, at) p q = absurd (no_tree t z y.0 a)
+refused_once t (ProgramFault.Rule rule line byte) (ProgramFault.TooDeep line' byte') (z, a, b) (n, y, at) p q = absurd (no_tree t z y.0 a)
+refused_once t (ProgramFault.TooBig line byte) (ProgramFault.NotProgram line' byte') (z, a, b) (n, y, at) p q = absurd (no_tree t z y.0 a)
+refused_once t (ProgramFault.TooBig line byte) (ProgramFault.TooDeep line' byte') (z, a, b) (n, y, at) p q = absurd (no_tree t z y.0 a)
+refused_once t (ProgramFault.Rule rule line byte) (ProgramFault.Rule rule' line' byte') (x, a, (m, g, at)) (y, b, (n, h, at')) p q =
+    let e = answered_once t x y (CheckFault.Rule rule m) (CheckFault.Rule rule' n) a b g h in
     let place = for_once t m n line byte line' byte' (ap token_at e) at at' in
-    λ i. refused.Rule (rule_in (e i)) (place.0 i) (place.1 i)
-refused_once t (refused.TooBig line byte) (refused.TooBig line' byte') (x, a, (m, g, at)) (y, b, (n, h, at')) p q =
-    let e = answered_once t x y (fault.TooBig m) (fault.TooBig n) a b g h in
+    λ i. ProgramFault.Rule (rule_in (e i)) (place.0 i) (place.1 i)
+refused_once t (ProgramFault.TooBig line byte) (ProgramFault.TooBig line' byte') (x, a, (m, g, at)) (y, b, (n, h, at')) p q =
+    let e = answered_once t x y (CheckFault.TooBig m) (CheckFault.TooBig n) a b g h in
     let place = for_once t m n line byte line' byte' (ap token_at e) at at' in
-    λ i. refused.TooBig (place.0 i) (place.1 i)
-refused_once t (refused.Rule rule line byte) (refused.TooBig line' byte') (x, a, (m, g, at)) (y, b, (n, h, at')) p q =
-    let e = answered_once t x y (fault.Rule rule m) (fault.TooBig n) a b g h in absurd (omega (arith, ap kind_of e))
-refused_once t (refused.TooBig line byte) (refused.Rule rule line' byte') (x, a, (m, g, at)) (y, b, (n, h, at')) p q =
-    let e = answered_once t x y (fault.TooBig m) (fault.Rule rule n) a b g h in absurd (omega (arith, ap kind_of e))
-refused_once t refused.Memory f h g p q = absurd (p refl)
-refused_once t e refused.Memory h g p q = absurd (q refl)
+    λ i. ProgramFault.TooBig (place.0 i) (place.1 i)
+refused_once t (ProgramFault.Rule rule line byte) (ProgramFault.TooBig line' byte') (x, a, (m, g, at)) (y, b, (n, h, at')) p q =
+    let e = answered_once t x y (CheckFault.Rule rule m) (CheckFault.TooBig n) a b g h in absurd (omega (arith, ap kind_of e))
+refused_once t (ProgramFault.TooBig line byte) (ProgramFault.Rule rule line' byte') (x, a, (m, g, at)) (y, b, (n, h, at')) p q =
+    let e = answered_once t x y (CheckFault.TooBig m) (CheckFault.Rule rule n) a b g h in absurd (omega (arith, ap kind_of e))
+refused_once t ProgramFault.Memory f h g p q = absurd (p refl)
+refused_once t e ProgramFault.Memory h g p q = absurd (q refl)

@@ -1,18 +1,11 @@
 -- What the definitions of `Rattle.statement_checker.specs.Actuals` say of bare trees.
-use Rattle.std.specs.Prelude.{ℕ, false, Option, Some, None}
-use Rattle.pas_tree.specs.declared.statements.Actuals.{Actuals}
-use Rattle.pas_tree.specs.declared.statements.NextActual.{NextActual}
-use Rattle.pas_tree.specs.declared.statements.Actual.{Actual}
-use Rattle.pas_tree.specs.declared.statements.Width.{Width}
+use Rattle.std.proofs.Common.{◌≡◌, ℕ, None, Option, Some, false, option_map, refl}
+use Rattle.pas_tree.specs.declared.statements.{Actual.Actual, Actuals.Actuals, NextActual.NextActual, Width.Width}
 use Rattle.core_program.specs.declared.rows.TextFile.{TextFile}
-use Rattle.check_steps.specs.Known.{Known}
-use Rattle.check_steps.specs.Steps.{give, ◌>>=◌, late}
-use Rattle.statement_checker.specs.Actuals.{surplus_width, no_width, plain_actual, next_plain, own_parts, wrong_number, named_file, file_without, actual_file}
-use Rattle.std.proofs.Common.{◌≡◌, refl, option_map}
-use Rattle.same_programs.proofs.Steps.{each-bare}
+use Rattle.check_steps.specs.{Known.Known, Steps.◌>>=◌, Steps.give, Steps.late}
+use Rattle.statement_checker.specs.Actuals.{actual_file, file_without, named_file, next_plain, no_width, own_parts, plain_actual, surplus_width, wrong_number}
+use Rattle.same_programs.proofs.{ExpressionActuals.name_alone-bare, ExpressionExpressions.expression-bare, Steps.each-bare}
 use Rattle.same_programs.proofs.BareStatements.{bare_actual, bare_actuals, bare_next_actual, bare_width}
-use Rattle.same_programs.proofs.ExpressionExpressions.{expression-bare}
-use Rattle.same_programs.proofs.ExpressionActuals.{name_alone-bare}
 
 pub surplus_width-bare : (frame : ℕ) (w : Width) → surplus_width frame (bare_width w) ≡ surplus_width frame w
 unfolding surplus_width

@@ -1,33 +1,27 @@
 -- What the definitions of `Rattle.statement_checker.specs.Moves` say of bare trees.
-use Rattle.std.specs.Prelude.{ℕ, Bool, true, false, List, [], ◌∷◌, Option, Some, None, nat_eq}
+use Rattle.std.proofs.Common.{◌∷◌, ◌≡◌, [], ℕ, Bool, List, None, Option, Some, false, map, nat_eq, option_map, refl, true}
 use Rattle.std.specs.Global.{Box}
-use Rattle.pas_tree.specs.declared.statements.Actuals.{Actuals}
-use Rattle.pas_tree.specs.declared.statements.NextActual.{NextActual}
-use Rattle.pas_tree.specs.declared.statements.Actual.{Actual}
-use Rattle.core_program.specs.declared.rows.StatementRow.TheVariants as statement
-use Rattle.check_steps.specs.Steps.{give, ◌>>=◌, look, late}
-use Rattle.statement_checker.specs.Sequences.{stated}
-use Rattle.statement_checker.specs.declared.actuals.RequiredCall.{RequiredCall}
-use Rattle.statement_checker.specs.Moves.{domain_of, is_pointer, new_variable, new_one, dispose_one, pointer_one, pointer_some, pointer_call, move_checked}
-use Rattle.statement_checker.specs.Moves.{operand_actual, pack_row}
-use Rattle.statement_checker.specs.Moves.{pack_three, unpack_three, three, pack_some, pack_call}
-use Rattle.std.proofs.Common.{◌≡◌, refl, map, option_map}
 use lib.ListN.{length-map}
+use Rattle.pas_tree.specs.declared.statements.{Actual.Actual, Actuals.Actuals, NextActual.NextActual}
+use Rattle.core_program.specs.declared.rows.StatementRow.{StatementRow}
+use Rattle.check_steps.specs.Steps.{◌>>=◌, give, late, look}
+use Rattle.statement_checker.specs.{Sequences.stated, declared.actuals.RequiredCall.RequiredCall}
+use Rattle.statement_checker.specs.Moves.{dispose_one, domain_of, is_pointer, move_checked, new_one, new_variable, operand_actual, pack_call, pack_row}
+use Rattle.statement_checker.specs.Moves.{pack_some, pack_three, pointer_call, pointer_one, pointer_some, three, unpack_three}
+use Rattle.same_programs.proofs.{PlacesExpressions.first_of_expression-bare, RequiredActuals.plain_actual-bare, RequiredActuals.wrong_number-bare}
 use Rattle.same_programs.proofs.BareStatements.{bare_actual, bare_actuals, bare_boxed_actuals, bare_next_actual}
-use Rattle.same_programs.proofs.RequiredActuals.{plain_actual-bare, wrong_number-bare}
-use Rattle.same_programs.proofs.PlacesExpressions.{first_of_expression-bare}
 
 pub new_one-bare : (frame : ℕ) (c : RequiredCall) (a : Actual) → new_one frame c (bare_actual a) ≡ new_one frame c a
 unfolding new_one
 new_one-bare frame c a =
     λ i. plain_actual-bare frame a i >>= λ v. new_variable (first_of_expression-bare a.expression i) v
-    >>= λ domain. stated c.name (statement.New c.line v.row domain)
+    >>= λ domain. stated c.name (StatementRow.New c.line v.row domain)
 
 pub dispose_one-bare : (frame : ℕ) (c : RequiredCall) (a : Actual) → dispose_one frame c (bare_actual a) ≡ dispose_one frame c a
 unfolding dispose_one
 dispose_one-bare frame c a =
     λ i. plain_actual-bare frame a i >>= λ v. look (λ k. is_pointer k v) >>= λ fine. late 32 (first_of_expression-bare a.expression i) fine
-    >>= λ _. look (λ k. domain_of k v) >>= λ domain. stated c.name (statement.Dispose c.line v.row domain)
+    >>= λ _. look (λ k. domain_of k v) >>= λ domain. stated c.name (StatementRow.Dispose c.line v.row domain)
 
 pub pointer_one-bare : (b : Bool) (frame : ℕ) (c : RequiredCall) (a : Actual) → pointer_one b frame c (bare_actual a) ≡ pointer_one b frame c a
 pointer_one-bare true frame c a = λ i. new_one-bare frame c a i

@@ -1,40 +1,25 @@
 -- What the definitions of `Rattle.statement_checker.specs.Transfers` say of bare trees.
-use Rattle.std.specs.Prelude.{ℕ, Bool, true, false, List, [], ◌∷◌, Option, Some, None, nat_eq, nat_lt, ◌||◌}
+use Rattle.std.proofs.Common.{◌||◌, ◌∷◌, ◌≡◌, [], ℕ, Bool, List, None, Option, Some, false, map, nat_eq, nat_lt, option_map, refl, true}
 use Rattle.std.specs.Global.{Box}
-use Rattle.pas_tree.specs.declared.statements.Actuals.{Actuals}
-use Rattle.pas_tree.specs.declared.statements.NextActual.{NextActual}
-use Rattle.pas_tree.specs.declared.statements.Actual.{Actual}
-use Rattle.pas_tree.specs.declared.statements.Width.{Width}
-use Rattle.core_program.specs.declared.rows.ItemRow.TheVariants as item
-use Rattle.core_program.specs.declared.rows.StatementRow.TheVariants as statement
-use Rattle.core_program.specs.declared.rows.TextFile.{TextFile}
-use Rattle.check_steps.specs.Steps.{give, ◌>>=◌, look, late}
-use Rattle.kind_checker.specs.Operators.{is_operand, is_unknown_shape}
-use Rattle.kind_checker.specs.Shapes.{shape_of}
-use Rattle.expression_checker.specs.declared.typed.Typed.{Typed}
-use Rattle.expression_checker.specs.Threats.{threat_alone}
-use Rattle.statement_checker.specs.Sequences.{stated}
-use Rattle.statement_checker.specs.declared.actuals.RequiredCall.{RequiredCall}
-use Rattle.statement_checker.specs.declared.transfers.Transfer.{Transfer}
-use Rattle.statement_checker.specs.declared.transfers.Transfer.TheVariants.{Reading, Writing}
-use Rattle.check_steps.specs.Items.{add_item}
-use Rattle.statement_checker.specs.Transfers.{is_readable, read_item, is_writable, width, written_item, put_written, write_item, item_by, next_item, is_file_of}
-use Rattle.statement_checker.specs.Transfers.{first_item, first_comma, list_of, items, transfer_row, is_enough, transfer_with, transfer_call, page_other, paged}
-use Rattle.statement_checker.specs.Transfers.{page_one, page_some, page}
-use Rattle.std.proofs.Common.{◌≡◌, refl, map, option_map}
-use Rattle.same_programs.proofs.Steps.{each-bare}
 use lib.ListN.{length-map}
+use Rattle.pas_tree.specs.declared.statements.{Actual.Actual, Actuals.Actuals, NextActual.NextActual, Width.Width}
+use Rattle.core_program.specs.declared.rows.{ItemRow.ItemRow, StatementRow.StatementRow, TextFile.TextFile}
+use Rattle.check_steps.specs.{Items.add_item, Steps.◌>>=◌, Steps.give, Steps.late, Steps.look}
+use Rattle.kind_checker.specs.{Operators.is_operand, Operators.is_unknown_shape, Shapes.shape_of}
+use Rattle.expression_checker.specs.{Threats.threat_alone, declared.typed.Typed.Typed}
+use Rattle.statement_checker.specs.{Sequences.stated, Transfers.width, Transfers.write_item, Transfers.written_item, declared.actuals.RequiredCall.RequiredCall}
+use Rattle.statement_checker.specs.Transfers.{first_comma, first_item, is_enough, is_file_of, is_readable, is_writable, item_by, items, list_of, next_item}
+use Rattle.statement_checker.specs.Transfers.{page, page_one, page_other, page_some, paged, put_written, read_item, transfer_call, transfer_row, transfer_with}
+use Rattle.statement_checker.specs.declared.transfers.Transfer.{Transfer, TheVariants.Reading, TheVariants.Writing}
+use Rattle.same_programs.proofs.{ExpressionActuals.name_alone-bare, ExpressionExpressions.expression-bare, PlacesExpressions.first_of_expression-bare}
+use Rattle.same_programs.proofs.{RequiredActuals.file_in-bare, RequiredActuals.plain_actual-bare, RequiredActuals.wrong_number-bare, Steps.each-bare}
 use Rattle.same_programs.proofs.BareStatements.{bare_actual, bare_actuals, bare_boxed_actuals, bare_next_actual, bare_width}
-use Rattle.same_programs.proofs.ExpressionActuals.{name_alone-bare}
-use Rattle.same_programs.proofs.RequiredActuals.{plain_actual-bare, file_in-bare, wrong_number-bare}
-use Rattle.same_programs.proofs.PlacesExpressions.{first_of_expression-bare}
-use Rattle.same_programs.proofs.ExpressionExpressions.{expression-bare}
 
 pub read_item-bare : (frame : ℕ) (last : ℕ) (slot : ℕ) (a : Actual) → read_item frame last slot (bare_actual a) ≡ read_item frame last slot a
 unfolding read_item
 read_item-bare frame last slot a =
     λ i. threat_alone frame (name_alone-bare a.expression i) >>= λ _. plain_actual-bare frame a i >>= λ v. look (λ k. is_readable k v)
-    >>= λ fine. late 32 (first_of_expression-bare a.expression i) fine >>= λ _. add_item last slot (item.Element v.row 0)
+    >>= λ fine. late 32 (first_of_expression-bare a.expression i) fine >>= λ _. add_item last slot (ItemRow.Element v.row 0)
 
 pub width-bare : (frame : ℕ) (w : Width) → width frame (bare_width w) ≡ width frame w
 unfolding width
@@ -111,7 +96,7 @@ paged-bare frame a (Some file) = λ i. late 32 (first_of_expression-bare a.expre
 pub page_one-bare : (frame : ℕ) (c : RequiredCall) (a : Actual) → page_one frame c (bare_actual a) ≡ page_one frame c a
 unfolding page_one
 page_one-bare frame c a =
-    λ i. look (λ k. file_in-bare k frame a i) >>= λ file. paged-bare frame a file i >>= λ _. stated c.name (statement.Page c.line)
+    λ i. look (λ k. file_in-bare k frame a i) >>= λ file. paged-bare frame a file i >>= λ _. stated c.name (StatementRow.Page c.line)
 
 pub page_some-bare : (frame : ℕ) (c : RequiredCall) (a : Actuals) (b : Bool) → page_some frame c (bare_actuals a) b ≡ page_some frame c a b
 page_some-bare frame c a true = λ i. page_one-bare frame c a.first i

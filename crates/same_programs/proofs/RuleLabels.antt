@@ -1,13 +1,10 @@
 -- What the definitions of `Rattle.statement_checker.specs.Labels` say of bare trees.
-use Rattle.std.specs.Prelude.{ℕ}
-use Rattle.pas_tree.specs.declared.statements.NextStatement.{NextStatement}
-use Rattle.pas_tree.specs.declared.statements.Statements.{Statements, out-Statements}
-use Rattle.check_steps.specs.Steps.{Step, ◌>>=◌, each}
-use Rattle.statement_checker.specs.Labels.{reach_label, leave, on_label, on_next, each_label, reach_all, leave_all}
-use Rattle.std.proofs.Common.{◌≡◌, refl, ◌∙◌}
-use Rattle.same_programs.proofs.Steps.{each-bare}
+use Rattle.std.proofs.Common.{◌∙◌, ◌≡◌, ℕ, refl}
+use Rattle.pas_tree.specs.declared.statements.{NextStatement.NextStatement, Statements.Statements, Statements.out-Statements}
+use Rattle.check_steps.specs.Steps.{◌>>=◌, Step, each}
+use Rattle.statement_checker.specs.Labels.{each_label, leave, leave_all, on_label, on_next, reach_all, reach_label}
+use Rattle.same_programs.proofs.{Readers.statements_label, Readers.statements_next, Steps.each-bare}
 use Rattle.same_programs.proofs.BareStatements.{bare_next_statement, bare_statements}
-use Rattle.same_programs.proofs.Readers.{statements_label, statements_next}
 
 pub on_next-bare : (f : (ℕ → Step (Unit {0}))) (u : Unit {0}) (n : NextStatement) → on_next f u (bare_next_statement n) ≡ on_next f u n
 unfolding on_next

@@ -1,24 +1,20 @@
 -- Of denoters that are the same wherever they lie in memory the bare ones are equal.
-use Rattle.std.specs.Prelude.{◌≡◌, Option, Some, None}
-use Rattle.pas_tree.specs.declared.denoters.Denoter.{Denoter, Name, Enumeration, Subrange, Pointer, Structure'}
-use Rattle.pas_tree.specs.declared.denoters.Structure.{Structure, Array, Record', Set'}
-use Rattle.pas_tree.specs.declared.denoters.Enumeration.{Enumeration as EnumerationTree}
-use Rattle.pas_tree.specs.declared.denoters.ArrayDenoter.{ArrayDenoter, ArrayDenoter', Row_of-NextDenoter, end_of-NextDenoter, more_of-NextDenoter}
-use Rattle.pas_tree.specs.declared.denoters.Fields.{Fields, Empty, Fixed', Variants' as FieldsVariants', Held-Fields-Fixed-1, None', Some'}
-use Rattle.pas_tree.specs.declared.denoters.Fixed.{Fixed as FixedTree, Fixed' as FixedTree', Row_of-NextSection, end_of-NextSection, more_of-NextSection}
-use Rattle.pas_tree.specs.declared.denoters.NextVariants.{NextVariants'}
-use Rattle.pas_tree.specs.declared.denoters.Variants.{Variants as VariantsTree, Variants', Row_of-NextArm, end_of-NextArm, more_of-NextArm}
-use Rattle.pas_tree.specs.declared.denoters.TagField.{TagField}
-use Rattle.pas_tree.specs.declared.denoters.Tag.{Tag}
-use mathlib.Core.Path.{PathP, refl}
+use Rattle.std.proofs.Common.{◌≡◌, None, Option, Some}
 use mathlib.Core.Former.{one_more}
+use mathlib.Core.Path.{PathP, refl}
 use Rattle.pas_tree.proofs.Memory.{boxed}
-use Rattle.same_programs.proofs.Memory.{again, shaped_same}
-use Rattle.pas_tree.specs.SameDenoters.{SameEnumeration, SameTagField, SameTag, SameDenoter, SameStructure, SameArray, SameDenoters, SameFields, SameFixed}
-use Rattle.pas_tree.specs.SameDenoters.{SameSections, SameNextVariants, SameVariants, SameArms}
-use Rattle.same_programs.proofs.BareDenoters.{bare_enumeration, bare_denoter, bare_structure, bare_array, bare_denoters, bare_fields, bare_fixed}
-use Rattle.same_programs.proofs.BareDenoters.{bare_sections, bare_next_variants, bare_variants, bare_arms}
-use Rattle.same_programs.proofs.SameNames.{same_names, same_constants}
+use Rattle.pas_tree.specs.SameDenoters.{SameArms, SameArray, SameDenoter, SameDenoters, SameEnumeration, SameFields, SameFixed, SameNextVariants, SameSections}
+use Rattle.pas_tree.specs.SameDenoters.{SameStructure, SameTag, SameTagField, SameVariants}
+use Rattle.pas_tree.specs.declared.denoters.{Enumeration.Enumeration as EnumerationTree, NextVariants.NextVariants', Tag.Tag, TagField.TagField}
+use Rattle.pas_tree.specs.declared.denoters.ArrayDenoter.{ArrayDenoter, ArrayDenoter', Row_of-NextDenoter, end_of-NextDenoter, more_of-NextDenoter}
+use Rattle.pas_tree.specs.declared.denoters.Denoter.{Denoter, Enumeration, Name, Pointer, Structure', Subrange}
+use Rattle.pas_tree.specs.declared.denoters.Fields.{Empty, Fields, Fixed', Held-Fields-Fixed-1, None', Some', Variants' as FieldsVariants'}
+use Rattle.pas_tree.specs.declared.denoters.Fixed.{Fixed as FixedTree, Fixed' as FixedTree', Row_of-NextSection, end_of-NextSection, more_of-NextSection}
+use Rattle.pas_tree.specs.declared.denoters.Structure.{Array, Record', Set', Structure}
+use Rattle.pas_tree.specs.declared.denoters.Variants.{Row_of-NextArm, Variants as VariantsTree, Variants', end_of-NextArm, more_of-NextArm}
+use Rattle.same_programs.proofs.{Memory.again, Memory.shaped_same, SameNames.same_constants, SameNames.same_names}
+use Rattle.same_programs.proofs.BareDenoters.{bare_arms, bare_array, bare_denoter, bare_denoters, bare_enumeration, bare_fields, bare_fixed, bare_next_variants}
+use Rattle.same_programs.proofs.BareDenoters.{bare_sections, bare_structure, bare_variants}
 
 pub same_enumeration : (a b : EnumerationTree) → SameEnumeration a b → bare_enumeration a ≡ bare_enumeration b
 same_enumeration a b p = λ i. record { «open» = p.0 i; names = same_names a.names b.names p.1 i; close = p.2 i }

@@ -1,31 +1,25 @@
 -- Of expressions that are the same wherever they lie in memory the bare ones are equal.
-use Rattle.std.specs.Prelude.{◌≡◌}
-use Rattle.pas_tree.specs.declared.expressions.Factor.{Factor, Number, Text, Nil, Access', Call', Paren', Set', Not'}
-use Rattle.pas_tree.specs.declared.expressions.Access.{Access, Row_of-Selector, end_of-Selector, more_of-Selector}
-use Rattle.pas_tree.specs.declared.expressions.Selector.{Selector, Index, Field, Dereference}
-use Rattle.pas_tree.specs.declared.expressions.Index.{Index as IndexTree, Index'}
-use Rattle.pas_tree.specs.declared.expressions.Arguments.{Arguments, Arguments', Row_of-NextExpression, end_of-NextExpression, more_of-NextExpression}
-use Rattle.pas_tree.specs.declared.expressions.NextExpression.{NextExpression'}
-use Rattle.pas_tree.specs.declared.expressions.Expression as e
-use Rattle.pas_tree.specs.declared.expressions.Relation.{Relation'}
-use Rattle.pas_tree.specs.declared.expressions.Simple.{Simple, Simple', Row_of-NextTerm, end_of-NextTerm, more_of-NextTerm}
-use Rattle.pas_tree.specs.declared.expressions.NextTerm.{NextTerm'}
-use Rattle.pas_tree.specs.declared.expressions.Term.{Term, Term', Row_of-NextFactor, end_of-NextFactor, more_of-NextFactor}
-use Rattle.pas_tree.specs.declared.expressions.Members.{Members, Empty, Some}
-use Rattle.pas_tree.specs.declared.expressions.SomeMembers.{SomeMembers', Row_of-NextMember, end_of-NextMember, more_of-NextMember}
-use Rattle.pas_tree.specs.declared.expressions.NextMember.{NextMember'}
-use Rattle.pas_tree.specs.declared.expressions.Member.{Member, Member', Held-Member-last, Member-last-None', Member-last-Some'}
-use Rattle.pas_tree.specs.declared.expressions.RangeEnd.{RangeEnd'}
-use mathlib.Core.Path.{PathP, refl}
+use Rattle.std.proofs.Common.{◌≡◌}
 use mathlib.Core.Former.{one_more}
-use Rattle.pas_tree.proofs.Memory.{boxed}
+use mathlib.Core.Path.{PathP, refl}
+use Rattle.pas_tree.{proofs.Memory.boxed, specs.SameExpressions.SameTerms}
+use Rattle.pas_tree.specs.SameExpressions.{SameAccess, SameArguments, SameExpression, SameExpressions, SameFactor, SameFactors, SameIndex, SameMember}
+use Rattle.pas_tree.specs.SameExpressions.{SameMembers, SameMoreMembers, SameRangeEnd, SameRelation, SameSelector, SameSelectors, SameSimple, SameTerm}
+use Rattle.pas_tree.specs.declared.expressions.{Index.Index as IndexTree, Index.Index', Members.Empty, Members.Members, Members.Some}
+use Rattle.pas_tree.specs.declared.expressions.{NextExpression.NextExpression', NextMember.NextMember', NextTerm.NextTerm', RangeEnd.RangeEnd'}
+use Rattle.pas_tree.specs.declared.expressions.{Relation.Relation', Selector.Dereference, Selector.Field, Selector.Index, Selector.Selector}
+use Rattle.pas_tree.specs.declared.expressions.Access.{Access, Row_of-Selector, end_of-Selector, more_of-Selector}
+use Rattle.pas_tree.specs.declared.expressions.Arguments.{Arguments, Arguments', Row_of-NextExpression, end_of-NextExpression, more_of-NextExpression}
+use Rattle.pas_tree.specs.declared.expressions.Expression as e
+use Rattle.pas_tree.specs.declared.expressions.Factor.{Access', Call', Factor, Nil, Not', Number, Paren', Set', Text}
+use Rattle.pas_tree.specs.declared.expressions.Member.{Held-Member-last, Member, Member', Member-last-None', Member-last-Some'}
+use Rattle.pas_tree.specs.declared.expressions.Simple.{Row_of-NextTerm, Simple, Simple', end_of-NextTerm, more_of-NextTerm}
+use Rattle.pas_tree.specs.declared.expressions.SomeMembers.{Row_of-NextMember, SomeMembers', end_of-NextMember, more_of-NextMember}
+use Rattle.pas_tree.specs.declared.expressions.Term.{Row_of-NextFactor, Term, Term', end_of-NextFactor, more_of-NextFactor}
+use Rattle.same_programs.proofs.BareExpressions.{bare_access, bare_arguments, bare_expression, bare_expressions, bare_factor, bare_factors, bare_index}
+use Rattle.same_programs.proofs.BareExpressions.{bare_member, bare_members, bare_more_members, bare_range_end, bare_relation, bare_selector, bare_selectors}
+use Rattle.same_programs.proofs.BareExpressions.{bare_simple, bare_term, bare_terms}
 use Rattle.same_programs.proofs.Memory.{again, all_same, bare_same, shaped_same}
-use Rattle.pas_tree.specs.SameExpressions.{SameExpression, SameRelation, SameSimple, SameTerms, SameTerm, SameFactors, SameFactor, SameSelectors}
-use Rattle.pas_tree.specs.SameExpressions.{SameSelector, SameIndex, SameArguments, SameExpressions, SameMembers, SameMoreMembers, SameMember, SameRangeEnd}
-use Rattle.pas_tree.specs.SameExpressions.{SameAccess}
-use Rattle.same_programs.proofs.BareExpressions.{bare_expression, bare_relation, bare_simple, bare_terms, bare_term, bare_factors, bare_factor}
-use Rattle.same_programs.proofs.BareExpressions.{bare_selectors, bare_selector, bare_index, bare_arguments, bare_expressions, bare_members, bare_more_members}
-use Rattle.same_programs.proofs.BareExpressions.{bare_member, bare_range_end, bare_access}
 
 mutual
   pub same_expression : (a b : e.Expression) → SameExpression a b → bare_expression a ≡ bare_expression b

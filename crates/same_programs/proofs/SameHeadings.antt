@@ -1,21 +1,16 @@
 -- Of headings that are the same wherever they lie in memory the bare ones are equal.
-use Rattle.std.specs.Prelude.{◌≡◌, Option, Some, None}
-use Rattle.pas_tree.specs.declared.headings.Heading.{Heading, Procedure, Function}
-use Rattle.pas_tree.specs.declared.headings.ProcedureHeading.{ProcedureHeading, ProcedureHeading'}
-use Rattle.pas_tree.specs.declared.headings.FunctionHeading.{FunctionHeading, FunctionHeading', Held-FunctionHeading-formals, None', Some'}
-use Rattle.pas_tree.specs.declared.headings.ResultType.{ResultType}
-use Rattle.pas_tree.specs.declared.headings.Formals.{Formals, Formals', Row_of-NextFormal, end_of-NextFormal, more_of-NextFormal}
-use Rattle.pas_tree.specs.declared.headings.Formal.{Formal, Value, Variable, Routine'}
-use Rattle.pas_tree.specs.declared.headings.FormalNames.{FormalNames}
-use mathlib.Core.Path.{PathP, refl}
+use Rattle.std.proofs.Common.{◌≡◌, None, Option, Some}
 use mathlib.Core.Former.{one_more}
+use mathlib.Core.Path.{PathP, refl}
 use Rattle.pas_tree.proofs.Memory.{boxed}
-use Rattle.same_programs.proofs.Memory.{again, shaped_same}
-use Rattle.pas_tree.specs.SameHeadings.{SameFormalNames, SameResult, SameHeading, SameProcedure, SameFunction, SameHeldFormals, SameFormals, SameMoreFormals}
-use Rattle.pas_tree.specs.SameHeadings.{SameFormal}
-use Rattle.same_programs.proofs.BareHeadings.{bare_formal_names, bare_heading, bare_procedure, bare_function, bare_held_formals, bare_formals}
-use Rattle.same_programs.proofs.BareHeadings.{bare_more_formals, bare_formal}
-use Rattle.same_programs.proofs.SameNames.{same_names}
+use Rattle.pas_tree.specs.{SameHeadings.SameResult, declared.headings.ProcedureHeading.ProcedureHeading, declared.headings.ProcedureHeading.ProcedureHeading'}
+use Rattle.pas_tree.specs.SameHeadings.{SameFormal, SameFormalNames, SameFormals, SameFunction, SameHeading, SameHeldFormals, SameMoreFormals, SameProcedure}
+use Rattle.pas_tree.specs.declared.headings.{FormalNames.FormalNames, Heading.Function, Heading.Heading, Heading.Procedure, ResultType.ResultType}
+use Rattle.pas_tree.specs.declared.headings.Formal.{Formal, Routine', Value, Variable}
+use Rattle.pas_tree.specs.declared.headings.Formals.{Formals, Formals', Row_of-NextFormal, end_of-NextFormal, more_of-NextFormal}
+use Rattle.pas_tree.specs.declared.headings.FunctionHeading.{FunctionHeading, FunctionHeading', Held-FunctionHeading-formals, None', Some'}
+use Rattle.same_programs.proofs.{BareHeadings.bare_procedure, Memory.again, Memory.shaped_same, SameNames.same_names}
+use Rattle.same_programs.proofs.BareHeadings.{bare_formal, bare_formal_names, bare_formals, bare_function, bare_heading, bare_held_formals, bare_more_formals}
 
 pub same_formal_names : (a b : FormalNames) → SameFormalNames a b → bare_formal_names a ≡ bare_formal_names b
 same_formal_names a b p = λ i. record { names = same_names a.names b.names p.0 i; colon = p.1 i; name = p.2 i }

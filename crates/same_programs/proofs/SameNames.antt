@@ -1,12 +1,8 @@
 -- Of names that are the same wherever they lie in memory the bare ones are equal.
-use Rattle.std.specs.Prelude.{◌≡◌}
-use Rattle.pas_tree.specs.declared.constants.Names.{Names}
-use Rattle.pas_tree.specs.declared.constants.NextName.{NextName}
-use Rattle.pas_tree.specs.declared.constants.Constants.{Constants}
-use Rattle.pas_tree.specs.declared.constants.NextConstant.{NextConstant}
-use Rattle.same_programs.proofs.Memory.{all_equal, held_same, is_short}
-use Rattle.pas_tree.specs.SameConstants.{SameNextName, SameNames, SameNextConstant, SameConstants}
-use Rattle.same_programs.proofs.BareNames.{bare_names, bare_constants}
+use Rattle.std.proofs.Common.{◌≡◌}
+use Rattle.pas_tree.specs.SameConstants.{SameConstants, SameNames, SameNextConstant, SameNextName}
+use Rattle.pas_tree.specs.declared.constants.{Constants.Constants, Names.Names, NextConstant.NextConstant, NextName.NextName}
+use Rattle.same_programs.proofs.{BareNames.bare_constants, BareNames.bare_names, Memory.all_equal, Memory.held_same, Memory.is_short}
 
 pub same_next_name : (a b : NextName) → SameNextName a b → a ≡ b
 same_next_name a b p = λ i. record { comma = p.0 i; name = p.1 i }

@@ -1,31 +1,21 @@
 -- Of statements that are the same wherever they lie in memory the bare ones are equal.
-use Rattle.std.specs.Prelude.{◌≡◌, Option, Some, None}
+use Rattle.std.proofs.Common.{◌≡◌, None, Option, Some, option_map}
 use Rattle.std.specs.Global.{Box}
-use Rattle.pas_tree.specs.declared.statements.Plain.{Plain, Empty, Assignment as Assignment', Call, Goto, Compound', If', Case', Repeat', While', For', With'}
-use Rattle.pas_tree.specs.declared.statements.Compound.{Compound, Compound' as CompoundTree'}
-use Rattle.pas_tree.specs.declared.statements.Statements.{Statements, Statements', Row_of-NextStatement, end_of-NextStatement, more_of-NextStatement}
-use Rattle.pas_tree.specs.declared.statements.Label.{Label}
-use Rattle.pas_tree.specs.declared.statements.Assignment.{Assignment}
-use Rattle.pas_tree.specs.declared.statements.Actuals.{Actuals}
-use Rattle.pas_tree.specs.declared.statements.NextActual.{NextActual}
-use Rattle.pas_tree.specs.declared.statements.Actual.{Actual}
-use Rattle.pas_tree.specs.declared.statements.Width.{Width}
-use Rattle.pas_tree.specs.declared.statements.If.{If, If' as IfTree', Held-If-alternative, None', Some'}
-use Rattle.pas_tree.specs.declared.statements.Case.{Case, Case' as CaseTree', Row_of-NextBranch, end_of-NextBranch, more_of-NextBranch}
-use Rattle.pas_tree.specs.declared.statements.Repeat.{Repeat, Repeat' as RepeatTree'}
-use Rattle.pas_tree.specs.declared.statements.NextAccess.{NextAccess}
-use mathlib.Core.Path.{PathP, refl}
-use Rattle.std.proofs.Common.{option_map}
 use mathlib.Core.Former.{one_more}
-use Rattle.pas_tree.proofs.Memory.{boxed}
-use Rattle.same_programs.proofs.Memory.{again, all_same, bare_same, shaped_same}
-use Rattle.pas_tree.specs.SameStatements.{SameLabel, SameWidth, SameActual, SameNextActual, SameActuals, SameCall, SameAssignment, SameNextAccess, SamePlain}
-use Rattle.pas_tree.specs.SameStatements.{SameCompound, SameStatements, SameMoreStatements, SameIf, SameElse, SameCase, SameBranches, SameRepeat}
-use Rattle.same_programs.proofs.BareStatements.{bare_width, bare_actual, bare_next_actual, bare_actuals, bare_boxed_actuals, bare_assignment}
-use Rattle.same_programs.proofs.BareStatements.{bare_next_access, bare_plain, bare_compound, bare_statements, bare_more_statements, bare_if, bare_else}
-use Rattle.same_programs.proofs.BareStatements.{bare_case, bare_branches, bare_repeat}
-use Rattle.same_programs.proofs.SameNames.{same_constants}
-use Rattle.same_programs.proofs.SameExpressions.{same_expression, same_access}
+use mathlib.Core.Path.{PathP, refl}
+use Rattle.pas_tree.{proofs.Memory.boxed, specs.declared.statements.Compound.Compound, specs.declared.statements.Compound.Compound' as CompoundTree'}
+use Rattle.pas_tree.specs.SameStatements.{SameActual, SameActuals, SameAssignment, SameBranches, SameCall, SameCase, SameCompound, SameElse, SameIf, SameLabel}
+use Rattle.pas_tree.specs.SameStatements.{SameMoreStatements, SameNextAccess, SameNextActual, SamePlain, SameRepeat, SameStatements, SameWidth}
+use Rattle.pas_tree.specs.declared.statements.{Actual.Actual, Actuals.Actuals, Assignment.Assignment, Label.Label, NextAccess.NextAccess, NextActual.NextActual}
+use Rattle.pas_tree.specs.declared.statements.{Repeat.Repeat, Repeat.Repeat' as RepeatTree', Width.Width}
+use Rattle.pas_tree.specs.declared.statements.Case.{Case, Case' as CaseTree', Row_of-NextBranch, end_of-NextBranch, more_of-NextBranch}
+use Rattle.pas_tree.specs.declared.statements.If.{Held-If-alternative, If, If' as IfTree', None', Some'}
+use Rattle.pas_tree.specs.declared.statements.Plain.{Assignment as Assignment', Call, Case', Compound', Empty, For', Goto, If', Plain, Repeat', While', With'}
+use Rattle.pas_tree.specs.declared.statements.Statements.{Row_of-NextStatement, Statements, Statements', end_of-NextStatement, more_of-NextStatement}
+use Rattle.same_programs.proofs.{BareStatements.bare_statements, BareStatements.bare_width, Memory.again, Memory.all_same, Memory.bare_same, Memory.shaped_same}
+use Rattle.same_programs.proofs.{SameExpressions.same_access, SameExpressions.same_expression, SameNames.same_constants}
+use Rattle.same_programs.proofs.BareStatements.{bare_actual, bare_actuals, bare_assignment, bare_boxed_actuals, bare_branches, bare_case, bare_compound}
+use Rattle.same_programs.proofs.BareStatements.{bare_else, bare_if, bare_more_statements, bare_next_access, bare_next_actual, bare_plain, bare_repeat}
 
 pub same_label : (a b : Option Label) → SameLabel a b → a ≡ b
 same_label None None p = refl

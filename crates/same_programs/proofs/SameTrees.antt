@@ -1,30 +1,18 @@
 -- Of trees that are the same wherever they lie in memory the bare ones are equal.
-use Rattle.std.specs.Prelude.{◌≡◌, Option, Some, None}
-use Rattle.pas_tree.specs.declared.blocks.Tree.{Tree}
-use Rattle.pas_tree.specs.declared.blocks.Parameters.{Parameters}
-use Rattle.pas_tree.specs.declared.blocks.Block.{Block, Block' as BlockTree', Row_of-Routine, end_of-Routine, more_of-Routine}
-use Rattle.pas_tree.specs.declared.blocks.LabelPart.{LabelPart}
-use Rattle.pas_tree.specs.declared.blocks.NextLabel.{NextLabel}
-use Rattle.pas_tree.specs.declared.blocks.ConstantPart.{ConstantPart}
-use Rattle.pas_tree.specs.declared.blocks.ConstantDefinition.{ConstantDefinition}
-use Rattle.pas_tree.specs.declared.blocks.TypePart.{TypePart}
-use Rattle.pas_tree.specs.declared.blocks.TypeDefinition.{TypeDefinition}
-use Rattle.pas_tree.specs.declared.blocks.VariablePart.{VariablePart}
-use Rattle.pas_tree.specs.declared.blocks.VariableDeclaration.{VariableDeclaration}
-use Rattle.pas_tree.specs.declared.blocks.RoutineBody.{RoutineBody, Directive, Block'}
-use mathlib.Core.Path.{PathP, refl}
-use Rattle.std.proofs.Common.{option_map}
+use Rattle.std.proofs.Common.{◌≡◌, None, Option, Some, option_map}
 use mathlib.Core.Former.{one_more}
+use mathlib.Core.Path.{PathP, refl}
 use Rattle.pas_tree.proofs.Memory.{boxed}
+use Rattle.pas_tree.specs.SameTrees.{SameBlock, SameBody, SameConstantDefinition, SameConstantPart, SameLabels, SameNextLabel, SameParameters, SameRoutines}
+use Rattle.pas_tree.specs.SameTrees.{SameTree, SameTypeDefinition, SameTypePart, SameVariableDeclaration, SameVariablePart}
+use Rattle.pas_tree.specs.declared.blocks.{ConstantDefinition.ConstantDefinition, ConstantPart.ConstantPart, LabelPart.LabelPart, NextLabel.NextLabel}
+use Rattle.pas_tree.specs.declared.blocks.{Parameters.Parameters, RoutineBody.Block', RoutineBody.Directive, RoutineBody.RoutineBody, Tree.Tree}
+use Rattle.pas_tree.specs.declared.blocks.{TypeDefinition.TypeDefinition, TypePart.TypePart, VariableDeclaration.VariableDeclaration, VariablePart.VariablePart}
+use Rattle.pas_tree.specs.declared.blocks.Block.{Block, Block' as BlockTree', Row_of-Routine, end_of-Routine, more_of-Routine}
+use Rattle.same_programs.proofs.{SameDenoters.same_denoter, SameHeadings.same_heading, SameNames.same_names, SameStatements.same_compound}
+use Rattle.same_programs.proofs.BareTrees.{bare_block, bare_body, bare_constant_part, bare_label_part, bare_parameters, bare_routines, bare_tree}
+use Rattle.same_programs.proofs.BareTrees.{bare_type_definition, bare_type_part, bare_variable_declaration, bare_variable_part}
 use Rattle.same_programs.proofs.Memory.{again, all_equal, all_same, bare_same, held_same, is_short, shaped_same}
-use Rattle.pas_tree.specs.SameTrees.{SameNextLabel, SameLabels, SameConstantDefinition, SameConstantPart, SameTypeDefinition, SameTypePart}
-use Rattle.pas_tree.specs.SameTrees.{SameVariableDeclaration, SameVariablePart, SameBlock, SameRoutines, SameBody, SameParameters, SameTree}
-use Rattle.same_programs.proofs.BareTrees.{bare_label_part, bare_constant_part, bare_type_definition, bare_type_part, bare_variable_declaration}
-use Rattle.same_programs.proofs.BareTrees.{bare_variable_part, bare_block, bare_routines, bare_body, bare_parameters, bare_tree}
-use Rattle.same_programs.proofs.SameNames.{same_names}
-use Rattle.same_programs.proofs.SameDenoters.{same_denoter}
-use Rattle.same_programs.proofs.SameHeadings.{same_heading}
-use Rattle.same_programs.proofs.SameStatements.{same_compound}
 
 pub same_next_label : (a b : NextLabel) → SameNextLabel a b → a ≡ b
 same_next_label a b p = λ i. record { comma = p.0 i; number = p.1 i }

@@ -1,43 +1,22 @@
 -- What the definitions of `Rattle.statement_checker.specs.Parts` say of bare trees.
-use Rattle.std.specs.Prelude.{ℕ, ◌+◌, Option, Some, None, nat_eq}
+use Rattle.std.proofs.Common.{◌+◌, ◌≡◌, ℕ, None, Option, Some, nat_eq, option_map, refl}
 use Rattle.std.specs.Global.{Box}
-use Rattle.pas_tree.specs.declared.expressions.Access.{Access}
-use Rattle.pas_tree.specs.declared.expressions.Expression.{Expression}
-use Rattle.pas_tree.specs.declared.statements.Assignment.{Assignment}
-use Rattle.pas_tree.specs.declared.statements.Actuals.{Actuals}
-use Rattle.pas_tree.specs.declared.statements.NextActual.{NextActual}
-use Rattle.pas_tree.specs.declared.statements.Actual.{Actual}
-use Rattle.pas_tree.specs.declared.statements.NextAccess.{NextAccess}
-use Rattle.check_steps.specs.Steps.{give, ◌>>=◌, look}
-use Rattle.expression_checker.specs.declared.actuals.Passing.{Passing}
-use Rattle.expression_checker.specs.declared.callees.Callee.{Callee}
-use Rattle.expression_checker.specs.declared.callees.Callee.TheVariants as callee
-use Rattle.expression_checker.specs.Threats.{threat_alone}
-use Rattle.expression_checker.specs.Callees.{count_checked}
-use Rattle.expression_checker.specs.Expressions.{passing_to}
-use Rattle.statement_checker.specs.declared.assignments.Target.{Target}
-use Rattle.statement_checker.specs.declared.assignments.Target.TheVariants as target
-use Rattle.statement_checker.specs.declared.loops.Control.{Control}
-use Rattle.statement_checker.specs.declared.parts.Opened.{Opened}
-use Rattle.statement_checker.specs.Assignments.{assigned, target_at}
-use Rattle.statement_checker.specs.Calls.{call_row, procedure_at}
-use Rattle.statement_checker.specs.Choices.{selector}
-use Rattle.statement_checker.specs.Conditions.{condition}
-use Rattle.statement_checker.specs.Loops.{bound, enter_for}
-use Rattle.statement_checker.specs.Records.{inside_record}
-use Rattle.statement_checker.specs.Sequences.{add_element, line_of}
-use Rattle.statement_checker.specs.Parts.{condition_row, bounded, for_begins, selected, target_access, target_as, assigned_to, assignment, passed_actual}
-use Rattle.statement_checker.specs.Parts.{next_passed, actuals_in, call_with, declared_call, call_as, call_statement, first_record, next_record}
-use Rattle.std.proofs.Common.{◌≡◌, refl, option_map}
-use Rattle.same_programs.proofs.Steps.{each-bare}
 use lib.ListN.{length-map}
+use Rattle.pas_tree.specs.declared.expressions.{Access.Access, Expression.Expression}
+use Rattle.pas_tree.specs.declared.statements.{Actual.Actual, Actuals.Actuals, Assignment.Assignment, NextAccess.NextAccess, NextActual.NextActual}
+use Rattle.check_steps.specs.Steps.{◌>>=◌, give, look}
+use Rattle.expression_checker.specs.{Callees.count_checked, Expressions.passing_to, Threats.threat_alone}
+use Rattle.expression_checker.specs.declared.{actuals.Passing.Passing, callees.Callee.Callee}
+use Rattle.statement_checker.specs.{Assignments.assigned, Assignments.target_at, Calls.call_row, Calls.procedure_at, Choices.selector, Conditions.condition}
+use Rattle.statement_checker.specs.{Loops.bound, Loops.enter_for, Records.inside_record, Sequences.add_element, Sequences.line_of}
+use Rattle.statement_checker.specs.Parts.{actuals_in, assigned_to, assignment, bounded, call_as, call_statement, call_with, condition_row, declared_call}
+use Rattle.statement_checker.specs.Parts.{first_record, for_begins, next_passed, next_record, passed_actual, selected, target_access, target_as}
+use Rattle.statement_checker.specs.declared.{assignments.Target.Target, loops.Control.Control, parts.Opened.Opened}
+use Rattle.same_programs.proofs.{ExpressionActuals.access_name-bare, RequiredActuals.no_width-bare, RequiredProcedures.required_call-bare, Steps.each-bare}
 use Rattle.same_programs.proofs.BareExpressions.{bare_access, bare_expression, bare_selector}
 use Rattle.same_programs.proofs.BareStatements.{bare_actual, bare_actuals, bare_assignment, bare_boxed_actuals, bare_next_access, bare_next_actual}
-use Rattle.same_programs.proofs.ExpressionExpressions.{expression-bare, access-bare, actual-bare}
+use Rattle.same_programs.proofs.ExpressionExpressions.{access-bare, actual-bare, expression-bare}
 use Rattle.same_programs.proofs.PlacesExpressions.{first_of_expression-bare}
-use Rattle.same_programs.proofs.ExpressionActuals.{access_name-bare}
-use Rattle.same_programs.proofs.RequiredActuals.{no_width-bare}
-use Rattle.same_programs.proofs.RequiredProcedures.{required_call-bare}
 
 pub tested-bare : (frame : ℕ) (e : Expression) → condition_row frame (bare_expression e) ≡ condition_row frame e
 unfolding condition_row
@@ -64,9 +43,9 @@ unfolding target_access
 target_access-bare frame a = λ i. threat_alone frame (access_name-bare a i) >>= λ _. access-bare frame a i
 
 pub target_as-bare : (frame : ℕ) (a : Access) (t : Target) → target_as frame (bare_access a) t ≡ target_as frame a t
-target_as-bare frame a target.Access = λ i. target_access-bare frame a i
-target_as-bare frame a (target.Result r) = refl
-target_as-bare frame a target.Blockless = refl
+target_as-bare frame a Target.Access = λ i. target_access-bare frame a i
+target_as-bare frame a (Target.Result r) = refl
+target_as-bare frame a Target.Blockless = refl
 
 pub assigned_to-bare : (frame : ℕ) (a : Access) → assigned_to frame (bare_access a) ≡ assigned_to frame a
 unfolding assigned_to
@@ -105,7 +84,7 @@ declared_call-bare frame line name c (Some a) = λ i. call_with-bare frame line 
 
 pub call_as-bare : (frame : ℕ) (line : ℕ) (name : ℕ) (c : Callee) (actuals : Option (Box Actuals))
     → call_as frame line name c (option_map bare_boxed_actuals actuals) ≡ call_as frame line name c actuals
-call_as-bare frame line name (callee.Required r) actuals = λ i. required_call-bare r frame (record { name = name; line = line }) actuals i
+call_as-bare frame line name (Callee.Required r) actuals = λ i. required_call-bare r frame (record { name = name; line = line }) actuals i
 call_as-bare frame line name c actuals = λ i. declared_call-bare frame line name c actuals i
 
 pub call-bare : (frame : ℕ) (label : Option ℕ) (name : ℕ) (actuals : Option (Box Actuals))

@@ -1,28 +1,21 @@
 -- What the definitions of `Rattle.statement_checker.specs.Statements` say of bare trees.
-use Rattle.std.specs.Prelude.{ℕ, Option}
-use Rattle.pas_tree.specs.declared.statements.Plain.{Plain, Empty, Assignment as Assignment', Call, Goto, Compound', If', Case', Repeat', While', For', With'}
-use Rattle.pas_tree.specs.declared.statements.Compound.{Compound, Compound' as CompoundTree'}
-use Rattle.pas_tree.specs.declared.statements.Statements.{Statements, Statements', Row_of-NextStatement, end_of-NextStatement, more_of-NextStatement}
-use Rattle.pas_tree.specs.declared.statements.If.{If, If' as IfTree', Held-If-alternative, None', Some'}
+use Rattle.std.proofs.Common.{◌≡◌, ℕ, Option, refl}
+use Rattle.pas_tree.specs.declared.statements.{Compound.Compound, Compound.Compound' as CompoundTree', Repeat.Repeat, Repeat.Repeat' as RepeatTree'}
 use Rattle.pas_tree.specs.declared.statements.Case.{Case, Case' as CaseTree', Row_of-NextBranch, end_of-NextBranch, more_of-NextBranch}
-use Rattle.pas_tree.specs.declared.statements.Repeat.{Repeat, Repeat' as RepeatTree'}
+use Rattle.pas_tree.specs.declared.statements.If.{Held-If-alternative, If, If' as IfTree', None', Some'}
+use Rattle.pas_tree.specs.declared.statements.Plain.{Assignment as Assignment', Call, Case', Compound', Empty, For', Goto, If', Plain, Repeat', While', With'}
+use Rattle.pas_tree.specs.declared.statements.Statements.{Row_of-NextStatement, Statements, Statements', end_of-NextStatement, more_of-NextStatement}
 use Rattle.check_steps.specs.Steps.{◌>>=◌}
 use Rattle.denoter_checker.specs.declared.variants.Choosing.{Choosing}
-use Rattle.statement_checker.specs.declared.sequences.Branching.{Branching}
-use Rattle.statement_checker.specs.declared.sequences.Element.{Element}
-use Rattle.statement_checker.specs.Choices.{case_row}
-use Rattle.statement_checker.specs.Parts.{for_ends, next_record}
-use Rattle.statement_checker.specs.Records.{put_with}
+use Rattle.statement_checker.specs.{Choices.case_row, Parts.for_ends, Parts.next_record, Records.put_with}
 use Rattle.statement_checker.specs.Sequences.{add_element, compound_row, if_else_row, link_element, repeat_row, while_row}
-use Rattle.statement_checker.specs.Statements.{element, branching, label_token, labelled_by, plain, compound, sequence, more_statements, if_statement}
-use Rattle.statement_checker.specs.Statements.{else_held, case_statement, more_branches, repeat_statement}
-use Rattle.std.proofs.Common.{◌≡◌, refl}
-use Rattle.same_programs.proofs.Steps.{each-bare}
-use Rattle.same_programs.proofs.BareStatements.{bare_branches, bare_case, bare_compound, bare_else, bare_if, bare_more_statements, bare_next_access}
-use Rattle.same_programs.proofs.BareStatements.{bare_plain, bare_repeat, bare_statements}
-use Rattle.same_programs.proofs.StatementParts.{assignment-bare, call-bare, tested-bare, for_begins-bare, first_record-bare, next_record-bare, selected-bare}
-use Rattle.same_programs.proofs.RuleLabels.{reach_all-bare, leave_all-bare}
-use Rattle.same_programs.proofs.DenoterVariants.{choices-bare}
+use Rattle.statement_checker.specs.Statements.{branching, case_statement, compound, element, else_held, if_statement, label_token, labelled_by, more_branches}
+use Rattle.statement_checker.specs.Statements.{more_statements, plain, repeat_statement, sequence}
+use Rattle.statement_checker.specs.declared.sequences.{Branching.Branching, Element.Element}
+use Rattle.same_programs.proofs.{DenoterVariants.choices-bare, RuleLabels.leave_all-bare, RuleLabels.reach_all-bare, Steps.each-bare}
+use Rattle.same_programs.proofs.BareStatements.{bare_branches, bare_case, bare_compound, bare_else, bare_if, bare_more_statements, bare_next_access, bare_plain}
+use Rattle.same_programs.proofs.BareStatements.{bare_repeat, bare_statements}
+use Rattle.same_programs.proofs.StatementParts.{assignment-bare, call-bare, first_record-bare, for_begins-bare, next_record-bare, selected-bare, tested-bare}
 
 mutual
   pub plain-bare : (frame : ℕ) (label : Option ℕ) (p : Plain) → plain frame label (bare_plain p) ≡ plain frame label p

@@ -1,6 +1,6 @@
 -- Walks of lists of bare items.
-use Rattle.std.proofs.Common.{◌≡◌, ℕ, zero, suc, List, [], ◌∷◌, map, option_map, slice_get, refl}
-use Rattle.check_steps.specs.Steps.{Step, ◌>>=◌, each, each_back}
+use Rattle.std.proofs.Common.{◌∷◌, ◌≡◌, [], ℕ, List, map, option_map, refl, slice_get, suc, zero}
+use Rattle.check_steps.specs.Steps.{◌>>=◌, Step, each, each_back}
 
 pub each-bare : {A X : Type 0} (f : A → X → Step A) (bare : X → X) → ((a : A) (x : X) → f a (bare x) ≡ f a x) → (a : A) (xs : List X)
     → each f a (map bare xs) ≡ each f a xs

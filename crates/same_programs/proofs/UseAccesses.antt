@@ -1,34 +1,26 @@
 -- What the definitions of `Rattle.decl_checker.specs.Accesses` say of bare trees.
-use Rattle.std.specs.Prelude.{ℕ}
-use Rattle.pas_tree.specs.declared.expressions.Factor.{Factor, Number, Text, Nil, Access', Call', Paren', Set', Not'}
+use Rattle.std.proofs.Common.{◌≡◌, ℕ, refl}
+use Rattle.pas_tree.specs.declared.expressions.{Expression.Held-Expression-relation, Index.Index as IndexTree, Index.Index', Members.Empty, Members.Members}
+use Rattle.pas_tree.specs.declared.expressions.{Members.Some as NonEmpty, NextExpression.NextExpression, NextExpression.NextExpression', NextMember.NextMember}
+use Rattle.pas_tree.specs.declared.expressions.{NextMember.NextMember', NextTerm.NextTerm, NextTerm.NextTerm', RangeEnd.RangeEnd, RangeEnd.RangeEnd'}
+use Rattle.pas_tree.specs.declared.expressions.{Relation.Relation, Relation.Relation', Selector.Dereference, Selector.Field, Selector.Index, Selector.Selector}
 use Rattle.pas_tree.specs.declared.expressions.Access.{Access, Row_of-Selector, end_of-Selector, more_of-Selector}
-use Rattle.pas_tree.specs.declared.expressions.Selector.{Selector, Index, Field, Dereference}
-use Rattle.pas_tree.specs.declared.expressions.Index.{Index as IndexTree, Index'}
 use Rattle.pas_tree.specs.declared.expressions.Arguments.{Arguments, Arguments', Row_of-NextExpression, end_of-NextExpression, more_of-NextExpression}
-use Rattle.pas_tree.specs.declared.expressions.NextExpression.{NextExpression, NextExpression'}
-use Rattle.pas_tree.specs.declared.expressions.Expression.{Expression, Expression', Held-Expression-relation, Expression-relation-None'}
-use Rattle.pas_tree.specs.declared.expressions.Expression.{Expression-relation-Some'}
-use Rattle.pas_tree.specs.declared.expressions.Relation.{Relation, Relation'}
-use Rattle.pas_tree.specs.declared.expressions.Simple.{Simple, Simple', Row_of-NextTerm, end_of-NextTerm, more_of-NextTerm}
-use Rattle.pas_tree.specs.declared.expressions.NextTerm.{NextTerm, NextTerm'}
-use Rattle.pas_tree.specs.declared.expressions.Term.{Term, Term', Row_of-NextFactor, end_of-NextFactor, more_of-NextFactor}
-use Rattle.pas_tree.specs.declared.expressions.Members.{Members, Empty, Some as NonEmpty}
-use Rattle.pas_tree.specs.declared.expressions.SomeMembers.{SomeMembers, SomeMembers', Row_of-NextMember, end_of-NextMember, more_of-NextMember}
-use Rattle.pas_tree.specs.declared.expressions.NextMember.{NextMember, NextMember'}
-use Rattle.pas_tree.specs.declared.expressions.Member.{Member, Member', Held-Member-last, Member-last-None', Member-last-Some'}
-use Rattle.pas_tree.specs.declared.expressions.RangeEnd.{RangeEnd, RangeEnd'}
-use Rattle.check_steps.specs.Steps.{give, ◌>>=◌}
-use Rattle.decl_checker.specs.Accesses.{name_use, named_variable, indexed_type, expression_uses, relation_uses, related_uses, simple_uses, more_terms}
-use Rattle.decl_checker.specs.Accesses.{next_term}
-use Rattle.decl_checker.specs.Accesses.{term_uses, more_factors, factor_uses, selected, selector, indices, more_indices, next_index, arguments_uses}
-use Rattle.decl_checker.specs.Accesses.{more_arguments, next_argument, members_uses, some_members_uses, more_members, next_member, member_uses, range_end_uses}
-use Rattle.decl_checker.specs.Accesses.{last_uses, access_type, access_uses}
-use Rattle.std.proofs.Common.{◌≡◌, refl}
-use Rattle.same_programs.proofs.Steps.{each-bare}
+use Rattle.pas_tree.specs.declared.expressions.Expression.{Expression, Expression', Expression-relation-None', Expression-relation-Some'}
+use Rattle.pas_tree.specs.declared.expressions.Factor.{Access', Call', Factor, Nil, Not', Number, Paren', Set', Text}
+use Rattle.pas_tree.specs.declared.expressions.Member.{Held-Member-last, Member, Member', Member-last-None', Member-last-Some'}
+use Rattle.pas_tree.specs.declared.expressions.Simple.{Row_of-NextTerm, Simple, Simple', end_of-NextTerm, more_of-NextTerm}
+use Rattle.pas_tree.specs.declared.expressions.SomeMembers.{Row_of-NextMember, SomeMembers, SomeMembers', end_of-NextMember, more_of-NextMember}
+use Rattle.pas_tree.specs.declared.expressions.Term.{Row_of-NextFactor, Term, Term', end_of-NextFactor, more_of-NextFactor}
+use Rattle.check_steps.specs.Steps.{◌>>=◌, give}
+use Rattle.decl_checker.specs.Accesses.{access_type, access_uses, arguments_uses, expression_uses, factor_uses, indexed_type, indices, last_uses, member_uses}
+use Rattle.decl_checker.specs.Accesses.{members_uses, more_arguments, more_factors, more_indices, more_members, more_terms, name_use, named_variable}
+use Rattle.decl_checker.specs.Accesses.{next_argument, next_index, next_member, next_term, range_end_uses, related_uses, relation_uses, selected, selector}
+use Rattle.decl_checker.specs.Accesses.{simple_uses, some_members_uses, term_uses}
+use Rattle.same_programs.proofs.{BareExpressions.bare_some_members, BareExpressions.bare_term, BareExpressions.bare_terms, Steps.each-bare}
 use Rattle.same_programs.proofs.BareExpressions.{bare_access, bare_arguments, bare_end, bare_expression, bare_expressions, bare_factor, bare_factors}
 use Rattle.same_programs.proofs.BareExpressions.{bare_index, bare_member, bare_members, bare_more_members, bare_next_expression, bare_next_member}
 use Rattle.same_programs.proofs.BareExpressions.{bare_next_term, bare_range_end, bare_related, bare_relation, bare_selector, bare_selectors, bare_simple}
-use Rattle.same_programs.proofs.BareExpressions.{bare_some_members, bare_term, bare_terms}
 
 mutual
   pub expression_uses-bare : (frame : ℕ) (e : Expression) → expression_uses frame (bare_expression e) ≡ expression_uses frame e

@@ -1,34 +1,21 @@
 -- What the definitions of `Rattle.decl_checker.specs.Statements` say of bare trees.
-use Rattle.std.specs.Prelude.{ℕ, Option, Some, None}
+use Rattle.std.proofs.Common.{◌≡◌, ℕ, None, Option, Some, option_map, refl}
 use Rattle.std.specs.Global.{Box}
-use Rattle.pas_tree.specs.declared.constants.Constants.{Constants}
-use Rattle.pas_tree.specs.declared.expressions.Access.{Access}
-use Rattle.pas_tree.specs.declared.statements.Plain.{Plain, Empty, Assignment as Assignment', Call, Goto, Compound', If', Case', Repeat', While', For', With'}
-use Rattle.pas_tree.specs.declared.statements.Compound.{Compound, Compound' as CompoundTree'}
-use Rattle.pas_tree.specs.declared.statements.Statements.{Statements, Statements', Row_of-NextStatement, end_of-NextStatement, more_of-NextStatement}
-use Rattle.pas_tree.specs.declared.statements.Assignment.{Assignment}
-use Rattle.pas_tree.specs.declared.statements.Actuals.{Actuals}
-use Rattle.pas_tree.specs.declared.statements.NextActual.{NextActual}
-use Rattle.pas_tree.specs.declared.statements.Actual.{Actual}
-use Rattle.pas_tree.specs.declared.statements.Width.{Width}
-use Rattle.pas_tree.specs.declared.statements.If.{If, If' as IfTree', Held-If-alternative, None', Some'}
+use Rattle.pas_tree.specs.declared.{constants.Constants.Constants, expressions.Access.Access}
+use Rattle.pas_tree.specs.declared.statements.{Actual.Actual, Actuals.Actuals, Assignment.Assignment, Compound.Compound, Compound.Compound' as CompoundTree'}
+use Rattle.pas_tree.specs.declared.statements.{NextAccess.NextAccess, NextActual.NextActual, Repeat.Repeat, Repeat.Repeat' as RepeatTree', Width.Width}
 use Rattle.pas_tree.specs.declared.statements.Case.{Case, Case' as CaseTree', Row_of-NextBranch, end_of-NextBranch, more_of-NextBranch}
-use Rattle.pas_tree.specs.declared.statements.Repeat.{Repeat, Repeat' as RepeatTree'}
-use Rattle.pas_tree.specs.declared.statements.NextAccess.{NextAccess}
-use Rattle.check_steps.specs.Known.{type_at}
-use Rattle.check_steps.specs.Steps.{◌>>=◌, look}
-use Rattle.decl_checker.specs.Accesses.{name_use}
-use Rattle.decl_checker.specs.Statements.{assignment_uses, width_uses, actual_uses, next_actual, some_actuals_uses, actuals_uses, constants_uses, fields_in}
-use Rattle.decl_checker.specs.Statements.{inside_of, inside_access, inside_next, plain_uses, compound_uses, statements_uses, more_statements, if_uses}
-use Rattle.decl_checker.specs.Statements.{else_uses, case_uses, more_branches, repeat_uses}
-use Rattle.std.proofs.Common.{◌≡◌, refl, option_map}
-use Rattle.same_programs.proofs.Steps.{each-bare}
-use Rattle.same_programs.proofs.BareExpressions.{bare_access}
+use Rattle.pas_tree.specs.declared.statements.If.{Held-If-alternative, If, If' as IfTree', None', Some'}
+use Rattle.pas_tree.specs.declared.statements.Plain.{Assignment as Assignment', Call, Case', Compound', Empty, For', Goto, If', Plain, Repeat', While', With'}
+use Rattle.pas_tree.specs.declared.statements.Statements.{Row_of-NextStatement, Statements, Statements', end_of-NextStatement, more_of-NextStatement}
+use Rattle.check_steps.specs.{Known.type_at, Steps.◌>>=◌, Steps.look}
+use Rattle.decl_checker.specs.{Accesses.name_use, Statements.some_actuals_uses, Statements.statements_uses, Statements.width_uses}
+use Rattle.decl_checker.specs.Statements.{actual_uses, actuals_uses, assignment_uses, case_uses, compound_uses, constants_uses, else_uses, fields_in, if_uses}
+use Rattle.decl_checker.specs.Statements.{inside_access, inside_next, inside_of, more_branches, more_statements, next_actual, plain_uses, repeat_uses}
+use Rattle.same_programs.proofs.{BareExpressions.bare_access, BareNames.bare_constants, BareStatements.bare_statements, BareStatements.bare_width}
+use Rattle.same_programs.proofs.{Steps.each-bare, UseAccesses.access_type-bare, UseAccesses.access_uses-bare, UseAccesses.expression_uses-bare}
 use Rattle.same_programs.proofs.BareStatements.{bare_actual, bare_actuals, bare_assignment, bare_boxed_actuals, bare_branches, bare_case, bare_compound}
 use Rattle.same_programs.proofs.BareStatements.{bare_else, bare_if, bare_more_statements, bare_next_access, bare_next_actual, bare_plain, bare_repeat}
-use Rattle.same_programs.proofs.BareStatements.{bare_statements, bare_width}
-use Rattle.same_programs.proofs.BareNames.{bare_constants}
-use Rattle.same_programs.proofs.UseAccesses.{access_uses-bare, expression_uses-bare, access_type-bare}
 
 pub assignment_uses-bare : (frame : ℕ) (a : Assignment) → assignment_uses frame (bare_assignment a) ≡ assignment_uses frame a
 unfolding assignment_uses

@@ -1,16 +1,13 @@
 -- What the trees of one text have in common.
 use Rattle.std.specs.Prelude.{◌≡◌, ◌≢◌, ℕ, List}
 use Rattle.pas_lexer.specs.Lexed.{Lexed}
-use Rattle.pas_tree.specs.declared.blocks.Tree.{Tree}
-use Rattle.pas_tree.specs.SameTrees.{SameTree}
+use Rattle.pas_tree.specs.{SameTrees.SameTree, declared.blocks.Tree.Tree}
 use Rattle.core_program.specs.ProgramRows.{ProgramRows}
 use Rattle.check_steps.specs.Known.{Known}
 use Rattle.decl_checker.specs.Programs as declarations
+use Rattle.code_checker.specs.{Declarations.IsDeclared, Declarations.IsTextOf, Programs.IsChecked, Programs.IsUnchecked}
 use Rattle.code_checker.specs.CheckedPrograms as program
-use Rattle.code_checker.specs.declared.programs.ProgramFault.{ProgramFault}
-use Rattle.code_checker.specs.declared.programs.ProgramFault.TheVariants.{Memory}
-use Rattle.code_checker.specs.Declarations.{IsDeclared, IsTextOf}
-use Rattle.code_checker.specs.Programs.{IsChecked, IsUnchecked}
+use Rattle.code_checker.specs.declared.programs.ProgramFault.{ProgramFault, TheVariants.Memory}
 
 -- Over these tokens two trees break the same rules and denote the same program, and so do their declarations alone.
 pub record AreOneProgram (t : Lexed) (a b : Tree) : Type 0 where

@@ -1,7 +1,7 @@
 //! The law, the contract of a call that does nothing.
 
-ghost use Rattle.same_programs.specs.Laws.{AtMostOneProgram, DeclaredOnce, NeverBoth};
-ghost use Rattle.same_programs.specs.Laws.{MemorySaysNothing, OneTextOneProgram, RefusedOnce};
+ghost use Rattle.same_programs.specs.Laws.{AtMostOneProgram, DeclaredOnce, MemorySaysNothing, NeverBoth};
+ghost use Rattle.same_programs.specs.Laws.{OneTextOneProgram, RefusedOnce};
 
 /// The rules that a tree breaks and the program that it denotes go by its tokens alone. A text has at most one formed
 /// tree but for places in memory, so its trees all break the same rules and denote the same program, and so do their

@@ -1,10 +1,8 @@
 -- Lists of entries, read one after another.
-use Rattle.std.proofs.Common.{◌≡◌, ◌<◌, ℕ, zero, suc, List, [], ◌∷◌, length, map, get_or, Option, Some, None, option_map, option_and_then, refl, arith}
-use Rattle.serde_json.specs.View.{view, items_view}
-use Rattle.serde_json.specs.declared.value.Value.{Value}
-use Rattle.serde_json.proofs.Views.{items_len-items_view}
+use Rattle.std.proofs.Common.{◌<◌, ◌∷◌, ◌≡◌, [], ℕ, List, None, Option, Some, arith, get_or, length, map, option_and_then, option_map, refl, suc, zero}
+use Rattle.serde_json.{proofs.Views.items_len-items_view, specs.View.items_view, specs.View.view, specs.declared.value.Value.Value}
 use Rattle.answer_book.specs.declared.entries.Entry.{Entry}
-use Rattle.session_file.specs.Reading.{entry_in, entries_in}
+use Rattle.session_file.specs.Reading.{entries_in, entry_in}
 
 -- each value is an entry
 pub all_read : (values : List Value) (entries : List Entry) → map Some entries ≡ map (λ value. entry_in (view value)) values

@@ -1,32 +1,19 @@
 -- A session that was loaded is within its limits.
-use Rattle.std.proofs.Common.{◌≡◌, ◌<◌, ◌≤◌, ◌^◌, ◌==◌, ◌⊎◌, ℕ, suc, Bool, true, false, List, [], ◌∷◌, length, All, IfOk, codes, Option}
-use Rattle.std.proofs.Common.{Some, None, inl, inr, option_map, option_and_then, Result, Ok, Err, if◌then◌else◌, nat_lt, refl, sym, ap, ◌∙◌, subst}
-use Rattle.std.proofs.Common.{arith, ltb-true, leb-true}
-use Rattle.std.specs.Result.{result_ok}
-use Rattle.std.specs.Str.{bytes_eq}
-use Rattle.std.proofs.lemmas.Bool.{and_parts}
-use Rattle.std.proofs.lemmas.List.Elements.{All-cons, All-nil}
-use Rattle.hex.specs.declared.error.FromHexError.{FromHexError}
-use Rattle.hex.specs.Hex.{decode_sized}
-use Rattle.hex.proofs.HexLemmas.{decode_sized-ok, decode_sized-twice, decode_of-ok}
-use Rattle.serde_json.specs.Data.{Data, Items, no_items, item}
-use Rattle.serde_json.specs.Events.{items_len}
-use Rattle.serde_json.specs.Find.{as_array, as_bool, get}
-use Rattle.answer_book.specs.declared.entries.Entry.{Entry}
-use Rattle.answer_book.specs.declared.entries.Judgement.{Judgement}
-use Rattle.answer_book.specs.declared.entries.Judgement.TheVariants.{Right, Wrong, Unknown}
-use Rattle.answer_book.specs.declared.entries.What.{What}
-use Rattle.answer_book.specs.declared.entries.What.TheVariants.{Judged, Trusted}
-use Rattle.session_file.specs.declared.session.Session.{Session}
-use Rattle.session_file.specs.declared.session.SessionField.{SessionField}
-use Rattle.session_file.specs.declared.session.SessionField.TheVariants.{Version, Source, Input, Budget, Entries}
-use Rattle.session_file.specs.declared.session.LoadFault.{LoadFault}
-use Rattle.session_file.specs.declared.session.LoadFault.TheVariants.{BadVersion, Memory}
-use Rattle.session_file.specs.Text.{this_version, judgement_word}
-use Rattle.session_file.specs.Reading.{only_if, whole_under, word_under, text_under, digest_at, said_as, entry_in, entries_in, has_allowed_length, begins_wrong}
-use Rattle.session_file.specs.Reading.{is_budget, budget_at, values_at, entries_at, with_field, fields_read, session_in, json_of, session_or_fault}
-use Rattle.session_file.specs.Reading.{session_of}
-use Rattle.session_file.specs.Whole.{IsDigest, NumberFits, IsWhole}
+use Rattle.std.proofs.Common.{if◌then◌else◌, ◌<◌, ◌==◌, ◌^◌, ◌∙◌, ◌∷◌, ◌≡◌, ◌≤◌, ◌⊎◌, [], ℕ, All, Bool, Err, IfOk, List, None, Ok, Option, Result, Some, ap}
+use Rattle.std.proofs.Common.{arith, codes, false, inl, inr, leb-true, length, ltb-true, nat_lt, option_and_then, option_map, refl, subst, suc, sym, true}
+use Rattle.std.proofs.lemmas.{Bool.and_parts, List.Elements.All-cons, List.Elements.All-nil}
+use Rattle.std.specs.{Result.result_ok, Str.bytes_eq}
+use Rattle.hex.proofs.HexLemmas.{decode_of-ok, decode_sized-ok, decode_sized-twice}
+use Rattle.hex.specs.{Hex.decode_sized, declared.error.FromHexError.FromHexError}
+use Rattle.serde_json.specs.{Data.Data, Data.Items, Data.item, Data.no_items, Events.items_len, Find.as_array, Find.as_bool, Find.get}
+use Rattle.answer_book.specs.declared.entries.{Entry.Entry, What.What, What.TheVariants.Judged, What.TheVariants.Trusted}
+use Rattle.answer_book.specs.declared.entries.Judgement.{Judgement, TheVariants.Right, TheVariants.Unknown, TheVariants.Wrong}
+use Rattle.session_file.specs.{Reading.word_under, Text.judgement_word, Text.this_version, Whole.IsDigest, Whole.IsWhole, Whole.NumberFits}
+use Rattle.session_file.specs.Reading.{begins_wrong, budget_at, digest_at, entries_at, entries_in, entry_in, fields_read, has_allowed_length, is_budget}
+use Rattle.session_file.specs.Reading.{json_of, only_if, said_as, session_in, session_of, session_or_fault, text_under, values_at, whole_under, with_field}
+use Rattle.session_file.specs.declared.session.{Session.Session, SessionField.SessionField}
+use Rattle.session_file.specs.declared.session.LoadFault.{LoadFault, TheVariants.BadVersion, TheVariants.Memory}
+use Rattle.session_file.specs.declared.session.SessionField.TheVariants.{Budget, Entries, Input, Source, Version}
 
 -- ---- what was found passed each test
 

@@ -1,11 +1,8 @@
 -- What bytes are, once they are known to be JSON or not.
-use Rattle.std.proofs.Common.{◌≡◌, ℕ, Bool, true, false, List, Some, None, Err, IsUtf8, if◌then◌else◌, refl}
-use Rattle.std.proofs.lemmas.Str.{IsUtf8-from_is_utf8, is_utf8-from_IsUtf8}
-use Rattle.std.specs.Str.{is_utf8}
-use Rattle.serde_json.specs.Data.{Data}
-use Rattle.serde_json.specs.Read.{read}
-use Rattle.session_file.specs.declared.session.LoadFault.TheVariants.{NotJson}
-use Rattle.session_file.specs.Reading.{session_in, session_or_fault, session_of}
+use Rattle.std.proofs.Common.{if◌then◌else◌, ◌≡◌, ℕ, Bool, Err, IsUtf8, List, None, Some, false, refl, true}
+use Rattle.std.{proofs.lemmas.Str.IsUtf8-from_is_utf8, proofs.lemmas.Str.is_utf8-from_IsUtf8, specs.Str.is_utf8}
+use Rattle.serde_json.specs.{Data.Data, Read.read}
+use Rattle.session_file.specs.{Reading.session_in, Reading.session_of, Reading.session_or_fault, declared.session.LoadFault.TheVariants.NotJson}
 
 pub is_json : (bytes : List ℕ) (d : Data) → IsUtf8 bytes → read bytes ≡ Some d → session_of bytes ≡ session_in d
 unfolding session_of

@@ -1,12 +1,8 @@
 -- A session's text has no float, so that it is known byte for byte.
-use Rattle.std.proofs.Common.{◌≡◌, Bool, false, List, [], ◌∷◌, map, refl}
-use Rattle.serde_json.specs.View.{items_of}
-use Rattle.serde_json.specs.Written.{has_float, items_have_float}
-use Rattle.answer_book.specs.declared.entries.Entry.{Entry}
-use Rattle.answer_book.specs.declared.entries.What.{What}
-use Rattle.answer_book.specs.declared.entries.What.TheVariants.{Judged, Trusted}
-use Rattle.session_file.specs.declared.session.Session.{Session}
-use Rattle.session_file.specs.Text.{said_data, entry_data, session_data}
+use Rattle.std.proofs.Common.{◌∷◌, ◌≡◌, [], Bool, List, false, map, refl}
+use Rattle.serde_json.specs.{View.items_of, Written.has_float, Written.items_have_float}
+use Rattle.answer_book.specs.declared.entries.{Entry.Entry, What.What, What.TheVariants.Judged, What.TheVariants.Trusted}
+use Rattle.session_file.specs.{Text.entry_data, Text.said_data, Text.session_data, declared.session.Session.Session}
 
 said_whole : (what : What) (standing : Bool) → has_float (said_data what standing) ≡ false
 said_whole (Judged call judgement) standing = refl

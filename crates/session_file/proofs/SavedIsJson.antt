@@ -1,24 +1,15 @@
 -- What is saved is JSON: it reads back as the value that was written.
-use Rattle.std.proofs.Common.{◌≡◌, ◌≤◌, Bool, List, [], ◌∷◌, map, All, Option, Some, option_and_then, append-nil, refl, sym, ap, ◌∙◌, arith}
+use Rattle.std.proofs.Common.{◌∙◌, ◌∷◌, ◌≡◌, ◌≤◌, [], All, Bool, List, Option, Some, ap, append-nil, arith, map, option_and_then, refl, sym}
 use Rattle.std.proofs.lemmas.List.Elements.{All-tail}
+use Rattle.json.proofs.Printed.{Decimals.IsNumber-decimal, Tokens.tokens-print, Trees.ArePrintable-json_tokens, Trees.value-json_tokens}
+use Rattle.json.specs.Json as json
 use Rattle.json.specs.Token.{Token}
 use Rattle.json.specs.Tree as tree
-use Rattle.json.proofs.Printed.Decimals.{IsNumber-decimal}
-use Rattle.json.specs.Json as json
-use Rattle.json.proofs.Printed.Tokens.{tokens-print}
-use Rattle.json.proofs.Printed.Trees.{ArePrintable-json_tokens, value-json_tokens}
-use Rattle.serde_json.specs.Data.{Data}
-use Rattle.serde_json.specs.Read.{read, of_json, of_items}
-use Rattle.serde_json.specs.Written.{outline, items_outline}
-use Rattle.serde_json.proofs.Numbers.{number_of-decimal}
-use Rattle.serde_json.proofs.Texts.{print-outline}
-use Rattle.serde_json.specs.View.{items_of}
-use Rattle.answer_book.specs.declared.entries.Entry.{Entry}
-use Rattle.answer_book.specs.declared.entries.What.{What}
-use Rattle.answer_book.specs.declared.entries.What.TheVariants.{Judged, Trusted}
-use Rattle.session_file.specs.declared.session.Session.{Session}
-use Rattle.session_file.specs.Text.{said_data, entry_data, session_data, session_text}
-use Rattle.session_file.specs.Whole.{NumberFits, IsWhole}
+use Rattle.serde_json.proofs.{Numbers.number_of-decimal, Texts.print-outline}
+use Rattle.serde_json.specs.{Data.Data, Read.of_items, Read.of_json, Read.read, View.items_of, Written.items_outline, Written.outline}
+use Rattle.answer_book.specs.declared.entries.{Entry.Entry, What.What, What.TheVariants.Judged, What.TheVariants.Trusted}
+use Rattle.session_file.specs.{Whole.IsWhole, Whole.NumberFits, declared.session.Session.Session}
+use Rattle.session_file.specs.Text.{entry_data, said_data, session_data, session_text}
 
 abbrev AreNumbered : List Entry → Type 0
 AreNumbered entries = All (λ entry. NumberFits entry.what) entries

@@ -1,21 +1,13 @@
 -- The session that is read of what is saved is the one that was saved.
-use Rattle.std.proofs.Common.{◌≡◌, ◌^◌, ℕ, Bool, List, [], ◌∷◌, map, All, Some, Ok, suc, length, lt-ltb, le-leb, refl, ap, arith}
-use Rattle.std.proofs.lemmas.List.Elements.{All-tail}
-use Rattle.std.proofs.lemmas.Str.{is_utf8-from_IsUtf8}
-use Rattle.hex.specs.Hex.{decode_sized, encode_lower}
-use Rattle.hex.proofs.HexLemmas.{decode_sized-encode_lower}
-use Rattle.serde_json.specs.Events.{items_len}
-use Rattle.serde_json.specs.View.{items_of}
-use Rattle.answer_book.specs.declared.entries.Entry.{Entry}
-use Rattle.answer_book.specs.declared.entries.Judgement.TheVariants.{Right, Wrong, Unknown}
-use Rattle.answer_book.specs.declared.entries.What.{What}
-use Rattle.answer_book.specs.declared.entries.What.TheVariants.{Judged, Trusted}
-use Rattle.session_file.specs.declared.session.Session.{Session}
-use Rattle.session_file.specs.Text.{said_data, entry_data, session_data, session_text}
-use Rattle.session_file.specs.Reading.{entry_in, entries_in, session_in, session_of}
-use Rattle.session_file.specs.Whole.{NumberFits, IsDigest, IsWhole}
-use Rattle.session_file.proofs.SavedIsJson.{saved_json}
-use Rattle.session_file.proofs.SavedIsUtf8.{saved_utf8}
+use Rattle.std.proofs.Common.{◌^◌, ◌∷◌, ◌≡◌, [], ℕ, All, Bool, List, Ok, Some, ap, arith, le-leb, length, lt-ltb, map, refl, suc}
+use Rattle.std.proofs.lemmas.{List.Elements.All-tail, Str.is_utf8-from_IsUtf8}
+use Rattle.hex.{proofs.HexLemmas.decode_sized-encode_lower, specs.Hex.decode_sized, specs.Hex.encode_lower}
+use Rattle.serde_json.specs.{Events.items_len, View.items_of}
+use Rattle.answer_book.specs.declared.entries.{Entry.Entry, What.What, What.TheVariants.Judged, What.TheVariants.Trusted}
+use Rattle.answer_book.specs.declared.entries.Judgement.TheVariants.{Right, Unknown, Wrong}
+use Rattle.session_file.proofs.{SavedIsJson.saved_json, SavedIsUtf8.saved_utf8}
+use Rattle.session_file.specs.{Reading.entries_in, Reading.entry_in, Reading.session_in, Reading.session_of, Text.entry_data, Text.said_data, Text.session_data}
+use Rattle.session_file.specs.{Text.session_text, Whole.IsDigest, Whole.IsWhole, Whole.NumberFits, declared.session.Session.Session}
 
 said_read : (what : What) (standing : Bool) → NumberFits what → entry_in (said_data what standing) ≡ Some (record { what = what; standing = standing })
 said_read (Judged call Right) standing small = rw (lt-ltb call (2 ^ 32) small)

@@ -1,27 +1,17 @@
 -- What is saved is UTF-8.
-use Rattle.std.proofs.Common.{◌≡◌, ◌<◌, ◌^◌, ℕ, Bool, true, false, List, [], ◌∷◌, map, All, codes, IsUtf8, decimal, refl, arith, ltb-true}
-use Rattle.std.specs.Prelude.{⊤}
-use Rattle.std.specs.Str.{IsAscii}
-use Rattle.std.proofs.lemmas.Bool.{and_parts}
-use Rattle.std.proofs.lemmas.List.Elements.{All-tail}
-use Rattle.std.proofs.lemmas.Str.{IsUtf8-append, IsUtf8-from_ascii}
-use Rattle.std.proofs.lemmas.Str.Ascii.{IsAscii-nil, IsAscii-cons}
-use Rattle.std.proofs.lemmas.Fmt.{IsAscii-decimal}
-use Rattle.hex.specs.Hex.{lower_digits, encode_lower}
-use Rattle.hex.proofs.HexLemmas.{IsAscii-encode_with}
+use Rattle.std.proofs.Common.{◌<◌, ◌^◌, ◌∷◌, ◌≡◌, [], ℕ, All, Bool, IsUtf8, List, arith, codes, decimal, false, ltb-true, map, refl, true}
+use Rattle.std.{specs.Prelude.⊤, proofs.lemmas.Bool.and_parts, proofs.lemmas.Fmt.IsAscii-decimal, proofs.lemmas.List.Elements.All-tail, specs.Str.IsAscii}
+use Rattle.std.proofs.lemmas.Str.{IsUtf8-append, IsUtf8-from_ascii, Ascii.IsAscii-cons, Ascii.IsAscii-nil}
+use Rattle.hex.{proofs.HexLemmas.IsAscii-encode_with, specs.Hex.encode_lower, specs.Hex.lower_digits}
+use Rattle.json.proofs.Printed.Utf8.{IsUtf8-are_ascii, IsUtf8-boolean, IsUtf8-quoted, are_ascii}
 use Rattle.json.specs.Print.{quoted}
-use Rattle.json.proofs.Printed.Utf8.{are_ascii, IsUtf8-are_ascii, IsUtf8-quoted, IsUtf8-boolean}
-use Rattle.serde_json.specs.Data.{Data, null, boolean, number, string, array, object, Items, no_items, item, Members, no_members, member}
-use Rattle.serde_json.specs.Written.{compact_text, items_text, members_text, number_text, comma_if}
+use Rattle.serde_json.specs.Data.{Data, Items, Members, array, boolean, item, member, no_items, no_members, null, number, object, string}
 use Rattle.serde_json.specs.View.{items_of}
-use Rattle.answer_book.specs.declared.entries.Entry.{Entry}
-use Rattle.answer_book.specs.declared.entries.Judgement.{Judgement}
-use Rattle.answer_book.specs.declared.entries.Judgement.TheVariants.{Right, Wrong, Unknown}
-use Rattle.answer_book.specs.declared.entries.What.{What}
-use Rattle.answer_book.specs.declared.entries.What.TheVariants.{Judged, Trusted}
-use Rattle.session_file.specs.declared.session.Session.{Session}
-use Rattle.session_file.specs.Text.{judgement_word, said_data, entry_data, session_data, session_text}
-use Rattle.session_file.specs.Whole.{NumberFits, IsWhole}
+use Rattle.serde_json.specs.Written.{comma_if, compact_text, items_text, members_text, number_text}
+use Rattle.answer_book.specs.declared.entries.{Entry.Entry, What.What, What.TheVariants.Judged, What.TheVariants.Trusted}
+use Rattle.answer_book.specs.declared.entries.Judgement.{Judgement, TheVariants.Right, TheVariants.Unknown, TheVariants.Wrong}
+use Rattle.session_file.specs.{Whole.IsWhole, Whole.NumberFits, declared.session.Session.Session}
+use Rattle.session_file.specs.Text.{entry_data, judgement_word, said_data, session_data, session_text}
 
 -- ---- a value whose numbers, strings and keys are UTF-8 has a text that is
 

@@ -1,23 +1,17 @@
 -- Which session a text is, or why it is none. The keys that are not named here say nothing.
-use Rattle.std.specs.Prelude.{ℕ, ◌^◌, ◌==◌, ◌&&◌, Bool, List, [], ◌∷◌, slice_get, codes, nat_lt, nat_le, if◌then◌else◌}
-use Rattle.std.specs.Prelude.{Option, Some, None, option_map, option_and_then, Result, Ok, Err, false}
-use Rattle.std.specs.Result.{result_ok}
-use Rattle.std.specs.Str.{bytes_eq, is_utf8}
+use Rattle.std.specs.Prelude.{if◌then◌else◌, ◌&&◌, ◌==◌, ◌^◌, ◌∷◌, [], ℕ, Bool, Err, List, None, Ok, Option, Result}
+use Rattle.std.specs.Prelude.{Some, codes, false, nat_le, nat_lt, option_and_then, option_map, slice_get}
+use Rattle.std.specs.{Result.result_ok, Str.bytes_eq, Str.is_utf8}
 use Rattle.hex.specs.Hex.{decode_sized}
-use Rattle.serde_json.specs.Data.{Data, Items, no_items, item}
-use Rattle.serde_json.specs.Events.{items_len}
-use Rattle.serde_json.specs.Read.{read}
-use Rattle.serde_json.specs.Find.{get, as_number, as_u64, as_str, as_bool, as_array}
+use Rattle.serde_json.specs.{Data.Data, Data.Items, Data.item, Data.no_items, Events.items_len, Read.read}
+use Rattle.serde_json.specs.Find.{as_array, as_bool, as_number, as_str, as_u64, get}
 use Rattle.answer_book.specs.declared.entries.Entry.{Entry}
-use Rattle.answer_book.specs.declared.entries.Judgement.TheVariants.{Right, Wrong, Unknown}
-use Rattle.answer_book.specs.declared.entries.What.{What}
-use Rattle.answer_book.specs.declared.entries.What.TheVariants.{Judged, Trusted}
-use Rattle.session_file.specs.declared.session.Session.{Session}
-use Rattle.session_file.specs.declared.session.SessionField.{SessionField}
-use Rattle.session_file.specs.declared.session.SessionField.TheVariants.{Version, Source, Input, Budget, Entries}
-use Rattle.session_file.specs.declared.session.LoadFault.{LoadFault}
-use Rattle.session_file.specs.declared.session.LoadFault.TheVariants.{NotJson, BadShape, BadVersion}
-use Rattle.session_file.specs.Text.{this_version, judgement_word}
+use Rattle.answer_book.specs.declared.entries.Judgement.TheVariants.{Right, Unknown, Wrong}
+use Rattle.answer_book.specs.declared.entries.What.{What, TheVariants.Judged, TheVariants.Trusted}
+use Rattle.session_file.specs.Text.{judgement_word, this_version}
+use Rattle.session_file.specs.declared.session.{LoadFault.LoadFault, Session.Session, SessionField.SessionField}
+use Rattle.session_file.specs.declared.session.LoadFault.TheVariants.{BadShape, BadVersion, NotJson}
+use Rattle.session_file.specs.declared.session.SessionField.TheVariants.{Budget, Entries, Input, Source, Version}
 
 -- ---- what stands under a key
 

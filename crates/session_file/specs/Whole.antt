@@ -1,10 +1,8 @@
 -- The sessions that are loaded as they were saved.
-use Rattle.std.specs.Prelude.{◌≡◌, ◌<◌, ◌≤◌, ℕ, ◌^◌, All, List, length, IsTrue}
+use Rattle.std.specs.Prelude.{◌<◌, ◌^◌, ◌≡◌, ◌≤◌, ℕ, All, IsTrue, List, length}
 use Rattle.hex.specs.Hex.{IsBytes}
-use Rattle.answer_book.specs.declared.entries.What.{What}
-use Rattle.answer_book.specs.declared.entries.What.TheVariants.{Judged, Trusted}
-use Rattle.session_file.specs.declared.session.Session.{Session}
-use Rattle.session_file.specs.Reading.{begins_wrong}
+use Rattle.answer_book.specs.declared.entries.What.{What, TheVariants.Judged, TheVariants.Trusted}
+use Rattle.session_file.specs.{Reading.begins_wrong, declared.session.Session.Session}
 
 -- 32 bytes
 pub record IsDigest (digest : List ℕ) : Type 0 where

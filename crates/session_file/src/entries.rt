@@ -1,5 +1,5 @@
 //! A list of entries.
-ghost use Rattle.std.specs.Prelude.{◌≡◌, [], ◌∷◌, ◌++◌, OnOk, OnErr};
+ghost use Rattle.std.specs.Prelude.{◌++◌, ◌∷◌, ◌≡◌, [], OnErr, OnOk};
 
 use answer_book::Entry;
 use edge_ports::Memory;

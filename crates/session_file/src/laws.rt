@@ -1,9 +1,7 @@
 //! What holds of the text of a session.
 ghost use Rattle.std.specs.Prelude.{◌≡◌, Ok};
+ghost use Rattle.session_file.specs.{Reading.session_of, Text.session_text, Whole.IsWhole};
 ghost use Rattle.session_file.specs.declared.session.Session.{Session as SessionValue};
-ghost use Rattle.session_file.specs.Text.{session_text};
-ghost use Rattle.session_file.specs.Reading.{session_of};
-ghost use Rattle.session_file.specs.Whole.{IsWhole};
 
 /// What is saved is loaded as it was: the text of each session whose parts are within their limits reads as that
 /// session.

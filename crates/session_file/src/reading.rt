@@ -1,15 +1,11 @@
 //! From a text to the session that it is.
 ghost use Rattle.std.specs.Prelude.{◌≡◌, ◌≤◌, ◌⊎◌, Err, IfOk, IfSome, codes, length, option_and_then, option_map};
-ghost use Rattle.std.specs.Option.{ok_or};
-ghost use Rattle.std.specs.Str.{bytes_eq};
-ghost use Rattle.serde_json.specs.View.{view, items_view};
-ghost use Rattle.serde_json.specs.Find.{as_bool, get};
+ghost use Rattle.std.specs.{Option.ok_or, Str.bytes_eq};
+ghost use Rattle.serde_json.specs.{Find.as_bool, Find.get, View.items_view, View.view};
 ghost use Rattle.answer_book.specs.declared.entries.What.TheVariants as what;
-ghost use Rattle.session_file.specs.Reading.{word_under, text_under, digest_at, said_as, says_wrong, entry_in};
-ghost use Rattle.session_file.specs.Reading.{entries_in};
-ghost use Rattle.session_file.specs.Reading.{begins_wrong, budget_at, values_at, entries_at, fields_read, session_in};
-ghost use Rattle.session_file.specs.Reading.{session_of};
-ghost use Rattle.session_file.specs.Whole.{IsWhole};
+ghost use Rattle.session_file.specs.{Reading.values_at, Reading.word_under, Whole.IsWhole};
+ghost use Rattle.session_file.specs.Reading.{begins_wrong, budget_at, digest_at, entries_at, entries_in, entry_in};
+ghost use Rattle.session_file.specs.Reading.{fields_read, said_as, says_wrong, session_in, session_of, text_under};
 
 use crate::entries::SavedEntries;
 use crate::session::{LoadFault, Session, SessionField};

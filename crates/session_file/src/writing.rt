@@ -1,7 +1,7 @@
 //! From a session to its text.
 ghost use Rattle.std.specs.Prelude.{◌≡◌, IfOk, map};
 ghost use Rattle.serde_json.specs.View.{view};
-ghost use Rattle.session_file.specs.Text.{entry_data, session_data, session_text, judgement_word};
+ghost use Rattle.session_file.specs.Text.{entry_data, judgement_word, session_data, session_text};
 
 use crate::entries::SavedEntries;
 use crate::session::Session;

@@ -1,6 +1,6 @@
 //! Searches worked out by hand, by the vectors and by the plain loops as they are compiled.
 
-ghost use Rattle.std.specs.Prelude.{◌≡◌, length, IsTrue};
+ghost use Rattle.std.specs.Prelude.{◌≡◌, IsTrue, length};
 ghost use Rattle.weight_lanes.specs.Places.{AreWeighed};
 
 use std::process::Abort;

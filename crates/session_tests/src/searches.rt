@@ -1,5 +1,5 @@
 //! Searches and their books: new ones, and over entries that stand already.
-ghost use Rattle.std.specs.Prelude.{◌≡◌, ◌<◌, [], length};
+ghost use Rattle.std.specs.Prelude.{◌<◌, ◌≡◌, [], length};
 
 use crate::trees::grown;
 use answer_book::{Book, Entry, EntryList, Judgement, What};

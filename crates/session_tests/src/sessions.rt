@@ -1,8 +1,7 @@
 //! A saved session that is gone on with, and the session of the moment.
 ghost use Rattle.std.specs.Prelude.{◌≡◌, None};
 ghost use Rattle.session_file.specs.Whole.{IsWhole};
-ghost use Rattle.dialog_replies.specs.Fit.{misfit};
-ghost use Rattle.dialog_replies.specs.Start.{IsWholeStart};
+ghost use Rattle.dialog_replies.specs.{Fit.misfit, Start.IsWholeStart};
 
 use answer_book::{Entry, Judgement, What};
 use ask_session::{Ending, converse};

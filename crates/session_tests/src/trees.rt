@@ -1,5 +1,5 @@
 //! Calls as they are recorded, from a list of what is called.
-ghost use Rattle.std.specs.Prelude.{◌≡◌, ◌<◌, ◌≤◌, [], IfOk, length};
+ghost use Rattle.std.specs.Prelude.{◌<◌, ◌≡◌, ◌≤◌, [], IfOk, length};
 
 use call_tree::{Calls, Side};
 use cell_value::{Cells, Memory, WayOut};

@@ -1,9 +1,9 @@
 //! Weights worked out by hand.
 
-ghost use Rattle.std.specs.Prelude.{◌≡◌, ◌<◌, [], IfOk, Some, length, slice_get};
+ghost use Rattle.std.specs.Prelude.{◌<◌, ◌≡◌, [], IfOk, Some, length, slice_get};
 ghost use Rattle.call_tree.specs.declared.records.Mark.TheVariants.{Right, Wrong};
 ghost use Rattle.subtree_weights.specs.RunColumns.{columns_of};
-ghost use Rattle.subtree_weights.specs.Weighed.{call_count, with_marks, unjudged};
+ghost use Rattle.subtree_weights.specs.Weighed.{call_count, unjudged, with_marks};
 
 use crate::trees::grown;
 use call_tree::{Calls, Mark};

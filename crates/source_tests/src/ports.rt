@@ -6,7 +6,7 @@ use edge_ports::*;
 use std::alloc::Global;
 use std::fs::Permissions;
 use std::io::{ErrorKind, Read, Write};
-use std::os::unix::fs::PermissionsExt;
+use std::os::unix::fs::{PermissionsExt, symlink};
 use std::{fs, io};
 
 /// What came of the next line: a bar after a line, a sign where none came, and nothing at the end.
@@ -150,7 +150,8 @@ fn is_fetched(rt: &HostRuntime, own: &str, text: &str, row: &FetchedRow) -> bool
         None => Ok(text.as_bytes()),
         Some(fault) => Err(fault),
     };
-    fetches(&mut FileKeeper::new(rt), rt.alloc(), name, limit, wanted)
+    let mut keeper = FileKeeper::new(rt);
+    fetches(&mut keeper, rt.alloc(), name, limit, wanted)
 }
 
 #[test]
@@ -175,8 +176,7 @@ type StoredRow = (
 );
 
 /// What is stored in turn. A file that is neither empty nor begins with the same ten bytes is not replaced.
-const STORED: [StoredRow; 14] = [
-    ("", "/.store-0", b"a name that is taken", Ok(())),
+const STORED: [StoredRow; 13] = [
     ("", "/session", b"{\"budget\":1}", Ok(())),
     ("", "/session", b"{\"budget\":22,\"entries\":[]}", Ok(())),
     ("", "/session", b"{\"version\":1}", FAILED),
@@ -193,11 +193,10 @@ const STORED: [StoredRow; 14] = [
 ];
 
 /// The files in the test's own folder after that.
-const LEFT: [(&str, &[u8]); 4] = [
+const LEFT: [(&str, &[u8]); 3] = [
     ("/session", b"{\"budget\":22,\"entries\":[]}"),
     ("/empty", b"full"),
     ("/source", b"program a;"),
-    ("/.store-0", b"a name that is taken"),
 ];
 
 /// Whether the row holds, with this folder for the test's own.
@@ -218,8 +217,8 @@ fn is_stored(rt: &HostRuntime, own: &str, row: &StoredRow) -> bool {
 
 /// Whether the file holds these bytes. It is removed.
 fn is_held(rt: &HostRuntime, path: &str, bytes: &[u8]) -> bool {
-    fetches(&mut FileKeeper::new(rt), rt.alloc(), path, 100, Ok(bytes))
-        && fs::remove_file(rt, path).is_ok()
+    let mut keeper = FileKeeper::new(rt);
+    fetches(&mut keeper, rt.alloc(), path, 100, Ok(bytes)) && fs::remove_file(rt, path).is_ok()
 }
 
 /// The same of the file of this name in a folder.
@@ -247,20 +246,78 @@ fn real_files_stored(rt: HostRuntime) {
     fs::remove_dir(&rt, own).expect(&rt, "an empty folder");
 }
 
-/// Writes a file that only its owner may read.
+/// Files that are spared: an empty one, and one that is like a session.
+const SPARED: [(&str, &[u8]); 2] = [("/empty", b""), ("/kept", b"{\"budget\":1}")];
+
+/// Whether a spared file stays as it is, stored to by its own name, by another and by a link.
+fn is_left_alone(rt: &HostRuntime, own: &str, row: &(&str, &[u8])) -> io::Result<bool> {
+    let (name, text) = *row;
+    let path = format!(in rt.alloc(); "{own}{name}")?;
+    let other = format!(in rt.alloc(); "{own}/.{name}")?;
+    let link = format!(in rt.alloc(); "{own}/link")?;
+    fs::write(rt, path.as_str(), text)?;
+    symlink(rt, path.as_str(), link.as_str())?;
+    let mut keeper = FileKeeper::new(rt);
+    keeper.spare(rt.alloc(), path.as_str())?;
+    let bytes = b"{\"budget\":22,\"entries\":[]}";
+    let left = stores(&mut keeper, rt.alloc(), path.as_str(), bytes, FAILED)
+        && stores(&mut keeper, rt.alloc(), other.as_str(), bytes, FAILED)
+        && stores(&mut keeper, rt.alloc(), link.as_str(), bytes, FAILED)
+        && fetches(&mut keeper, rt.alloc(), path.as_str(), 100, Ok(text));
+    fs::remove_file(rt, link.as_str())?;
+    Ok(left)
+}
+
+/// A spared file stays, by whatever name it is called.
+#[test]
+fn real_files_left_alone(rt: HostRuntime) {
+    let own = own_path(&rt, "alone").expect(&rt, "a path");
+    let own = own.as_str();
+    fs::create_dir(&rt, own).expect(&rt, "a folder");
+    for row in &SPARED {
+        let left = is_left_alone(&rt, own, row).expect(&rt, "files");
+        assert!(rt; left, "{}", row.0);
+    }
+    fs::remove_dir_all(&rt, own).expect(&rt, "no folder");
+}
+
+/// As many files as saves that were killed may have left.
+const LEFTOVERS: u64 = 1_000;
+
+fn write_leftovers(rt: &HostRuntime, own: &str) -> io::Result<()> {
+    for number in 0..LEFTOVERS {
+        let path = format!(in rt.alloc(); "{own}/.store-{number}")?;
+        fs::write(rt, path.as_str(), b"left")?;
+    }
+    Ok(())
+}
+
+/// Files that killed saves left stop no other.
+#[test]
+fn real_files_beside_leftovers(rt: HostRuntime) {
+    let own = own_path(&rt, "beside").expect(&rt, "a path");
+    let own = own.as_str();
+    fs::create_dir(&rt, own).expect(&rt, "a folder");
+    write_leftovers(&rt, own).expect(&rt, "files");
+    let row: StoredRow = ("", "/session", b"{\"budget\":1}", Ok(()));
+    assert!(rt; is_stored(&rt, own, &row));
+    fs::remove_dir_all(&rt, own).expect(&rt, "no folder");
+}
+
+/// Writes a file that only its owner may read, and that would run as its owner and its group.
 fn write_private(rt: &HostRuntime, path: &str) -> io::Result<()> {
     fs::write(rt, path, b"first text")?;
-    fs::set_permissions(rt, path, Permissions::from_mode(0o600))
+    fs::set_permissions(rt, path, Permissions::from_mode(0o6600))
 }
 
 fn is_private(rt: &HostRuntime, path: &str) -> bool {
     match fs::metadata(rt, path) {
-        Ok(metadata) => metadata.permissions().mode() % 0o1000 == 0o600,
+        Ok(metadata) => metadata.permissions().mode() % 0o10000 == 0o600,
         Err(_) => false,
     }
 }
 
-/// A file that only its owner may read stays so.
+/// What takes the place of a file that only its owner may read is read by its owner alone, and runs as nobody else.
 #[test]
 fn real_files_stay_private(rt: HostRuntime) {
     let path = own_path(&rt, "private").expect(&rt, "a path");
@@ -280,18 +337,29 @@ fn real_files_stay_private(rt: HostRuntime) {
     fs::remove_file(&rt, path).expect(&rt, "no file");
 }
 
-/// A reader and writer of one byte at a time, whose second call fails and whose third does nothing. As a
-/// writer it also fails to flush after its fourth.
+/// A reader and writer of one byte at a time, whose second call fails and whose third does nothing. As a writer it also
+/// fails to flush after its fourth. A signal interrupts each call and each flush at first, which does nothing then.
 #[derive(Drop)]
 struct Faulty {
     calls: u8,
+    interrupted: bool,
 }
 
 impl Faulty {
+    /// A call is interrupted unless the one before it was.
+    fn interrupt(&mut self) -> io::Result<()> {
+        self.interrupted = !self.interrupted;
+        if self.interrupted {
+            return Err(io::Error::from(ErrorKind::Interrupted));
+        }
+        Ok(())
+    }
+
     /// What this call does with room for this many bytes.
     fn count(&mut self, room: usize) -> io::Result<usize>
         ensures { IfOk result (λ n. n ≤ room) }
     {
+        self.interrupt()?;
         self.calls = self.calls.saturating_add(1);
         match self.calls {
             2 => Err(io::Error::from(ErrorKind::Other)),
@@ -313,6 +381,7 @@ impl Write for Faulty {
     }
 
     fn flush(&mut self) -> io::Result<()> {
+        self.interrupt()?;
         if self.calls == 4 {
             return Err(io::Error::from(ErrorKind::Other));
         }
@@ -329,13 +398,20 @@ fn is_written(alloc: Global) -> bool {
     write_all(&mut StdSink::new(Vec::new(alloc)), b"abc") == Ok(())
 }
 
+fn faulty_stream() -> Faulty {
+    Faulty {
+        calls: 0,
+        interrupted: false,
+    }
+}
+
 #[test]
 fn real_streams(rt: HostRuntime) {
-    let mut source = StdSource::new(Faulty { calls: 0 });
+    let mut source = StdSource::new(faulty_stream());
     for (call, wanted) in TAKEN.iter().enumerate() {
         assert!(rt; source.take(&mut [0; 4]) == *wanted, "take {call}");
     }
-    let mut sink = StdSink::new(Faulty { calls: 0 });
+    let mut sink = StdSink::new(faulty_stream());
     for (call, wanted) in GIVEN.iter().enumerate() {
         assert!(rt; sink.give(b"abc") == *wanted, "give {call}");
     }

@@ -1,11 +1,7 @@
 -- Further out, past frames of one region.
-use Rattle.std.proofs.Common.{◌≡◌, ℕ, zero, suc, ◌-◌, ◌<◌, ◌≤◌, Bool, Option, Some, None, true, false, length, if◌then◌else◌, refl, ap, sym, ◌∙◌, arith}
-use Rattle.std.proofs.lemmas.Bool.Decides.{nat_tests}
-use Rattle.std.specs.Prelude.{◌||◌, nat_eq, is_some}
-use Rattle.check_steps.specs.Around.{first_around, is_around}
-use Rattle.check_steps.specs.Frames.{Leads}
-use Rattle.check_steps.specs.Known.{Known, frame_at}
-use Rattle.check_steps.specs.Regions.{region_at}
+use Rattle.std.proofs.Common.{if◌then◌else◌, ◌-◌, ◌<◌, ◌||◌, ◌∙◌, ◌≡◌, ◌≤◌, ℕ, Bool, None, Option, Some, ap, arith, false, is_some, length, nat_eq, refl, suc}
+use Rattle.std.proofs.{Common.sym, Common.true, Common.zero, lemmas.Bool.Decides.nat_tests}
+use Rattle.check_steps.specs.{Around.first_around, Around.is_around, Frames.Leads, Known.Known, Known.frame_at, Regions.region_at}
 use Rattle.statement_checker.specs.Assignments.{begins_at, is_inside, is_inside_from}
 
 pub inside-outermost : (k : Known) (n token : ℕ) → is_inside_from n k None token ≡ false

@@ -1,26 +1,19 @@
 -- The equations of statements by the fields of their trees.
-use Rattle.std.proofs.Common.{◌≡◌, ℕ, Option, Some, None, refl, sym, ap, ◌∙◌}
+use Rattle.std.proofs.Common.{◌∙◌, ◌≡◌, ℕ, None, Option, Some, ap, refl, sym}
+use Rattle.pas_tree.specs.declared.statements.{Compound.Compound, Compound.is-Compound', Compound.out-Compound, Else.Else, If.If, If.back-If-alternative}
+use Rattle.pas_tree.specs.declared.statements.{If.is-If', If.out-If, Repeat.Repeat, Repeat.is-Repeat', Repeat.out-Repeat}
+use Rattle.pas_tree.specs.declared.statements.Case.{Case, Row_of-NextBranch, end_of-NextBranch, is-Case', items-the_row-NextBranch}
+use Rattle.pas_tree.specs.declared.statements.Case.{items_hidden-the_row-NextBranch-0, more_of-NextBranch, out-Case}
 use Rattle.pas_tree.specs.declared.statements.Plain.TheBlock.{hidden-the_row-NextBranch-0, hidden-the_row-NextStatement-1}
-use Rattle.pas_tree.specs.declared.statements.Compound.{Compound, out-Compound, is-Compound'}
-use Rattle.pas_tree.specs.declared.statements.Statements.{Statements, out-Statements, is-Statements', Row_of-NextStatement, end_of-NextStatement}
-use Rattle.pas_tree.specs.declared.statements.Statements.{more_of-NextStatement, items-the_row-NextStatement, items_hidden-the_row-NextStatement-1}
-use Rattle.pas_tree.specs.declared.statements.If.{If, out-If, is-If', back-If-alternative}
-use Rattle.pas_tree.specs.declared.statements.Else.{Else}
-use Rattle.pas_tree.specs.declared.statements.Case.{Case, out-Case, is-Case', Row_of-NextBranch, end_of-NextBranch, more_of-NextBranch}
-use Rattle.pas_tree.specs.declared.statements.Case.{items-the_row-NextBranch, items_hidden-the_row-NextBranch-0}
-use Rattle.pas_tree.specs.declared.statements.Repeat.{Repeat, out-Repeat, is-Repeat'}
-use Rattle.check_steps.specs.Steps.{Step, ◌>>=◌, each}
-use Rattle.check_steps.proofs.Runs.{bind-assoc}
-use Rattle.denoter_checker.specs.declared.variants.Choosing.{Choosing}
-use Rattle.denoter_checker.specs.Variants.{choices}
-use Rattle.statement_checker.specs.declared.sequences.Branching.{Branching}
-use Rattle.statement_checker.specs.declared.sequences.Element.{Element}
-use Rattle.statement_checker.specs.Choices.{case_row}
-use Rattle.statement_checker.specs.Labels.{leave_all, reach_all}
-use Rattle.statement_checker.specs.Parts.{selected, condition_row}
+use Rattle.pas_tree.specs.declared.statements.Statements.{Row_of-NextStatement, Statements, end_of-NextStatement, is-Statements', items-the_row-NextStatement}
+use Rattle.pas_tree.specs.declared.statements.Statements.{items_hidden-the_row-NextStatement-1, more_of-NextStatement, out-Statements}
+use Rattle.check_steps.{proofs.Runs.bind-assoc, specs.Steps.◌>>=◌, specs.Steps.Step, specs.Steps.each}
+use Rattle.denoter_checker.specs.{Variants.choices, declared.variants.Choosing.Choosing}
+use Rattle.statement_checker.specs.{Choices.case_row, Labels.leave_all, Labels.reach_all, Parts.condition_row, Parts.selected}
 use Rattle.statement_checker.specs.Sequences.{add_element, compound_row, link_element, repeat_row}
-use Rattle.statement_checker.specs.Statements.{branching, case_statement, compound, element, else_held, else_of, if_statement, more_branches}
-use Rattle.statement_checker.specs.Statements.{more_statements, next_branch, next_statement, repeat_statement, sequence, statement_step}
+use Rattle.statement_checker.specs.Statements.{branching, case_statement, compound, element, else_held, else_of, if_statement, more_branches, more_statements}
+use Rattle.statement_checker.specs.Statements.{next_branch, next_statement, repeat_statement, sequence, statement_step}
+use Rattle.statement_checker.specs.declared.sequences.{Branching.Branching, Element.Element}
 
 statements_each : (frame n : _) (r : Row_of-NextStatement n) (last : Element)
     → more_statements frame last r ≡ each (next_statement frame) last (items-the_row-NextStatement n r)

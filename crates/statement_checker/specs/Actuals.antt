@@ -1,16 +1,11 @@
 -- The actual parameters of required procedures (6.6.5, 6.9).
-use Rattle.std.specs.Prelude.{ℕ, false, Option, Some, None}
-use Rattle.pas_tree.specs.declared.statements.Actuals.{Actuals}
-use Rattle.pas_tree.specs.declared.statements.NextActual.{NextActual}
-use Rattle.pas_tree.specs.declared.statements.Actual.{Actual}
-use Rattle.pas_tree.specs.declared.statements.Width.{Width}
+use Rattle.std.specs.Prelude.{ℕ, None, Option, Some, false}
+use Rattle.pas_tree.specs.declared.statements.{Actual.Actual, Actuals.Actuals, NextActual.NextActual, Width.Width}
 use Rattle.core_program.specs.declared.rows.TextFile.{TextFile}
-use Rattle.check_steps.specs.Known.{Known, find, name_at}
-use Rattle.check_steps.specs.Names.{usable}
-use Rattle.check_steps.specs.Steps.{Step, give, ◌>>=◌, late, each}
-use Rattle.expression_checker.specs.declared.typed.Typed.{Typed}
+use Rattle.check_steps.specs.{Known.Known, Known.find, Known.name_at, Names.usable}
+use Rattle.check_steps.specs.Steps.{◌>>=◌, Step, each, give, late}
+use Rattle.expression_checker.specs.{Expressions.expression, declared.typed.Typed.Typed}
 use Rattle.expression_checker.specs.Actuals.{file_of, name_alone}
-use Rattle.expression_checker.specs.Expressions.{expression}
 
 -- ---- widths
 

@@ -1,70 +1,55 @@
 -- Assignments (6.8.2.2): what stands on the left, and the value.
-use Rattle.std.specs.Prelude.{ℕ, zero, suc, Bool, true, false, Option, Some, None, is_some, nat_eq, ◌||◌, length}
-use Rattle.std.specs.Prelude.{if◌then◌else◌}
-use Rattle.core_program.specs.declared.program.Routine.{Routine}
-use Rattle.core_program.specs.declared.rows.Row.{Row}
-use Rattle.core_program.specs.declared.rows.Row.TheVariants as row
-use Rattle.core_program.specs.declared.rows.AccessRow.TheVariants as accessed
-use Rattle.core_program.specs.declared.rows.NameRow.TheVariants as named
-use Rattle.core_program.specs.declared.rows.StatementRow.TheVariants as statement
-use Rattle.core_program.specs.ProgramRows.{routine_at}
-use Rattle.check_steps.specs.declared.regions.Found.{Found}
+use Rattle.std.specs.Prelude.{if◌then◌else◌, ◌||◌, ℕ, Bool, None, Option, Some, false, is_some, length, nat_eq, suc}
+use Rattle.std.specs.Prelude.{true, zero}
+use Rattle.core_program.specs.{ProgramRows.routine_at, declared.program.Routine.Routine}
+use Rattle.core_program.specs.declared.rows.{AccessRow.AccessRow, NameRow.NameRow, Row.Row, StatementRow.StatementRow}
+use Rattle.check_steps.specs.{Names.usable, Regions.region_at, declared.regions.Found.Found}
 use Rattle.check_steps.specs.Known.{Known, find, frame_at, name_at, row_at}
-use Rattle.check_steps.specs.Names.{usable}
-use Rattle.check_steps.specs.Regions.{region_at}
-use Rattle.check_steps.specs.Steps.{Step, give, ◌>>=◌, look, late, put, when}
+use Rattle.check_steps.specs.Steps.{◌>>=◌, Step, give, late, look, put, when}
+use Rattle.kind_checker.specs.{Headings.signature_at, Shapes.is_assignable}
 use Rattle.kind_checker.specs.declared.shapes.ExpressionType.{ExpressionType}
-use Rattle.kind_checker.specs.declared.shapes.ExpressionType.TheVariants as expression
-use Rattle.kind_checker.specs.Headings.{signature_at}
-use Rattle.kind_checker.specs.Shapes.{is_assignable}
-use Rattle.expression_checker.specs.declared.typed.Location.TheVariants as location
-use Rattle.expression_checker.specs.declared.typed.Typed.{Typed}
-use Rattle.expression_checker.specs.Names.{levels_to}
-use Rattle.expression_checker.specs.Selectors.{type_number}
-use Rattle.expression_checker.specs.Typed.{unknown_at}
-use Rattle.expression_checker.specs.Callees.{is_required_function}
-use Rattle.statement_checker.specs.declared.assignments.FunctionResult.{FunctionResult}
-use Rattle.statement_checker.specs.declared.assignments.Target.{Target}
-use Rattle.statement_checker.specs.declared.assignments.Target.TheVariants as target
+use Rattle.expression_checker.specs.{Callees.is_required_function, Names.levels_to, Selectors.type_number}
+use Rattle.expression_checker.specs.{Typed.unknown_at, declared.typed.Location.Location, declared.typed.Typed.Typed}
 use Rattle.statement_checker.specs.Sequences.{stated}
+use Rattle.statement_checker.specs.declared.assignments.{FunctionResult.FunctionResult, Target.Target}
 
 -- ---- what stands on the left of `:=`
 
 -- The result of a function, seen from a frame: its place, how many links lead to its frame, and its type. A procedure
 -- has none.
 abbrev pub result_at : Known → ℕ → Routine → Option ℕ → Option ℕ → Target
-result_at k frame r (Some place) (Some of') = target.Result (record {
+result_at k frame r (Some place) (Some of') = Target.Result (record {
   function = r.name;
   place = place;
   levels = levels_to k frame r.level;
   of = of';
 })
-result_at k frame r place of' = target.Access
+result_at k frame r place of' = Target.Access
 
 abbrev pub target_of_result : Known → ℕ → Option Routine → Target
-target_of_result k frame None = target.Access
+target_of_result k frame None = Target.Access
 target_of_result k frame (Some r) = result_at k frame r r.result (signature_at k r.heading).result
 
 -- a function that has no block in the program
 abbrev pub blockless_if : Bool → Target
-blockless_if function = if function then target.Blockless else target.Access
+blockless_if function = if function then Target.Blockless else Target.Access
 
 abbrev pub target_in : Known → ℕ → Row → Target
-target_in k frame (row.Name (named.Routine assigned number region)) =
+target_in k frame (Row.Name (NameRow.Routine assigned number region)) =
     target_of_result k frame (routine_at k.program number)
-target_in k frame (row.Name (named.RoutineFormal place level heading)) =
+target_in k frame (Row.Name (NameRow.RoutineFormal place level heading)) =
     blockless_if (is_some (signature_at k heading).result)
-target_in k frame (row.Name (named.Required routine)) = blockless_if (is_required_function routine)
-target_in k frame r = target.Access
+target_in k frame (Row.Name (NameRow.Required routine)) = blockless_if (is_required_function routine)
+target_in k frame r = Target.Access
 
 abbrev pub target_of : Known → ℕ → Option Found → Target
-target_of k frame None = target.Access
+target_of k frame None = Target.Access
 target_of k frame (Some f) = target_in k frame (row_at k f.definition.token)
 
 -- what a name alone stands for on the left of `:=`; with selectors it is always an access
 abbrev pub target_at : Known → ℕ → ℕ → Bool → Target
 target_at k frame name true = target_of k frame (usable name (find k frame (name_at k name)))
-target_at k frame name false = target.Access
+target_at k frame name false = Target.Access
 
 -- ---- the results of functions
 
@@ -84,7 +69,7 @@ abbrev pub is_inside : Known → ℕ → ℕ → Bool
 is_inside k frame token = is_inside_from (length k.words) k (Some frame) token
 
 abbrev pub assigned_in : Row → Bool
-assigned_in (row.Name (named.Routine assigned number region)) = assigned
+assigned_in (Row.Name (NameRow.Routine assigned number region)) = assigned
 assigned_in r = false
 
 -- whether a value is assigned so far to a function's name inside its block, by the name in its first heading
@@ -92,7 +77,7 @@ abbrev pub is_assigned : Known → ℕ → Bool
 is_assigned k name = assigned_in (row_at k name)
 
 abbrev pub with_value : Row → Row
-with_value (row.Name (named.Routine assigned number region)) = row.Name (named.Routine true number region)
+with_value (Row.Name (NameRow.Routine assigned number region)) = Row.Name (NameRow.Routine true number region)
 with_value r = r
 
 -- what is known once a value is assigned to a function's name inside its block
@@ -107,8 +92,8 @@ result_target frame name r = do
   fine ← look (λ k. is_inside k frame r.function)
   _ ← late 13 name fine
   _ ← when fine (result_assigned r.function)
-  _ ← put name (row.Access (accessed.Variable r.place r.levels r.of))
-  give (record { row = name; of = expression.Of r.of; location = location.Variable })
+  _ ← put name (Row.Access (AccessRow.Variable r.place r.levels r.of))
+  give (record { row = name; of = ExpressionType.Of r.of; location = Location.Variable })
 
 -- rule 13: a functional parameter and a required function have no block in which they could be assigned
 unfoldable pub blockless_target : ℕ → Step Typed
@@ -120,7 +105,7 @@ blockless_target name = do
 
 -- A target of unknown type breaks no further rule.
 abbrev pub takes : Known → ExpressionType → ExpressionType → Bool
-takes k (expression.Of t) value = is_assignable k t value
+takes k (ExpressionType.Of t) value = is_assignable k t value
 takes k t value = true
 
 -- rule 18: the value is not assignment-compatible with the target's type, at the `:=`
@@ -128,4 +113,4 @@ unfoldable pub assigned : ℕ → ℕ → Typed → Typed → Step ℕ
 assigned line becomes to value = do
   fine ← look (λ k. takes k to.of value.of)
   _ ← late 18 becomes fine
-  stated becomes (statement.Assign line to.row value.row (type_number to.of))
+  stated becomes (StatementRow.Assign line to.row value.row (type_number to.of))

@@ -1,9 +1,7 @@
 -- Conditions (6.8.3.4, 6.8.3.7, 6.8.3.8).
 use Rattle.std.specs.Prelude.{ℕ, Bool}
-use Rattle.check_steps.specs.Known.{Known}
-use Rattle.check_steps.specs.Steps.{Step, ◌>>=◌, look, late}
-use Rattle.kind_checker.specs.Operators.{is_operand}
-use Rattle.kind_checker.specs.Shapes.{shape_of}
+use Rattle.check_steps.specs.{Known.Known, Steps.◌>>=◌, Steps.Step, Steps.late, Steps.look}
+use Rattle.kind_checker.specs.{Operators.is_operand, Shapes.shape_of}
 use Rattle.expression_checker.specs.declared.typed.Typed.{Typed}
 
 -- A condition of unknown type breaks no further rule.

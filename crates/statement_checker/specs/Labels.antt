@@ -3,17 +3,13 @@
 -- A goto may lead to a statement around it, to one of a statement sequence around it, and to one of the outermost
 -- sequence of a block around it. The row of a declared label counts the ways to the statements that it marks from where
 -- the check stands, and says whether it marks one so far.
-use Rattle.std.specs.Prelude.{ℕ, ◌+◌, ◌-◌, min, Bool, true, false, not, nat_eq, nat_lt, if◌then◌else◌}
-use Rattle.std.specs.Prelude.{Option, Some, None}
-use Rattle.pas_tree.specs.declared.statements.Label.{Label}
-use Rattle.pas_tree.specs.declared.statements.NextStatement.{NextStatement}
+use Rattle.std.specs.Prelude.{if◌then◌else◌, ◌+◌, ◌-◌, ℕ, Bool, None, Option, Some, false, min, nat_eq, nat_lt, not}
+use Rattle.std.specs.Prelude.{true}
+use Rattle.pas_tree.specs.declared.statements.{Label.Label, NextStatement.NextStatement}
 use Rattle.pas_tree.specs.declared.statements.Statements.{Statements, out-Statements}
-use Rattle.core_program.specs.declared.rows.Row.{Row}
-use Rattle.core_program.specs.declared.rows.Row.TheVariants as row
-use Rattle.core_program.specs.declared.rows.NameRow.TheVariants as named
-use Rattle.core_program.specs.declared.rows.StatementRow.TheVariants as statement
+use Rattle.core_program.specs.declared.rows.{NameRow.NameRow, Row.Row, StatementRow.StatementRow}
 use Rattle.check_steps.specs.Known.{Known, find_label, label_at, row_at}
-use Rattle.check_steps.specs.Steps.{Step, give, ◌>>=◌, look, late, put, each}
+use Rattle.check_steps.specs.Steps.{◌>>=◌, Step, each, give, late, look, put}
 use Rattle.expression_checker.specs.Names.{levels_to}
 use Rattle.statement_checker.specs.Sequences.{line_of, stated}
 
@@ -21,12 +17,12 @@ use Rattle.statement_checker.specs.Sequences.{line_of, stated}
 
 -- what stands where a label is declared
 abbrev pub row_of : Known → Option ℕ → Row
-row_of k None = row.Nothing
+row_of k None = Row.Nothing
 row_of k (Some d) = row_at k d
 
 -- how many links lead to the frame of the block that declares a label
 abbrev pub levels_in : Known → ℕ → Row → ℕ
-levels_in k frame (row.Name (named.Label marked value level ways)) = levels_to k frame level
+levels_in k frame (Row.Name (NameRow.Label marked value level ways)) = levels_to k frame level
 levels_in k frame r = 0
 
 -- the token that declares a token's label in the closest block around that does
@@ -48,11 +44,11 @@ put_label (Some d) r = put d r
 
 -- how many ways lead to statements that a label marks
 abbrev pub ways_in : Row → ℕ
-ways_in (row.Name (named.Label marked value level ways)) = ways
+ways_in (Row.Name (NameRow.Label marked value level ways)) = ways
 ways_in r = 0
 
 abbrev pub with_ways : Row → ℕ → Row
-with_ways (row.Name (named.Label marked value level ways)) n = row.Name (named.Label marked value level n)
+with_ways (Row.Name (NameRow.Label marked value level ways)) n = Row.Name (NameRow.Label marked value level n)
 with_ways r n = r
 
 -- from here on there is one more way to a statement with this label
@@ -94,11 +90,11 @@ leave_all frame s = each_label (leave frame) s
 -- ---- labelled statements
 
 abbrev pub is_unmarked : Row → Bool
-is_unmarked (row.Name (named.Label marked value level ways)) = not marked
+is_unmarked (Row.Name (NameRow.Label marked value level ways)) = not marked
 is_unmarked r = false
 
 abbrev pub marked_label : Row → Row
-marked_label (row.Name (named.Label marked value level ways)) = row.Name (named.Label true value level ways)
+marked_label (Row.Name (NameRow.Label marked value level ways)) = Row.Name (NameRow.Label true value level ways)
 marked_label r = r
 
 -- rule 15: a statement's label is not declared in the closest block, or marks a second statement, at the label
@@ -113,7 +109,7 @@ mark frame token = do
 unfoldable pub labelled : ℕ → ℕ → Step ℕ
 labelled token n = do
   value ← look (λ k. label_at k token)
-  stated token (statement.Labelled value n)
+  stated token (StatementRow.Labelled value n)
 
 -- ---- gotos
 
@@ -126,4 +122,4 @@ jump frame label word token = do
   value ← look (λ k. label_at k token)
   levels ← look (λ k. levels_in k frame r)
   line ← look (λ k. line_of k label word)
-  stated word (statement.Goto line value levels)
+  stated word (StatementRow.Goto line value levels)

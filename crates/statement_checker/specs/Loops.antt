@@ -1,62 +1,49 @@
 -- For statements (6.8.3.9): control variables, their threats, and bounds.
-use Rattle.std.specs.Prelude.{ℕ, Bool, true, false, Option, Some, None, nat_eq, if◌then◌else◌}
-use Rattle.pas_tree.specs.declared.operators.Direction.{Direction as DirectionTree}
-use Rattle.pas_tree.specs.declared.operators.Direction.TheVariants as tree
-use Rattle.core_program.specs.declared.rows.Direction.{Direction}
-use Rattle.core_program.specs.declared.rows.Direction.TheVariants.{Up, Down}
-use Rattle.core_program.specs.declared.rows.Mode.TheVariants as mode
-use Rattle.core_program.specs.declared.rows.NameRow.TheVariants as named
-use Rattle.core_program.specs.declared.rows.Row.{Row}
-use Rattle.core_program.specs.declared.rows.Row.TheVariants as row
-use Rattle.core_program.specs.declared.rows.StatementRow.TheVariants as statement
-use Rattle.check_steps.specs.declared.regions.Found.{Found}
+use Rattle.std.specs.Prelude.{if◌then◌else◌, ℕ, Bool, None, Option, Some, false, nat_eq, true}
+use Rattle.pas_tree.specs.{OperatorPlaces.direction_token, declared.operators.Direction.Direction as DirectionTree}
+use Rattle.core_program.specs.declared.rows.{Mode.Mode, NameRow.NameRow, Row.Row, StatementRow.StatementRow}
+use Rattle.core_program.specs.declared.rows.Direction.{Direction, TheVariants.Down, TheVariants.Up}
+use Rattle.check_steps.specs.{Names.use_at, declared.regions.Found.Found}
 use Rattle.check_steps.specs.Known.{Known, frame_at, row_at, threat_of}
-use Rattle.check_steps.specs.Names.{use_at}
-use Rattle.check_steps.specs.Steps.{Step, give, ◌>>=◌, look, late, hold, release}
-use Rattle.pas_tree.specs.OperatorPlaces.{direction_token}
+use Rattle.check_steps.specs.Steps.{◌>>=◌, Step, give, hold, late, look, release}
+use Rattle.kind_checker.specs.{Operators.is_ordinal, Shapes.agree, Shapes.shape_of}
 use Rattle.kind_checker.specs.declared.shapes.ExpressionType.{ExpressionType}
-use Rattle.kind_checker.specs.declared.shapes.ExpressionType.TheVariants as expression
-use Rattle.kind_checker.specs.Shapes.{agree, shape_of}
-use Rattle.expression_checker.specs.declared.typed.Typed.{Typed}
-use Rattle.expression_checker.specs.Threats.{threat}
-use Rattle.statement_checker.specs.declared.loops.Control.{Control}
-use Rattle.statement_checker.specs.declared.loops.Control.TheVariants as control
-use Rattle.kind_checker.specs.Operators.{is_ordinal}
-use Rattle.statement_checker.specs.Sequences.{line_of, stated}
+use Rattle.expression_checker.specs.{Threats.threat, declared.typed.Typed.Typed}
+use Rattle.statement_checker.specs.{Sequences.line_of, Sequences.stated, declared.loops.Control.Control}
 
 -- ---- control variables
 
 -- A variable of a frame's own level is one of the closest block.
 abbrev pub own_if : Bool → ℕ → ℕ → ℕ → Control
 own_if own variable of' place =
-    if own then control.Own variable of' place else control.Other (Some variable) of'
+    if own then Control.Own variable of' place else Control.Other (Some variable) of'
 
 -- what a name stands for by the row at its definition, seen from a frame
 abbrev pub control_in : Known → ℕ → ℕ → Row → Control
-control_in k frame variable (row.Name (named.Variable mode.Own of' place level)) =
+control_in k frame variable (Row.Name (NameRow.Variable Mode.Own of' place level)) =
     own_if (nat_eq level (frame_at k frame).level) variable of' place
-control_in k frame variable (row.Name (named.Variable m of' place level)) = control.Other (Some variable) of'
-control_in k frame field (row.Name (named.Field of' offset holder)) = control.Other None of'
-control_in k frame field (row.Name (named.Tag of' offset holder variants)) = control.Other None of'
-control_in k frame name r = control.Wrong
+control_in k frame variable (Row.Name (NameRow.Variable m of' place level)) = Control.Other (Some variable) of'
+control_in k frame field (Row.Name (NameRow.Field of' offset holder)) = Control.Other None of'
+control_in k frame field (Row.Name (NameRow.Tag of' offset holder variants)) = Control.Other None of'
+control_in k frame name r = Control.Wrong
 
 abbrev pub control_of : Known → ℕ → Option Found → Control
-control_of k frame None = control.Unknown
+control_of k frame None = Control.Unknown
 control_of k frame (Some f) = control_in k frame f.definition.token (row_at k f.definition.token)
 
 abbrev pub control_type : Control → ExpressionType
-control_type (control.Own variable of' place) = expression.Of of'
-control_type (control.Other variable of') = expression.Of of'
-control_type c = expression.Unknown
+control_type (Control.Own variable of' place) = ExpressionType.Of of'
+control_type (Control.Other variable of') = ExpressionType.Of of'
+control_type c = ExpressionType.Unknown
 
 -- A name of unknown meaning breaks no further rule.
 abbrev pub is_variable : Control → Bool
-is_variable control.Wrong = false
+is_variable Control.Wrong = false
 is_variable c = true
 
 abbrev pub is_own : Control → Bool
-is_own control.Unknown = true
-is_own (control.Own variable of' place) = true
+is_own Control.Unknown = true
+is_own (Control.Own variable of' place) = true
 is_own c = false
 
 -- rule 6: a control variable is not ordinal; rule 19: it is not a whole variable of the closest block's variable part;
@@ -82,8 +69,8 @@ control_at frame name = do
 
 -- the definition of a control variable that is a whole variable
 abbrev pub held_by : Control → Option ℕ
-held_by (control.Own variable of' place) = Some variable
-held_by (control.Other variable of') = variable
+held_by (Control.Own variable of' place) = Some variable
+held_by (Control.Other variable of') = variable
 held_by c = None
 
 -- rule 20: a routine of the block threatens the control variable, at the first name there that does
@@ -127,24 +114,24 @@ bound c first v = do
 -- ---- rows
 
 abbrev pub direction_of : DirectionTree → Direction
-direction_of (tree.To n) = Up
-direction_of (tree.Downto n) = Down
+direction_of (DirectionTree.To n) = Up
+direction_of (DirectionTree.Downto n) = Down
 
 abbrev pub place_of : Control → ℕ
-place_of (control.Own variable of' place) = place
+place_of (Control.Own variable of' place) = place
 place_of c = 0
 
 abbrev pub control_type_number : Control → ℕ
-control_type_number (control.Own variable of' place) = of'
-control_type_number (control.Other variable of') = of'
+control_type_number (Control.Own variable of' place) = of'
+control_type_number (Control.Other variable of') = of'
 control_type_number c = 0
 
 -- the turns of a for statement, at `to` or `downto`
 unfoldable pub put_turns : DirectionTree → ℕ → Control → ℕ → Step ℕ
 put_turns d last c body =
-    stated (direction_token d) (statement.Turns (direction_of d) last (place_of c) (control_type_number c) body)
+    stated (direction_token d) (StatementRow.Turns (direction_of d) last (place_of c) (control_type_number c) body)
 
 unfoldable pub for_row : Option ℕ → ℕ → ℕ → ℕ → Step ℕ
 for_row label word initial turns = do
   line ← look (λ k. line_of k label word)
-  stated word (statement.For line initial turns)
+  stated word (StatementRow.For line initial turns)

@@ -1,34 +1,25 @@
 -- The required procedures of pointers and of packed arrays: new, dispose, pack and unpack (6.6.5.3, 6.6.5.4).
-use Rattle.std.specs.Prelude.{ℕ, Bool, true, false, List, [], ◌∷◌, Option, Some, None, nat_le, nat_eq, length}
-use Rattle.std.specs.Prelude.{◌&&◌, ◌||◌, is_some, not, if◌then◌else◌}
+use Rattle.std.specs.Prelude.{if◌then◌else◌, ◌&&◌, ◌||◌, ◌∷◌, [], ℕ, Bool, List, None, Option, Some, false, is_some}
+use Rattle.std.specs.Prelude.{length, nat_eq, nat_le, not, true}
 use Rattle.std.specs.Global.{Box}
-use Rattle.pas_tree.specs.declared.statements.Actuals.{Actuals}
-use Rattle.pas_tree.specs.declared.statements.NextActual.{NextActual}
-use Rattle.pas_tree.specs.declared.statements.Actual.{Actual}
-use Rattle.core_program.specs.declared.rows.StatementRow.{StatementRow}
-use Rattle.core_program.specs.declared.rows.StatementRow.TheVariants as statement
-use Rattle.core_program.specs.declared.rows.TypeRow.{TypeRow}
-use Rattle.core_program.specs.declared.rows.TypeRow.TheVariants as kind
-use Rattle.core_program.specs.ProgramRows.{size_of}
-use Rattle.check_steps.specs.Known.{Known}
-use Rattle.check_steps.specs.Steps.{Step, give, ◌>>=◌, look, late, too_big}
 use Rattle.pas_tree.specs.ExpressionPlaces.{first_of_expression}
-use Rattle.kind_checker.specs.declared.shapes.ExpressionType.{ExpressionType}
-use Rattle.kind_checker.specs.Operators.{is_unknown_shape}
+use Rattle.pas_tree.specs.declared.statements.{Actual.Actual, Actuals.Actuals, NextActual.NextActual}
+use Rattle.core_program.specs.ProgramRows.{size_of}
+use Rattle.core_program.specs.declared.rows.{StatementRow.StatementRow, TypeRow.TypeRow}
+use Rattle.check_steps.specs.Known.{Known}
+use Rattle.check_steps.specs.Steps.{◌>>=◌, Step, give, late, look, too_big}
+use Rattle.kind_checker.specs.{Operators.is_unknown_shape, declared.shapes.ExpressionType.ExpressionType}
 use Rattle.kind_checker.specs.Shapes.{is_assignable, is_same_type, shape_of}
-use Rattle.expression_checker.specs.declared.typed.Typed.{Typed}
-use Rattle.expression_checker.specs.Selectors.{type_row}
-use Rattle.statement_checker.specs.Sequences.{stated}
-use Rattle.statement_checker.specs.declared.actuals.RequiredCall.{RequiredCall}
-use Rattle.statement_checker.specs.declared.moves.CheckedActual.{CheckedActual}
+use Rattle.expression_checker.specs.{Selectors.type_row, declared.typed.Typed.Typed}
+use Rattle.statement_checker.specs.{Sequences.stated, Transfers.is_access}
 use Rattle.statement_checker.specs.Actuals.{plain_actual, without_actuals, wrong_number}
-use Rattle.statement_checker.specs.Transfers.{is_access}
+use Rattle.statement_checker.specs.declared.{actuals.RequiredCall.RequiredCall, moves.CheckedActual.CheckedActual}
 
 -- ---- pointers
 
 -- the type of the variables to which the values of a pointer type point
 abbrev pub domain_in : Option TypeRow → Option ℕ
-domain_in (Some (kind.Pointer domain)) = Some domain
+domain_in (Some (TypeRow.Pointer domain)) = Some domain
 domain_in r = None
 
 abbrev pub domain_or : Option ℕ → ℕ → ℕ
@@ -62,7 +53,7 @@ unfoldable pub new_one : ℕ → RequiredCall → Actual → Step ℕ
 new_one frame c a = do
   v ← plain_actual frame a
   domain ← new_variable (first_of_expression a.expression) v
-  stated c.name (statement.New c.line v.row domain)
+  stated c.name (StatementRow.New c.line v.row domain)
 
 -- rule 32: what dispose takes is of no pointer type, at its first token
 unfoldable pub dispose_one : ℕ → RequiredCall → Actual → Step ℕ
@@ -71,7 +62,7 @@ dispose_one frame c a = do
   fine ← look (λ k. is_pointer k v)
   _ ← late 32 (first_of_expression a.expression) fine
   domain ← look (λ k. domain_of k v)
-  stated c.name (statement.Dispose c.line v.row domain)
+  stated c.name (StatementRow.Dispose c.line v.row domain)
 
 abbrev pub pointer_one : Bool → ℕ → RequiredCall → Actual → Step ℕ
 pointer_one true frame c a = new_one frame c a
@@ -91,12 +82,12 @@ pointer_call making frame c (Some a) = pointer_some making frame c a.value (nat_
 
 -- the component type of an array type that is packed or not
 abbrev pub component_type_in : Bool → Option TypeRow → Option ℕ
-component_type_in wanted (Some (kind.Array packed index component cells)) =
+component_type_in wanted (Some (TypeRow.Array packed index component cells)) =
     if (if packed then wanted else not wanted) then Some component else None
 component_type_in wanted r = None
 
 abbrev pub index_in : Option TypeRow → Option ℕ
-index_in (Some (kind.Array packed index component cells)) = Some index
+index_in (Some (TypeRow.Array packed index component cells)) = Some index
 index_in r = None
 
 -- an access of an array type that is packed or not; what is of unknown type breaks no further rule
@@ -138,7 +129,7 @@ operand_actual frame a = do
   give (record { first = first_of_expression a.expression; value = v })
 
 abbrev pub pack_row : Bool → ℕ → CheckedActual → CheckedActual → CheckedActual → StatementRow
-pack_row packing line u i p = statement.Pack packing line u.value.row i.value.row p.value.row
+pack_row packing line u i p = StatementRow.Pack packing line u.value.row i.value.row p.value.row
 
 unfoldable pub pack_three : ℕ → RequiredCall → Actual → Actual → Actual → Step ℕ
 pack_three frame c a b d = do

@@ -1,39 +1,21 @@
 -- Statements without others inside, and what statements have of expressions and accesses (6.8.2, 6.8.3).
-use Rattle.std.specs.Prelude.{ℕ, ◌+◌, Option, Some, None, nat_eq, length}
+use Rattle.std.specs.Prelude.{◌+◌, ℕ, None, Option, Some, length, nat_eq}
 use Rattle.std.specs.Global.{Box}
-use Rattle.pas_tree.specs.declared.expressions.Access.{Access}
-use Rattle.pas_tree.specs.declared.expressions.Expression.{Expression}
-use Rattle.pas_tree.specs.declared.operators.Direction.{Direction}
-use Rattle.pas_tree.specs.declared.statements.Assignment.{Assignment}
-use Rattle.pas_tree.specs.declared.statements.Actuals.{Actuals}
-use Rattle.pas_tree.specs.declared.statements.NextActual.{NextActual}
-use Rattle.pas_tree.specs.declared.statements.Actual.{Actual}
-use Rattle.pas_tree.specs.declared.statements.NextAccess.{NextAccess}
-use Rattle.check_steps.specs.Steps.{Step, give, ◌>>=◌, look, each}
-use Rattle.pas_tree.specs.ExpressionPlaces.{first_of_expression}
-use Rattle.expression_checker.specs.declared.actuals.Passing.{Passing}
-use Rattle.expression_checker.specs.declared.callees.Callee.{Callee}
-use Rattle.expression_checker.specs.declared.callees.Callee.TheVariants as callee
-use Rattle.expression_checker.specs.declared.typed.Typed.{Typed}
-use Rattle.expression_checker.specs.Threats.{threat_alone}
-use Rattle.expression_checker.specs.Actuals.{access_name}
-use Rattle.expression_checker.specs.Callees.{count_checked}
+use Rattle.pas_tree.specs.{ExpressionPlaces.first_of_expression, declared.operators.Direction.Direction}
+use Rattle.pas_tree.specs.declared.expressions.{Access.Access, Expression.Expression}
+use Rattle.pas_tree.specs.declared.statements.{Actual.Actual, Actuals.Actuals, Assignment.Assignment}
+use Rattle.pas_tree.specs.declared.statements.{NextAccess.NextAccess, NextActual.NextActual}
+use Rattle.check_steps.specs.Steps.{◌>>=◌, Step, each, give, look}
+use Rattle.expression_checker.specs.{Actuals.access_name, Callees.count_checked, Threats.threat_alone}
 use Rattle.expression_checker.specs.Expressions.{access, actual, expression, passing_to}
-use Rattle.statement_checker.specs.declared.assignments.Target.{Target}
-use Rattle.statement_checker.specs.declared.assignments.Target.TheVariants as target
-use Rattle.statement_checker.specs.declared.loops.Control.{Control}
-use Rattle.statement_checker.specs.declared.parts.ForBounds.{ForBounds}
-use Rattle.statement_checker.specs.declared.parts.Opened.{Opened}
-use Rattle.statement_checker.specs.declared.parts.Selected.{Selected}
+use Rattle.expression_checker.specs.declared.{actuals.Passing.Passing, callees.Callee.Callee, typed.Typed.Typed}
+use Rattle.statement_checker.specs.{Actuals.no_width, Calls.call_row, Calls.procedure_at, Choices.selector}
+use Rattle.statement_checker.specs.{Conditions.condition, Procedures.required_call, Records.inside_record}
 use Rattle.statement_checker.specs.Assignments.{assigned, blockless_target, result_target, target_at}
-use Rattle.statement_checker.specs.Calls.{call_row, procedure_at}
-use Rattle.statement_checker.specs.Choices.{selector}
-use Rattle.statement_checker.specs.Conditions.{condition}
 use Rattle.statement_checker.specs.Loops.{bound, enter_for, for_row, leave_for, put_turns}
-use Rattle.statement_checker.specs.Records.{inside_record}
 use Rattle.statement_checker.specs.Sequences.{add_element, line_of}
-use Rattle.statement_checker.specs.Actuals.{no_width}
-use Rattle.statement_checker.specs.Procedures.{required_call}
+use Rattle.statement_checker.specs.declared.{assignments.Target.Target, loops.Control.Control}
+use Rattle.statement_checker.specs.declared.parts.{ForBounds.ForBounds, Opened.Opened, Selected.Selected}
 
 -- ---- expressions
 
@@ -82,9 +64,9 @@ target_access frame a = do
   access frame a
 
 abbrev pub target_as : ℕ → Access → Target → Step Typed
-target_as frame a target.Access = target_access frame a
-target_as frame a (target.Result r) = result_target frame a.name r
-target_as frame a target.Blockless = blockless_target a.name
+target_as frame a Target.Access = target_access frame a
+target_as frame a (Target.Result r) = result_target frame a.name r
+target_as frame a Target.Blockless = blockless_target a.name
 
 -- what stands on the left: an access, or the name alone of a function
 unfoldable pub assigned_to : ℕ → Access → Step Typed
@@ -133,7 +115,7 @@ declared_call frame line name c None = call_alone line name c
 declared_call frame line name c (Some a) = call_with frame line name c a.value
 
 abbrev pub call_as : ℕ → ℕ → ℕ → Callee → Option (Box Actuals) → Step ℕ
-call_as frame line name (callee.Required r) actuals =
+call_as frame line name (Callee.Required r) actuals =
     required_call r frame (record { name = name; line = line }) actuals
 call_as frame line name c actuals = declared_call frame line name c actuals
 

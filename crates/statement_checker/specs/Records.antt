@@ -1,10 +1,9 @@
 -- With statements (6.8.3.10): records, and the frames in which their fields are the closest names.
 use Rattle.std.specs.Prelude.{ℕ, Option}
 use Rattle.core_program.specs.declared.rows.StatementRow.TheVariants as statement
-use Rattle.check_steps.specs.Steps.{Step, ◌>>=◌, look, late}
+use Rattle.check_steps.specs.Steps.{◌>>=◌, Step, late, look}
 use Rattle.decl_checker.specs.Statements.{fields_in, inside_of}
-use Rattle.expression_checker.specs.declared.typed.Typed.{Typed}
-use Rattle.expression_checker.specs.Selectors.{is_record, type_row}
+use Rattle.expression_checker.specs.{Selectors.is_record, Selectors.type_row, declared.typed.Typed.Typed}
 use Rattle.statement_checker.specs.Sequences.{line_of, stated}
 
 -- Rule 23: `with` is applied to a type that has no fields, at the first token of the access. The frame inside is given;

@@ -1,31 +1,23 @@
 -- Statements (6.8): an equation for each construct. What is given is a statement's number.
-use Rattle.std.specs.Prelude.{ℕ, Option, Some, None}
-use Rattle.pas_tree.specs.declared.statements.Plain.{Plain, Empty, Assignment as Assignment', Call, Goto, Compound'}
-use Rattle.pas_tree.specs.declared.statements.Plain.{If', Case', Repeat', While', For', With'}
-use Rattle.pas_tree.specs.declared.statements.Compound.{Compound, Compound' as CompoundTree'}
-use Rattle.pas_tree.specs.declared.statements.Statements.{Statements, Statements', Row_of-NextStatement}
-use Rattle.pas_tree.specs.declared.statements.Statements.{end_of-NextStatement, more_of-NextStatement}
-use Rattle.pas_tree.specs.declared.statements.NextStatement.{NextStatement}
-use Rattle.pas_tree.specs.declared.statements.Label.{Label}
-use Rattle.pas_tree.specs.declared.statements.If.{If, If' as IfTree', Held-If-alternative, None', Some'}
-use Rattle.pas_tree.specs.declared.statements.Else.{Else}
+use Rattle.std.specs.Prelude.{ℕ, None, Option, Some}
+use Rattle.pas_tree.specs.declared.statements.{Case.more_of-NextBranch, Else.Else, Label.Label, NextBranch.NextBranch}
 use Rattle.pas_tree.specs.declared.statements.Case.{Case, Case' as CaseTree', Row_of-NextBranch, end_of-NextBranch}
-use Rattle.pas_tree.specs.declared.statements.Case.{more_of-NextBranch}
-use Rattle.pas_tree.specs.declared.statements.NextBranch.{NextBranch}
+use Rattle.pas_tree.specs.declared.statements.Compound.{Compound, Compound' as CompoundTree'}
+use Rattle.pas_tree.specs.declared.statements.If.{Held-If-alternative, If, If' as IfTree', None', Some'}
+use Rattle.pas_tree.specs.declared.statements.NextStatement.{NextStatement}
+use Rattle.pas_tree.specs.declared.statements.Plain.{Assignment as Assignment', Call, Case', Compound', Empty, For'}
+use Rattle.pas_tree.specs.declared.statements.Plain.{Goto, If', Plain, Repeat', While', With'}
 use Rattle.pas_tree.specs.declared.statements.Repeat.{Repeat, Repeat' as RepeatTree'}
-use Rattle.check_steps.specs.Steps.{Step, give, ◌>>=◌, each}
-use Rattle.denoter_checker.specs.declared.variants.Choosing.{Choosing}
-use Rattle.denoter_checker.specs.Variants.{choices}
-use Rattle.statement_checker.specs.declared.sequences.Branching.{Branching}
-use Rattle.statement_checker.specs.declared.sequences.Element.{Element}
-use Rattle.statement_checker.specs.Choices.{case_row}
-use Rattle.statement_checker.specs.Labels.{jump, labelled, leave, leave_all, mark, reach_label, reach_all}
-use Rattle.statement_checker.specs.Parts.{assignment, call_statement, first_record, for_begins, for_ends, next_record}
-use Rattle.statement_checker.specs.Parts.{selected}
-use Rattle.statement_checker.specs.Parts.{condition_row}
-use Rattle.statement_checker.specs.Records.{put_with}
-use Rattle.statement_checker.specs.Sequences.{add_element, compound_row, empty, if_else_row, if_row}
-use Rattle.statement_checker.specs.Sequences.{link_element, repeat_row, while_row}
+use Rattle.pas_tree.specs.declared.statements.Statements.{Row_of-NextStatement, Statements, Statements'}
+use Rattle.pas_tree.specs.declared.statements.Statements.{end_of-NextStatement, more_of-NextStatement}
+use Rattle.check_steps.specs.Steps.{◌>>=◌, Step, each, give}
+use Rattle.denoter_checker.specs.{Variants.choices, declared.variants.Choosing.Choosing}
+use Rattle.statement_checker.specs.{Choices.case_row, Parts.next_record, Parts.selected, Records.put_with}
+use Rattle.statement_checker.specs.Labels.{jump, labelled, leave, leave_all, mark, reach_all, reach_label}
+use Rattle.statement_checker.specs.Parts.{assignment, call_statement, condition_row, first_record, for_begins, for_ends}
+use Rattle.statement_checker.specs.Sequences.{add_element, compound_row, empty, if_else_row, if_row, link_element}
+use Rattle.statement_checker.specs.Sequences.{repeat_row, while_row}
+use Rattle.statement_checker.specs.declared.sequences.{Branching.Branching, Element.Element}
 
 abbrev pub element : ℕ → ℕ → Element
 element slot item = record { slot = slot; item = item }

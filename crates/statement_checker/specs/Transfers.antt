@@ -1,43 +1,24 @@
 -- The required procedures of text files: read, readln, write, writeln and page (6.9).
-use Rattle.std.specs.Prelude.{ℕ, Bool, true, false, List, [], ◌∷◌, Option, Some, None, nat_eq, nat_lt, length}
-use Rattle.std.specs.Prelude.{◌||◌, ◌&&◌}
-use Rattle.std.specs.Global.{Box}
-use Rattle.pas_tree.specs.declared.statements.Actuals.{Actuals}
-use Rattle.pas_tree.specs.declared.statements.NextActual.{NextActual}
-use Rattle.pas_tree.specs.declared.statements.Actual.{Actual}
-use Rattle.pas_tree.specs.declared.statements.Width.{Width}
-use Rattle.core_program.specs.declared.rows.ItemRow.{ItemRow}
-use Rattle.core_program.specs.declared.rows.ItemRow.TheVariants as item
-use Rattle.core_program.specs.declared.rows.StatementRow.{StatementRow}
-use Rattle.core_program.specs.declared.rows.StatementRow.TheVariants as statement
-use Rattle.core_program.specs.declared.rows.TextFile.{TextFile}
-use Rattle.core_program.specs.declared.rows.TextFile.TheVariants.{Input, Output}
-use Rattle.check_steps.specs.Known.{Known}
-use Rattle.check_steps.specs.Steps.{Step, give, ◌>>=◌, look, late, each}
+use Rattle.std.specs.Prelude.{◌&&◌, ◌||◌, ◌∷◌, [], ℕ, Bool, List, None, Option, Some, false, length, nat_eq, nat_lt}
+use Rattle.std.specs.{Prelude.true, Global.Box}
 use Rattle.pas_tree.specs.ExpressionPlaces.{first_of_expression}
-use Rattle.kind_checker.specs.declared.shapes.ExpressionType.{ExpressionType}
-use Rattle.kind_checker.specs.declared.shapes.ExpressionType.TheVariants as expression
-use Rattle.kind_checker.specs.declared.shapes.Shape.{Shape}
-use Rattle.kind_checker.specs.declared.shapes.Shape.TheVariants as shape
-use Rattle.kind_checker.specs.Operators.{is_of_host, is_operand, is_unknown_shape}
-use Rattle.kind_checker.specs.Shapes.{shape_of}
-use Rattle.expression_checker.specs.declared.typed.Location.{Location}
-use Rattle.expression_checker.specs.declared.typed.Location.TheVariants as location
-use Rattle.expression_checker.specs.declared.typed.Typed.{Typed}
-use Rattle.expression_checker.specs.Threats.{threat_alone}
-use Rattle.expression_checker.specs.Actuals.{name_alone}
-use Rattle.expression_checker.specs.Expressions.{expression as expression_step}
-use Rattle.statement_checker.specs.Sequences.{stated}
-use Rattle.statement_checker.specs.declared.actuals.RequiredCall.{RequiredCall}
-use Rattle.statement_checker.specs.declared.transfers.Transfer.{Transfer}
-use Rattle.statement_checker.specs.declared.transfers.Transfer.TheVariants.{Reading, Writing}
-use Rattle.check_steps.specs.Items.{add_item}
+use Rattle.pas_tree.specs.declared.statements.{Actual.Actual, Actuals.Actuals, NextActual.NextActual, Width.Width}
+use Rattle.core_program.specs.declared.rows.{ItemRow.ItemRow, StatementRow.StatementRow}
+use Rattle.core_program.specs.declared.rows.TextFile.{TextFile, TheVariants.Input, TheVariants.Output}
+use Rattle.check_steps.specs.{Items.add_item, Known.Known}
+use Rattle.check_steps.specs.Steps.{◌>>=◌, Step, each, give, late, look}
+use Rattle.kind_checker.specs.{Operators.is_of_host, Operators.is_operand, Operators.is_unknown_shape, Shapes.shape_of}
+use Rattle.kind_checker.specs.declared.shapes.{ExpressionType.ExpressionType, Shape.Shape}
+use Rattle.expression_checker.specs.{Actuals.name_alone, Expressions.expression as expression_step}
+use Rattle.expression_checker.specs.{Threats.threat_alone, declared.typed.Location.Location, declared.typed.Typed.Typed}
+use Rattle.statement_checker.specs.{Sequences.stated, declared.actuals.RequiredCall.RequiredCall}
 use Rattle.statement_checker.specs.Actuals.{actual_file, plain_actual, wrong_number}
+use Rattle.statement_checker.specs.declared.transfers.Transfer.{Transfer, TheVariants.Reading, TheVariants.Writing}
 
 -- ---- what is read
 
 abbrev pub is_access : Location → Bool
-is_access location.Nowhere = false
+is_access Location.Nowhere = false
 is_access l = true
 
 -- An access of an integer or a char type, or of a subrange of one. What is of unknown type breaks no further rule.
@@ -53,14 +34,14 @@ read_item frame last slot a = do
   v ← plain_actual frame a
   fine ← look (λ k. is_readable k v)
   _ ← late 32 (first_of_expression a.expression) fine
-  add_item last slot (item.Element v.row 0)
+  add_item last slot (ItemRow.Element v.row 0)
 
 -- ---- what is written
 
 -- an integer, a char, a Boolean or a string
 abbrev pub is_writable : Shape → Bool
-is_writable (shape.Ordinal host) = nat_eq host 0 || nat_eq host 1 || nat_eq host 2
-is_writable (shape.Text length) = true
+is_writable (Shape.Ordinal host) = nat_eq host 0 || nat_eq host 1 || nat_eq host 2
+is_writable (Shape.Text length) = true
 is_writable s = is_unknown_shape s
 
 -- rule 33: a width is not an integer, at the `:`
@@ -73,12 +54,12 @@ width frame w = do
 
 -- The type of what is written. A string constant has none: its own number is given, at which no type stands.
 abbrev pub written_type : ExpressionType → ℕ → ℕ
-written_type (expression.Of t) number = t
+written_type (ExpressionType.Of t) number = t
 written_type t number = number
 
 abbrev pub written_item : Typed → Option ℕ → ItemRow
-written_item v None = item.Written v.row (written_type v.of v.row) 0
-written_item v (Some width) = item.WrittenWide v.row (written_type v.of v.row) width 0
+written_item v None = ItemRow.Written v.row (written_type v.of v.row) 0
+written_item v (Some width) = ItemRow.WrittenWide v.row (written_type v.of v.row) width 0
 
 -- an actual and its width; where the last item of the list stands is given
 abbrev pub put_written : ℕ → ℕ → Typed → ℕ → Option Width → Step ℕ
@@ -134,8 +115,8 @@ items t frame name a file = do
   give (list_of file a)
 
 abbrev pub transfer_row : Transfer → Bool → ℕ → ℕ → StatementRow
-transfer_row Reading ends_line line list = statement.Read ends_line line list
-transfer_row Writing ends_line line list = statement.Write ends_line line list
+transfer_row Reading ends_line line list = StatementRow.Read ends_line line list
+transfer_row Writing ends_line line list = StatementRow.Write ends_line line list
 
 -- Rule 26: read and write want one actual at least after the text file, at the procedure's name.
 abbrev pub is_enough : Bool → Option TextFile → Actuals → Bool
@@ -178,7 +159,7 @@ unfoldable pub page_one : ℕ → RequiredCall → Actual → Step ℕ
 page_one frame c a = do
   file ← look (λ k. actual_file k frame a)
   _ ← paged frame a file
-  stated c.name (statement.Page c.line)
+  stated c.name (StatementRow.Page c.line)
 
 -- rule 26: page takes one actual at most
 abbrev pub page_some : ℕ → RequiredCall → Actuals → Bool → Step ℕ
@@ -186,5 +167,5 @@ page_some frame c a true = page_one frame c a.first
 page_some frame c a false = wrong_number frame c.name a
 
 abbrev pub page : ℕ → RequiredCall → Option (Box Actuals) → Step ℕ
-page frame c None = stated c.name (statement.Page c.line)
+page frame c None = stated c.name (StatementRow.Page c.line)
 page frame c (Some a) = page_some frame c a.value (nat_eq (length a.value.others.items) 0)

@@ -3,9 +3,9 @@
 ghost use Rattle.std.specs.Prelude.{◌≡◌};
 ghost use Rattle.check_steps.specs.Steps.{Does, each};
 ghost use Rattle.expression_checker.specs.Actuals.{file_of};
-ghost use Rattle.statement_checker.specs.Actuals.{actual_file, file_without, named_file};
-ghost use Rattle.statement_checker.specs.Actuals.{next_plain, no_width, own_parts, plain_actual, surplus_width};
-ghost use Rattle.statement_checker.specs.Actuals.{without_actuals, wrong_number};
+ghost use Rattle.statement_checker.specs.Actuals.{actual_file, file_without, named_file, next_plain, no_width};
+ghost use Rattle.statement_checker.specs.Actuals.{own_parts, plain_actual, surplus_width, without_actuals};
+ghost use Rattle.statement_checker.specs.Actuals.{wrong_number};
 
 use check_steps::{Tables, Work};
 use core_program::rows::TextFile;

@@ -5,9 +5,8 @@ ghost use Rattle.check_steps.specs.Steps.{Does, when};
 ghost use Rattle.expression_checker.specs.Selectors.{type_number};
 ghost use Rattle.statement_checker.specs.Assignments.{assigned, assigned_in, begins_at, blockless_if, blockless_target};
 ghost use Rattle.statement_checker.specs.Assignments.{is_assigned, is_inside, result_assigned, result_at};
-ghost use Rattle.statement_checker.specs.Assignments.{target_of_result};
 ghost use Rattle.statement_checker.specs.Assignments.{result_target, takes, target_at, target_in, target_of};
-ghost use Rattle.statement_checker.specs.Assignments.{with_value};
+ghost use Rattle.statement_checker.specs.Assignments.{target_of_result, with_value};
 
 use crate::sequences::put_statement;
 use check_steps::{Found, Tables, Work};

@@ -3,9 +3,8 @@
 ghost use Rattle.std.specs.Prelude.{◌≡◌};
 ghost use Rattle.check_steps.specs.Steps.{Does, each};
 ghost use Rattle.statement_checker.specs.Labels.{is_unmarked, jump, label_of, labelled, leave, leave_all, levels_in};
-ghost use Rattle.statement_checker.specs.Labels.{mark, on_label, on_next, own_label, put_label, reach_label, reach_all};
-ghost use Rattle.statement_checker.specs.Labels.{row_of};
-ghost use Rattle.statement_checker.specs.Labels.{ways_in, marked_label, with_ways};
+ghost use Rattle.statement_checker.specs.Labels.{mark, marked_label, on_label, on_next, own_label, put_label};
+ghost use Rattle.statement_checker.specs.Labels.{reach_all, reach_label, row_of, ways_in, with_ways};
 
 use crate::sequences::{line_of, put_statement};
 use check_steps::{Tables, Work};

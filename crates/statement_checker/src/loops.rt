@@ -2,11 +2,10 @@
 
 ghost use Rattle.std.specs.Prelude.{◌≡◌, IfOk};
 ghost use Rattle.check_steps.specs.Steps.{Does};
-ghost use Rattle.statement_checker.specs.Loops.{bound, control_at, control_in, control_of, control_type, controlled};
-ghost use Rattle.statement_checker.specs.Loops.{direction_of, enter_for, for_row, held, held_by, hold_if, is_own};
-ghost use Rattle.statement_checker.specs.Loops.{is_variable, leave_for, control_type_number, own_if, place_of};
-ghost use Rattle.statement_checker.specs.Loops.{release_if};
-ghost use Rattle.statement_checker.specs.Loops.{put_turns, unthreatened};
+ghost use Rattle.statement_checker.specs.Loops.{bound, control_at, control_in, control_of, control_type};
+ghost use Rattle.statement_checker.specs.Loops.{control_type_number, controlled, direction_of, enter_for, for_row};
+ghost use Rattle.statement_checker.specs.Loops.{held, held_by, hold_if, is_own, is_variable, leave_for, own_if};
+ghost use Rattle.statement_checker.specs.Loops.{place_of, put_turns, release_if, unthreatened};
 
 use crate::sequences::{line_of, put_statement};
 use check_steps::{Found, Tables, Work};

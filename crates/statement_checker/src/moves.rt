@@ -4,11 +4,9 @@ ghost use Rattle.std.specs.Prelude.{◌≡◌};
 ghost use Rattle.check_steps.specs.Steps.{Does};
 ghost use Rattle.statement_checker.specs.Moves.{assignable_or, component_type_in, dispose_one, domain_in, domain_of};
 ghost use Rattle.statement_checker.specs.Moves.{domain_or, index_in, is_array, is_index_of, is_like, is_made};
-ghost use Rattle.statement_checker.specs.Moves.{move_checked};
-ghost use Rattle.statement_checker.specs.Moves.{is_pointer, new_variable, new_one, operand_actual, pack_call, pack_row};
-ghost use Rattle.statement_checker.specs.Moves.{pack_some};
-ghost use Rattle.statement_checker.specs.Moves.{pack_three, pointer_call, pointer_one, pointer_some, same_or, three};
-ghost use Rattle.statement_checker.specs.Moves.{unpack_three};
+ghost use Rattle.statement_checker.specs.Moves.{is_pointer, move_checked, new_one, new_variable, operand_actual};
+ghost use Rattle.statement_checker.specs.Moves.{pack_call, pack_row, pack_some, pack_three, pointer_call, pointer_one};
+ghost use Rattle.statement_checker.specs.Moves.{pointer_some, same_or, three, unpack_three};
 
 use crate::actuals::{RequiredCall, check_plain, check_without_actuals, check_wrong_number};
 use crate::sequences::put_statement;

@@ -3,11 +3,10 @@
 ghost use Rattle.std.specs.Prelude.{◌≡◌, IfOk};
 ghost use Rattle.check_steps.specs.Steps.{Does, each};
 ghost use Rattle.expression_checker.specs.Expressions.{passing_to};
-ghost use Rattle.statement_checker.specs.Parts.{actuals_in, assigned_to, assignment, bounded, call_statement};
-ghost use Rattle.statement_checker.specs.Parts.{call_alone};
-ghost use Rattle.statement_checker.specs.Parts.{call_as, call_with, declared_call, first_record, next_passed};
-ghost use Rattle.statement_checker.specs.Parts.{next_record, passed_actual, selected, target_access, target_as};
-ghost use Rattle.statement_checker.specs.Parts.{for_begins, for_ends, condition_row};
+ghost use Rattle.statement_checker.specs.Parts.{actuals_in, assigned_to, assignment, bounded, call_alone, call_as};
+ghost use Rattle.statement_checker.specs.Parts.{call_statement, call_with, condition_row, declared_call, first_record};
+ghost use Rattle.statement_checker.specs.Parts.{for_begins, for_ends, next_passed, next_record, passed_actual};
+ghost use Rattle.statement_checker.specs.Parts.{selected, target_access, target_as};
 
 use crate::actuals::{RequiredCall, check_no_width};
 use crate::assignments::{

@@ -2,9 +2,8 @@
 
 ghost use Rattle.std.specs.Prelude.{◌≡◌, IfOk};
 ghost use Rattle.check_steps.specs.Steps.{Does, each};
-ghost use Rattle.statement_checker.specs.Statements.{case_statement, compound, element, if_statement};
-ghost use Rattle.statement_checker.specs.Statements.{next_branch, next_statement, plain, repeat_statement, sequence};
-ghost use Rattle.statement_checker.specs.Statements.{statement_step};
+ghost use Rattle.statement_checker.specs.Statements.{case_statement, compound, element, if_statement, next_branch};
+ghost use Rattle.statement_checker.specs.Statements.{next_statement, plain, repeat_statement, sequence, statement_step};
 
 use crate::choices::put_case;
 use crate::labels::{

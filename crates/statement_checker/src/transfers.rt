@@ -5,7 +5,7 @@ ghost use Rattle.check_steps.specs.Steps.{Does, each};
 ghost use Rattle.statement_checker.specs.Transfers.{first_comma, first_item, is_access, is_enough, is_file_of};
 ghost use Rattle.statement_checker.specs.Transfers.{is_readable, is_writable, item_by, items, list_of, next_item, page};
 ghost use Rattle.statement_checker.specs.Transfers.{page_one, page_other, page_some, paged, put_written, read_item};
-ghost use Rattle.statement_checker.specs.Transfers.{transfer_alone, transfer_row, transfer_call, transfer_with, width};
+ghost use Rattle.statement_checker.specs.Transfers.{transfer_alone, transfer_call, transfer_row, transfer_with, width};
 ghost use Rattle.statement_checker.specs.Transfers.{write_item, written_item, written_type};
 
 use crate::actuals::{RequiredCall, actual_file, check_plain, check_wrong_number};

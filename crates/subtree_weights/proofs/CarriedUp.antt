@@ -1,22 +1,13 @@
 -- A change of one weight moves up.
-use Rattle.std.proofs.Common.{◌≡◌, ℕ, ◌+◌, ◌<◌, ◌≤◌, List, Option, Some, None, length, set, ap, sym, ◌∙◌, arith, inl, inr}
-use Rattle.std.proofs.Common.{get_or-set_other, get_or-set_same}
-use Rattle.std.specs.Prelude.{slice_get, slice_index, slice_index_or, sum_by, ◌==◌}
+use Rattle.std.proofs.Common.{◌+◌, ◌<◌, ◌==◌, ◌∙◌, ◌≡◌, ◌≤◌, ℕ, List, None, Option, Some, ap, arith, get_or-set_other, get_or-set_same, inl, inr, length, set}
+use Rattle.std.proofs.Common.{slice_get, slice_index, slice_index_or, sum_by, sym}
+use Rattle.std.proofs.lemmas.{List.length-set, Option.slice_get-get_or}
 use Rattle.std.proofs.lemmas.Bool.{cases_Bool, cases_eq, cond-false, cond-true, eqb-true}
-use Rattle.std.proofs.lemmas.List.{length-set}
-use Rattle.std.proofs.lemmas.Option.{slice_get-get_or}
-use Rattle.call_tree.specs.declared.records.Mark.{Mark}
-use Rattle.call_tree.specs.declared.records.Mark.TheVariants.{Unjudged}
-use Rattle.call_tree.specs.Numbering.{IsParent}
-use Rattle.subtree_weights.specs.declared.changes.Change.{Change}
-use Rattle.subtree_weights.specs.Carried.{AreSumsBut, change_above, goes_on_to, share, sum_after}
-use Rattle.subtree_weights.specs.Searched.{mark_at}
-use Rattle.subtree_weights.specs.Sums.{AreSums, children_of}
-use Rattle.subtree_weights.specs.Weights.{weight_by}
+use Rattle.call_tree.specs.{Numbering.IsParent, declared.records.Mark.Mark, declared.records.Mark.TheVariants.Unjudged}
+use Rattle.subtree_weights.proofs.{Intervals.one_parent, SumsOfChildren.AreSumsFrom, WeightColumns.OfOneRun, WeightColumns.WeightColumns}
 use Rattle.subtree_weights.proofs.ChildChanged.{changed_child, child_in_sum, few_in_sum, share_elsewhere, share_here}
-use Rattle.subtree_weights.proofs.Intervals.{one_parent}
-use Rattle.subtree_weights.proofs.SumsOfChildren.{AreSumsFrom}
-use Rattle.subtree_weights.proofs.WeightColumns.{OfOneRun, WeightColumns}
+use Rattle.subtree_weights.specs.{Searched.mark_at, Sums.AreSums, Sums.children_of, Weights.weight_by, declared.changes.Change.Change}
+use Rattle.subtree_weights.specs.Carried.{AreSumsBut, change_above, goes_on_to, share, sum_after}
 
 -- what stays to be done of a change, and the steps that it took
 pub record IsCarried (kept : WeightColumns) (depth : List ℕ) (first change : Change) (start now : ℕ) : Type 0 where

@@ -1,16 +1,11 @@
 -- What the change of one weight does to the sums.
-use Rattle.std.proofs.Common.{◌≡◌, ℕ, ◌+◌, ◌<◌, ◌≤◌, Bool, true, false, cond, List, Option, Some, length, get_or, set, refl, ap, arith, inl, inr}
-use Rattle.std.proofs.Common.{get_or-set_other, get_or-set_same}
-use Rattle.std.specs.Prelude.{slice_index, sum_by}
+use Rattle.std.proofs.Common.{◌+◌, ◌<◌, ◌≡◌, ◌≤◌, ℕ, Bool, List, Option, Some, ap, arith, cond, false, get_or, get_or-set_other, get_or-set_same, inl, inr}
+use Rattle.std.proofs.Common.{length, refl, set, slice_index, sum_by, true}
 use Rattle.std.proofs.lemmas.Bool.{cases_lt, cond-false, cond-true, false_from_ne_true}
-use Rattle.call_tree.specs.declared.records.Mark.{Mark}
-use Rattle.call_tree.specs.Numbering.{IsNumbered, IsParent}
-use Rattle.subtree_weights.specs.Carried.{share}
-use Rattle.subtree_weights.specs.Sums.{children_of, is_child}
-use Rattle.subtree_weights.specs.Weights.{weight_of}
+use Rattle.call_tree.specs.{Numbering.IsNumbered, Numbering.IsParent, declared.records.Mark.Mark}
+use Rattle.subtree_weights.proofs.{Totals.term_in_total, Totals.total_below, Totals.total_but_one, WeightsAreTotals.few_suspects}
 use Rattle.subtree_weights.proofs.SumsOfChildren.{AreSumsFrom, child_from, child_is, sum_of_children, sums_are_weights, weights_are_sums}
-use Rattle.subtree_weights.proofs.Totals.{term_in_total, total_below, total_but_one}
-use Rattle.subtree_weights.proofs.WeightsAreTotals.{few_suspects}
+use Rattle.subtree_weights.specs.{Carried.share, Sums.children_of, Sums.is_child, Weights.weight_of}
 
 -- the sums follow a new weight
 pub changed_child : (parent : List (Option ℕ)) (weights : List ℕ) (above child new : ℕ) → child < length parent → child < length weights

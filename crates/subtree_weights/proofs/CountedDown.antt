@@ -1,22 +1,14 @@
 -- The sums are counted from the last call to the first.
-use Rattle.std.proofs.Common.{◌≡◌, ◌≢◌, ℕ, ◌+◌, ◌*◌, ◌<◌, ◌≤◌, Bool, true, false, cond, List, Option, Some, None, length, get_or, set}
-use Rattle.std.proofs.Common.{refl, ap, sym, subst, ◌∙◌, arith, inl, inr}
-use Rattle.std.proofs.Common.{get_or-set_other, get_or-set_same}
-use Rattle.std.specs.Prelude.{slice_get, slice_index, sum_by, EachIndex, ◌==◌}
-use Rattle.std.specs.Option.{ForSome}
+use Rattle.std.proofs.Common.{◌*◌, ◌+◌, ◌<◌, ◌==◌, ◌∙◌, ◌≡◌, ◌≢◌, ◌≤◌, ℕ, Bool, EachIndex, List, None, Option, Some, ap, arith, cond, false, get_or}
+use Rattle.std.proofs.Common.{get_or-set_other, get_or-set_same, inl, inr, length, refl, set, slice_get, slice_index, subst, sum_by, sym, true}
+use Rattle.std.{proofs.lemmas.List.length-set, proofs.lemmas.Option.slice_get-get_or, specs.Option.ForSome}
 use Rattle.std.proofs.lemmas.Bool.{cases_eq, cond-false, cond-true, eq-eqb, ne_eqb}
-use Rattle.std.proofs.lemmas.List.{length-set}
-use Rattle.std.proofs.lemmas.Option.{slice_get-get_or}
-use Rattle.call_tree.specs.declared.records.Mark.{Mark}
-use Rattle.call_tree.specs.Numbering.{IsParent}
-use Rattle.subtree_weights.specs.Carried.{raised, share}
-use Rattle.subtree_weights.specs.Searched.{mark_at}
-use Rattle.subtree_weights.specs.Sums.{AreSums, children_of, is_child, is_the_call}
-use Rattle.subtree_weights.specs.Weights.{weight_by}
+use Rattle.call_tree.specs.{Numbering.IsParent, declared.records.Mark.Mark}
+use Rattle.subtree_weights.proofs.{Totals.total_none, WeightColumns.OfOneRun, WeightColumns.WeightColumns}
 use Rattle.subtree_weights.proofs.ChildChanged.{changed_child, few_in_sum, share_elsewhere, share_here}
 use Rattle.subtree_weights.proofs.SumsOfChildren.{AreSumsFrom, sum_of_children}
-use Rattle.subtree_weights.proofs.Totals.{total_none}
-use Rattle.subtree_weights.proofs.WeightColumns.{OfOneRun, WeightColumns}
+use Rattle.subtree_weights.specs.{Carried.raised, Carried.share, Searched.mark_at, Weights.weight_by}
+use Rattle.subtree_weights.specs.Sums.{AreSums, children_of, is_child, is_the_call}
 
 -- the calls from `from` on are weighed, and the sums are those of their weights
 pub record IsCounted (kept : WeightColumns) (from start now : ℕ) : Type 0 where

@@ -1,10 +1,7 @@
 -- Subtrees as intervals: those of two calls are apart, or one is within the other.
-use Rattle.std.proofs.Common.{◌≡◌, ◌≢◌, ℕ, zero, suc, ◌<◌, ◌≤◌, List, Option, Some, None, length, get_or, ap, arith, inl, inr}
-use Rattle.std.specs.Prelude.{slice_get, slice_index}
-use Rattle.std.proofs.lemmas.Bool.{cases_eq, cases_order}
-use Rattle.std.proofs.lemmas.Option.{slice_get-get_or, slice_get_within}
-use Rattle.call_tree.specs.Nesting.{IsRooted}
-use Rattle.call_tree.specs.Numbering.{IsNumbered, IsParent}
+use Rattle.std.proofs.Common.{◌<◌, ◌≡◌, ◌≢◌, ◌≤◌, ℕ, List, None, Option, Some, ap, arith, get_or, inl, inr, length, slice_get, slice_index, suc, zero}
+use Rattle.std.proofs.lemmas.{Bool.cases_eq, Bool.cases_order, Option.slice_get-get_or, Option.slice_get_within}
+use Rattle.call_tree.specs.{Nesting.IsRooted, Numbering.IsNumbered, Numbering.IsParent}
 
 -- the child of `top` in whose subtree the call stands
 pub record ChildOver (parent : List (Option ℕ)) (last : List ℕ) (top call : ℕ) : Type 0 where

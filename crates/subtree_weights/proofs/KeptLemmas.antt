@@ -1,18 +1,10 @@
 -- What the kept columns say of the definitions.
-use Rattle.std.proofs.Common.{◌≡◌, ℕ, ◌<◌, ◌≤◌, List, Option, length, get_or, set, refl, sym, arith}
-use Rattle.std.specs.Prelude.{slice_index, slice_get, Some}
-use Rattle.std.proofs.lemmas.List.FromFn.{fill_by_all}
-use Rattle.std.proofs.lemmas.Option.{get_or_from_slice_get, slice_get_read}
-use Rattle.call_tree.specs.declared.records.Mark.{Mark}
-use Rattle.call_tree.specs.declared.records.Mark.TheVariants.{Unjudged}
-use Rattle.subtree_weights.specs.Carried.{AreSumsBut}
-use Rattle.subtree_weights.specs.Kept.{AreKept}
-use Rattle.subtree_weights.specs.RunColumns.{Columns}
+use Rattle.std.proofs.Common.{◌<◌, ◌≡◌, ◌≤◌, ℕ, List, Option, Some, arith, get_or, length, refl, set, slice_get, slice_index, sym}
+use Rattle.std.proofs.lemmas.{List.FromFn.fill_by_all, Option.get_or_from_slice_get, Option.slice_get_read}
+use Rattle.call_tree.specs.declared.records.Mark.{Mark, TheVariants.Unjudged}
+use Rattle.subtree_weights.proofs.{CarriedUp.started, SumsOfChildren.all_sums, SumsOfChildren.sums_are_weights, WeightsAreTotals.few_suspects}
+use Rattle.subtree_weights.specs.{Carried.AreSumsBut, Kept.AreKept, RunColumns.Columns, Searched.mark_at}
 use Rattle.subtree_weights.specs.Weights.{under_of, weight_by, weight_of, weights_of}
-use Rattle.subtree_weights.specs.Searched.{mark_at}
-use Rattle.subtree_weights.proofs.CarriedUp.{started}
-use Rattle.subtree_weights.proofs.SumsOfChildren.{all_sums, sums_are_weights}
-use Rattle.subtree_weights.proofs.WeightsAreTotals.{few_suspects}
 
 module _ (columns : Columns) (parents : List (Option ℕ)) (marks : List Mark) (weights unders : List ℕ) (kept : AreKept columns parents marks weights unders)
   where

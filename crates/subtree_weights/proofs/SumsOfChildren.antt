@@ -1,23 +1,16 @@
 -- The weights are sums over the tree, and no other numbers are.
-use Rattle.std.proofs.Common.{◌≡◌, ℕ, zero, suc, ◌+◌, ◌<◌, ◌≤◌, Bool, true, false, cond, List, Option, Some, None, length, refl, ap, sym, ◌∙◌, arith}
-use Rattle.std.proofs.Common.{inl, inr, ◌&&◌}
-use Rattle.std.specs.Prelude.{slice_get, slice_index, sum_by, count_by, IsTrue}
+use Rattle.std.proofs.Common.{◌&&◌, ◌+◌, ◌<◌, ◌∙◌, ◌≡◌, ◌≤◌, ℕ, Bool, IsTrue, List, None, Option, Some, ap, arith, cond, count_by, false, inl, inr, length}
+use Rattle.std.proofs.Common.{refl, slice_get, slice_index, suc, sum_by, sym, true, zero}
+use Rattle.std.proofs.lemmas.Bool.{and_from, and_parts, both_ways, cases_Bool, cases_lt, cond-true, eq-eqb, eqb-true, false≢true}
 use Rattle.std.specs.List.{range_with_len}
-use Rattle.std.proofs.lemmas.Bool.{and_from, and_parts, cases_Bool, cases_lt, cond-true, eqb-true, eq-eqb, false≢true}
-use Rattle.std.proofs.lemmas.Bool.{both_ways}
-use Rattle.call_tree.specs.declared.records.Mark.{Mark}
-use Rattle.call_tree.specs.declared.records.Mark.TheVariants.{Unjudged, Right, Wrong, Unknown, Trusted}
-use Rattle.call_tree.specs.Nesting.{IsRooted}
-use Rattle.call_tree.specs.Numbering.{IsNumbered, IsParent}
-use Rattle.call_tree.specs.Clear.{is_unjudged}
-use Rattle.subtree_weights.specs.Searched.{is_below, is_in, is_suspect, mark_at}
-use Rattle.subtree_weights.specs.Weights.{suspects_below, under_of, weight_by, weight_of}
-use Rattle.subtree_weights.specs.Sums.{AreSums, children_of, is_child, is_the_call}
-use Rattle.subtree_weights.proofs.Totals.{sum_of_filtered, sum_of_numbers, total, total_below, total_none, total_of_one, total_same, total_swap}
+use Rattle.call_tree.specs.{Clear.is_unjudged, Nesting.IsRooted, Numbering.IsNumbered, Numbering.IsParent, declared.records.Mark.Mark}
+use Rattle.call_tree.specs.declared.records.Mark.TheVariants.{Right, Trusted, Unjudged, Unknown, Wrong}
+use Rattle.subtree_weights.proofs.{SuspectTests.suspect_from, SuspectTests.suspect_is, WeightsAreTotals.suspects_are, WeightsAreTotals.weight_is_total}
 use Rattle.subtree_weights.proofs.Intervals.{child_is_call, child_over, ends_within, none_between, one_child, within_first}
 use Rattle.subtree_weights.proofs.SuspectTests.{Counts, IsSuspect, below_from, below_is, counts, counts_from, counts_is, in_from, in_is, same_tests}
-use Rattle.subtree_weights.proofs.SuspectTests.{suspect_from, suspect_is}
-use Rattle.subtree_weights.proofs.WeightsAreTotals.{suspects_are, weight_is_total}
+use Rattle.subtree_weights.proofs.Totals.{sum_of_filtered, sum_of_numbers, total, total_below, total_none, total_of_one, total_same, total_swap}
+use Rattle.subtree_weights.specs.{Searched.is_below, Searched.is_in, Searched.is_suspect, Searched.mark_at, Sums.AreSums, Sums.children_of, Sums.is_child}
+use Rattle.subtree_weights.specs.{Sums.is_the_call, Weights.suspects_below, Weights.under_of, Weights.weight_by, Weights.weight_of}
 
 the_call_is : (above : ℕ) (o : Option (Option ℕ)) → is_the_call above o ≡ true → o ≡ Some (Some above)
 the_call_is above None h = absurd (false≢true h)

@@ -1,14 +1,11 @@
 -- What the tests of suspects say.
-use Rattle.std.proofs.Common.{◌≡◌, ◌≢◌, ℕ, ◌<◌, ◌≤◌, Bool, true, false, not, ◌&&◌, List, Option, Some, length, refl, ap, sym, ◌∙◌, cond, arith, inl, inr}
-use Rattle.std.specs.Prelude.{slice_index, nat_le, nat_lt, ◌==◌}
-use Rattle.std.proofs.lemmas.Bool.{and_from, and_parts, both_ways, cases_Bool, cases_eq, cond-false, cond-true, eqb-true, eqb-false, false_from_ne_true, le-leb}
-use Rattle.std.proofs.lemmas.Bool.{leb-true, lt-ltb}
-use Rattle.std.proofs.lemmas.Bool.{ltb-true, not-true, not_from_false}
-use Rattle.call_tree.specs.declared.records.Mark.{Mark}
-use Rattle.call_tree.specs.Numbering.{AreIntervals}
-use Rattle.call_tree.specs.Clear.{is_clear, is_unjudged}
-use Rattle.subtree_weights.specs.Searched.{covers, is_below, is_cleared, is_in, is_searched, is_suspect, mark_at}
+use Rattle.std.proofs.Common.{◌&&◌, ◌<◌, ◌==◌, ◌∙◌, ◌≡◌, ◌≢◌, ◌≤◌, ℕ, Bool, List, Option, Some, ap, arith, cond, false, inl, inr, length, nat_le, nat_lt, not}
+use Rattle.std.proofs.Common.{refl, slice_index, sym, true}
+use Rattle.std.proofs.lemmas.Bool.{and_from, and_parts, both_ways, cases_Bool, cases_eq, cond-false, cond-true, eqb-false, eqb-true, false_from_ne_true, le-leb}
+use Rattle.std.proofs.lemmas.Bool.{leb-true, lt-ltb, ltb-true, not-true, not_from_false}
+use Rattle.call_tree.specs.{Clear.is_clear, Clear.is_unjudged, Numbering.AreIntervals, declared.records.Mark.Mark}
 use Rattle.subtree_weights.proofs.Totals.{any_number, some_number}
+use Rattle.subtree_weights.specs.Searched.{covers, is_below, is_cleared, is_in, is_searched, is_suspect, mark_at}
 
 pub same_tests : (a b : Bool) → (a ≡ true → b ≡ true) → (b ≡ true → a ≡ true) → a ≡ b
 same_tests true true h k = refl

@@ -1,13 +1,8 @@
 -- Sums over the numbers below n.
-use Rattle.std.proofs.Common.{◌≡◌, ◌≢◌, ℕ, zero, suc, ◌+◌, ◌<◌, ◌≤◌, Bool, true, false, cond, List, [], ◌∷◌, ◌++◌, get_or, refl, ap, sym, ◌∙◌}
-use Rattle.std.proofs.Common.{zero-add, arith, inl, inr}
-use Rattle.std.specs.Prelude.{filter, sum_by}
-use Rattle.std.specs.List.{list_any, range_with_len}
-use Rattle.std.proofs.lemmas.Bool.{cases_eq}
-use Rattle.std.proofs.lemmas.List.Elements.{filter-append}
-use Rattle.std.proofs.lemmas.List.Folds.{Any-from_list_any, list_any_at}
-use Rattle.std.proofs.lemmas.List.FromFn.{get_or-range_with_len, length-range_with_len}
-use Rattle.std.proofs.lemmas.List.Sums.{sum_by-append, sum_by_push}
+use Rattle.std.proofs.Common.{◌++◌, ◌+◌, ◌<◌, ◌∙◌, ◌∷◌, ◌≡◌, ◌≢◌, ◌≤◌, [], ℕ, Bool, List, ap, arith, cond, false, filter, get_or, inl, inr, refl, suc, sum_by}
+use Rattle.std.{proofs.Common.sym, proofs.Common.true, proofs.Common.zero, proofs.Common.zero-add, specs.List.list_any, specs.List.range_with_len}
+use Rattle.std.proofs.lemmas.{Bool.cases_eq, List.FromFn.get_or-range_with_len, List.FromFn.length-range_with_len}
+use Rattle.std.proofs.lemmas.List.{Elements.filter-append, Folds.Any-from_list_any, Folds.list_any_at, Sums.sum_by-append, Sums.sum_by_push}
 
 -- the sum of f over the numbers below n
 abbrev pub total : (ℕ → ℕ) → ℕ → ℕ

@@ -1,13 +1,10 @@
 -- The weight of a call as a sum over all calls.
-use Rattle.std.proofs.Common.{◌≡◌, ℕ, ◌+◌, ◌<◌, ◌≤◌, Bool, true, false, cond, List, Option, Some, length, refl, ap, sym, ◌∙◌, arith, inl, inr}
-use Rattle.std.specs.Prelude.{◌==◌}
+use Rattle.std.proofs.Common.{◌+◌, ◌<◌, ◌==◌, ◌∙◌, ◌≡◌, ◌≤◌, ℕ, Bool, List, Option, Some, ap, arith, cond, false, inl, inr, length, refl, sym, true}
 use Rattle.std.proofs.lemmas.Bool.{cases_Bool, cond-false, cond-true, eq-eqb, false_from_ne_true, ne_eqb}
-use Rattle.call_tree.specs.declared.records.Mark.{Mark}
-use Rattle.call_tree.specs.Clear.{is_clear, is_unjudged}
-use Rattle.subtree_weights.specs.Searched.{is_suspect, mark_at}
-use Rattle.subtree_weights.specs.Weights.{suspects_below, under_of, weight_of}
-use Rattle.subtree_weights.proofs.Totals.{sum_of_numbers, total, total_but_one, total_none, total_of_few}
+use Rattle.call_tree.specs.{Clear.is_clear, Clear.is_unjudged, declared.records.Mark.Mark}
 use Rattle.subtree_weights.proofs.SuspectTests.{below_is, clear_counts, counts, open_counts, suspect_is}
+use Rattle.subtree_weights.proofs.Totals.{sum_of_numbers, total, total_but_one, total_none, total_of_few}
+use Rattle.subtree_weights.specs.{Searched.is_suspect, Searched.mark_at, Weights.suspects_below, Weights.under_of, Weights.weight_of}
 
 pub suspects_are : (last : List ℕ) (marks : List Mark) (top : Option ℕ)
     → suspects_below last marks top ≡ total (λ call. cond (is_suspect last marks top call) 1 0) (length last)

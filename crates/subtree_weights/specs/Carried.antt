@@ -1,11 +1,9 @@
 -- The sums while the change of one weight moves up, and while they are counted from the last call to the first.
-use Rattle.std.specs.Prelude.{◌≡◌, ℕ, ◌+◌, ◌-◌, ◌<◌, ◌==◌, if◌then◌else◌, List, Option, Some, None, length}
-use Rattle.std.specs.Prelude.{slice_index, slice_index_or, slice_set, sum_by}
+use Rattle.std.specs.Prelude.{if◌then◌else◌, ◌+◌, ◌-◌, ◌<◌, ◌==◌, ◌≡◌, ℕ, List, None, Option, Some, length, slice_index}
+use Rattle.std.specs.Prelude.{slice_index_or, slice_set, sum_by}
 use Rattle.call_tree.specs.declared.records.Mark.{Mark}
-use Rattle.subtree_weights.specs.declared.changes.Change.{Change}
-use Rattle.subtree_weights.specs.Searched.{mark_at}
+use Rattle.subtree_weights.specs.{Searched.mark_at, Weights.weight_by, declared.changes.Change.Change}
 use Rattle.subtree_weights.specs.Sums.{children_of, is_child}
-use Rattle.subtree_weights.specs.Weights.{weight_by}
 
 -- the part of a child's weight in the sum of a call: all of it or none
 abbrev pub share : List (Option ℕ) → ℕ → ℕ → ℕ → ℕ

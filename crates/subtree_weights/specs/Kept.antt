@@ -1,11 +1,8 @@
 -- How weights are kept: beside the calls a column of their parents, their marks, and the columns of the sums.
 use Rattle.std.specs.Prelude.{◌≡◌, ℕ, List, Option, slice_index}
-use Rattle.call_tree.specs.Nesting.{IsRooted}
-use Rattle.call_tree.specs.declared.records.Mark.{Mark}
-use Rattle.subtree_weights.specs.declared.weights.Weights.TheInside.{Inside}
+use Rattle.call_tree.specs.{Nesting.IsRooted, declared.records.Mark.Mark}
+use Rattle.subtree_weights.specs.{Sums.AreSums, Weighed.Weighed, declared.weights.Weights.TheInside.Inside}
 use Rattle.subtree_weights.specs.RunColumns.{AreColumns, Columns, columns_of}
-use Rattle.subtree_weights.specs.Sums.{AreSums}
-use Rattle.subtree_weights.specs.Weighed.{Weighed}
 
 abbrev pub weighed_of : Inside → Weighed
 weighed_of kept = record { columns = columns_of kept.calls.value.calls; marks = kept.marks.items }

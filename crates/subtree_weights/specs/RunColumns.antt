@@ -1,9 +1,7 @@
 -- The columns of a run that the weights depend on.
 use Rattle.std.specs.Prelude.{◌≡◌, ◌≤◌, ℕ, List, Option, length}
-use Rattle.call_tree.specs.Numbering.{IsNumbered}
+use Rattle.call_tree.specs.{Numbering.IsNumbered, declared.records.Call.Call, declared.records.Mark.Mark}
 use Rattle.call_tree.specs.Recording.{depths_of, lasts_of, parents_of}
-use Rattle.call_tree.specs.declared.records.Call.{Call}
-use Rattle.call_tree.specs.declared.records.Mark.{Mark}
 
 -- the parent of each call, the last call of its subtree, and its depth
 pub record Columns : Type 0 where

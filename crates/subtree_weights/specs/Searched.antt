@@ -1,11 +1,9 @@
 -- Which calls are searched below a call. As in Shapiro's search (1983), what was judged right is left out with all
 -- below it; that trust leaves out as `right` does is this project's own rule.
-use Rattle.std.specs.Prelude.{ℕ, Bool, true, not, ◌&&◌, nat_lt, nat_le, List, Option, Some, None, length, slice_index}
-use Rattle.std.specs.Prelude.{slice_index_or}
-use Rattle.std.specs.List.{list_any, range_with_len}
-use Rattle.call_tree.specs.declared.records.Mark.{Mark}
-use Rattle.call_tree.specs.declared.records.Mark.TheVariants.{Unjudged}
+use Rattle.std.specs.Prelude.{◌&&◌, ℕ, Bool, List, None, Option, Some, length, nat_le, nat_lt, not, slice_index}
+use Rattle.std.specs.{Prelude.slice_index_or, Prelude.true, List.list_any, List.range_with_len}
 use Rattle.call_tree.specs.Clear.{is_clear, is_unjudged}
+use Rattle.call_tree.specs.declared.records.Mark.{Mark, TheVariants.Unjudged}
 
 -- the mark of a call in a column of marks; a call that has none there is unjudged
 abbrev pub mark_at : List Mark → ℕ → Mark

@@ -1,10 +1,7 @@
 -- The weights are sums over the tree of calls: what stands under a call is the sum of the weights of its children.
-use Rattle.std.specs.Prelude.{◌≡◌, ℕ, ◌<◌, ◌≤◌, ◌==◌, Bool, false, List, Option, Some, None, filter, length, slice_get}
-use Rattle.std.specs.Prelude.{sum_by, count_by, ◌&&◌, IsTrue}
-use Rattle.std.specs.List.{range_with_len}
-use Rattle.call_tree.specs.Nesting.{IsRooted}
-use Rattle.call_tree.specs.Numbering.{IsNumbered}
-use Rattle.call_tree.specs.declared.records.Mark.{Mark}
+use Rattle.std.specs.Prelude.{◌&&◌, ◌<◌, ◌==◌, ◌≡◌, ◌≤◌, ℕ, Bool, IsTrue, List, None, Option, Some, count_by, false}
+use Rattle.std.specs.{Prelude.filter, Prelude.length, Prelude.slice_get, Prelude.sum_by, List.range_with_len}
+use Rattle.call_tree.specs.{Nesting.IsRooted, Numbering.IsNumbered, declared.records.Mark.Mark}
 use Rattle.subtree_weights.specs.Searched.{is_in, is_suspect, mark_at}
 use Rattle.subtree_weights.specs.Weights.{suspects_below, under_of, weight_by, weight_of}
 

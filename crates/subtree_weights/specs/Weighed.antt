@@ -1,8 +1,6 @@
 -- The calls of a run with their marks, which the weights are about.
 use Rattle.std.specs.Prelude.{ℕ, List, length, replicate, slice_set}
-use Rattle.call_tree.specs.declared.records.Call.{Call}
-use Rattle.call_tree.specs.declared.records.Mark.{Mark}
-use Rattle.call_tree.specs.declared.records.Mark.TheVariants.{Unjudged}
+use Rattle.call_tree.specs.declared.records.{Call.Call, Mark.Mark, Mark.TheVariants.Unjudged}
 use Rattle.subtree_weights.specs.RunColumns.{Columns, columns_of}
 use Rattle.subtree_weights.specs.Weights.{under_of, weight_of, weights_of}
 

@@ -1,8 +1,7 @@
 -- How many suspects stand below a call, and how many in its whole subtree.
-use Rattle.std.specs.Prelude.{ℕ, ◌+◌, if◌then◌else◌, List, Option, Some, length, map, count_by}
+use Rattle.std.specs.Prelude.{if◌then◌else◌, ◌+◌, ℕ, List, Option, Some, count_by, length, map}
 use Rattle.std.specs.List.{range_with_len}
-use Rattle.call_tree.specs.declared.records.Mark.{Mark}
-use Rattle.call_tree.specs.Clear.{is_clear, is_unjudged}
+use Rattle.call_tree.specs.{Clear.is_clear, Clear.is_unjudged, declared.records.Mark.Mark}
 use Rattle.subtree_weights.specs.Searched.{is_suspect, mark_at}
 
 -- how many suspects there are below `top`; with no such call, how many there are

@@ -1,11 +1,8 @@
 //! The change of a weight, and how it moves up.
-ghost use Rattle.std.specs.Prelude.{◌≡◌, ◌+◌, ◌<◌, ◌≤◌, length, slice_index, slice_set};
-ghost use Rattle.call_tree.specs.Nesting.{IsRooted};
-ghost use Rattle.call_tree.specs.Recording.{depths_of, lasts_of};
+ghost use Rattle.std.specs.Prelude.{◌+◌, ◌<◌, ◌≡◌, ◌≤◌, length, slice_index, slice_set};
+ghost use Rattle.call_tree.specs.{Nesting.IsRooted, Recording.depths_of, Recording.lasts_of};
+ghost use Rattle.subtree_weights.specs.{RunColumns.AreColumns, Sums.AreSums, Weights.weight_by};
 ghost use Rattle.subtree_weights.specs.Carried.{AreSumsBut, change_above, goes_on_to, sum_after};
-ghost use Rattle.subtree_weights.specs.RunColumns.{AreColumns};
-ghost use Rattle.subtree_weights.specs.Sums.{AreSums};
-ghost use Rattle.subtree_weights.specs.Weights.{weight_by};
 
 use call_tree::{Calls, Mark};
 use cell_value::Steps;

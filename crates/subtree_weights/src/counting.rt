@@ -1,10 +1,8 @@
 //! The sums, counted anew.
-ghost use Rattle.std.specs.Prelude.{◌≡◌, ◌+◌, ◌*◌, ◌<◌, ◌≤◌, ◌^◌, EachIndex, length, slice_index};
+ghost use Rattle.std.specs.Prelude.{◌*◌, ◌+◌, ◌<◌, ◌^◌, ◌≡◌, ◌≤◌, EachIndex, length, slice_index};
 ghost use Rattle.std.specs.Option.{ForSome};
 ghost use Rattle.call_tree.specs.Recording.{lasts_of};
-ghost use Rattle.subtree_weights.specs.Carried.{raised};
-ghost use Rattle.subtree_weights.specs.RunColumns.{AreColumns};
-ghost use Rattle.subtree_weights.specs.Sums.{AreSums};
+ghost use Rattle.subtree_weights.specs.{Carried.raised, RunColumns.AreColumns, Sums.AreSums};
 
 use crate::changes::weight_given;
 use call_tree::{Calls, Mark};

@@ -1,9 +1,8 @@
 //! The weights of calls, kept as their marks change.
-ghost use Rattle.std.specs.Prelude.{◌≡◌, ◌+◌, ◌*◌, ◌<◌, ◌≤◌, [], IfOk, Some, length, slice_get, slice_index};
+ghost use Rattle.std.specs.Prelude.{◌*◌, ◌+◌, ◌<◌, ◌≡◌, ◌≤◌, [], IfOk, Some, length, slice_get, slice_index};
 ghost use Rattle.call_tree.specs.Recording.{parents_of};
-ghost use Rattle.subtree_weights.specs.RunColumns.{columns_of};
-ghost use Rattle.subtree_weights.specs.Weighed.{call_count, under_in, unjudged, weight_in};
-ghost use Rattle.subtree_weights.specs.Weighed.{weights_in, with_mark, with_marks};
+ghost use Rattle.subtree_weights.specs.{RunColumns.columns_of, Weighed.with_marks};
+ghost use Rattle.subtree_weights.specs.Weighed.{call_count, under_in, unjudged, weight_in, weights_in, with_mark};
 
 use crate::changes::{Change, carry, weight_given};
 use crate::counting::{add_up, start_anew};

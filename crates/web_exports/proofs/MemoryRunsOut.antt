@@ -1,15 +1,11 @@
 -- A turn for which memory runs out before the command begins keeps its promises.
-use Rattle.std.proofs.Common.{◌≡◌, ◌∙◌, ℕ, List, [], Option, Some, None, inl, inr, refl, ap, sym, subst, arith}
-use Rattle.debug_cli.specs.declared.status.Status.TheVariants as statuses
-use Rattle.web_page.specs.declared.turn.SavedSession.{SavedSession}
-use Rattle.web_page.specs.declared.turn.SavedSession.TheVariants as sessions
-use Rattle.web_page.specs.Given.{TurnGiven, turn_files}
-use Rattle.web_page.specs.Outcomes.{TurnResult}
-use Rattle.web_page.specs.Outside.{files_at_start}
+use Rattle.std.proofs.Common.{◌∙◌, ◌≡◌, [], ℕ, List, None, Option, Some, ap, arith, inl, inr, refl, subst, sym}
+use Rattle.debug_cli.specs.declared.status.Status.{Status}
+use Rattle.web_page.specs.{Given.TurnGiven, Given.turn_files, Outcomes.TurnResult, Outside.files_at_start, declared.turn.SavedSession.SavedSession}
 use Rattle.web_page.specs.Promises.{KeepsPromises, telling_of_turn, transcript_of_turn}
 use Rattle.web_exports.specs.Returned.{TurnOf}
 
-keeps : (g : TurnGiven) (room : List ℕ) → KeepsPromises g (record { status = 7; shown = []; saved = sessions.Memory; saved_room = room })
+keeps : (g : TurnGiven) (room : List ℕ) → KeepsPromises g (record { status = 7; shown = []; saved = SavedSession.Memory; saved_room = room })
 keeps g room = record {
   headline = λ c e. absurd (omega (arith, e));
   transcript = λ c e. absurd (omega (arith, e));
@@ -33,7 +29,7 @@ keeps g room = record {
   no_program = λ steps e short none. inr (inr refl);
   no_session = λ none. inr (inr refl);
   goes = (
-    statuses.Memory,
+    Status.Memory,
     refl,
     files_at_start g,
     tt,
@@ -43,11 +39,11 @@ keeps g room = record {
   console = λ e. absurd (omega (arith, e));
 }
 
-out : (o : Option TurnGiven) (room : List ℕ) → TurnOf o (record { status = 7; shown = []; saved = sessions.Memory; saved_room = room })
+out : (o : Option TurnGiven) (room : List ℕ) → TurnOf o (record { status = 7; shown = []; saved = SavedSession.Memory; saved_room = room })
 out None room = inr refl
 out (Some g) room = keeps g room
 
-pub memory_out : (o : Option TurnGiven) (it : TurnResult) → it.status ≡ 7 → it.shown ≡ [] → it.saved ≡ sessions.Memory → TurnOf o it
+pub memory_out : (o : Option TurnGiven) (it : TurnResult) → it.status ≡ 7 → it.shown ≡ [] → it.saved ≡ SavedSession.Memory → TurnOf o it
 memory_out o it e f h = subst (λ (x : TurnResult). TurnOf o x)
     (sym (ap (λ (n : ℕ). record { status = n; shown = it.shown; saved = it.saved; saved_room = it.saved_room }) e
     ∙ ap (λ (l : List ℕ). record { status = 7; shown = l; saved = it.saved; saved_room = it.saved_room }) f

@@ -1,15 +1,10 @@
 -- What a turn promises, of what is passed and of the numbers that come back.
-use Rattle.std.proofs.Common.{◌≡◌, ◌∙◌, ℕ, List, [], Option, Some, ap, sym, subst, take}
+use Rattle.std.proofs.Common.{◌∙◌, ◌≡◌, [], ℕ, List, Option, Some, ap, subst, sym, take}
 use Rattle.std.specs.Option.{option_map}
-use Rattle.web_page.specs.declared.turn.SavedSession.{SavedSession}
-use Rattle.web_page.specs.declared.turn.TurnOutcome.{TurnOutcome}
-use Rattle.web_page.specs.Given.{FileGiven, TurnGiven}
-use Rattle.web_page.specs.Outcomes.{TurnResult, result_of}
-use Rattle.web_page.specs.Promises.{KeepsPromises}
-use Rattle.web_exports.specs.declared.Came.{Came}
-use Rattle.web_exports.specs.Files.{files_in}
+use Rattle.web_page.specs.{Given.FileGiven, Given.TurnGiven, Outcomes.TurnResult, Outcomes.result_of, Promises.KeepsPromises}
+use Rattle.web_page.specs.declared.turn.{SavedSession.SavedSession, TurnOutcome.TurnOutcome}
+use Rattle.web_exports.specs.{Files.files_in, Returned.TurnOf, Returned.result_in, Returned.saved_by, declared.Came.Came}
 use Rattle.web_exports.specs.Passed.{TurnPassed, given_in, given_with, session_if, text_or_empty}
-use Rattle.web_exports.specs.Returned.{TurnOf, result_in, saved_by}
 
 pub given_same : (p : TurnPassed) {budget : List ℕ} {session : Option (List ℕ)} {files' files : List FileGiven}
     → budget ≡ text_or_empty p.budget → session ≡ session_if p.has_session p.session → files' ≡ files

@@ -1,7 +1,6 @@
 -- Further files, as they are passed: their names and bytes, one after the other, and how many bytes each has.
-use Rattle.std.specs.Prelude.{◌∷◌, ◌++◌, ℕ, List, [], Option, Some, None, if◌then◌else◌, nat_le, length, take, drop}
-use Rattle.std.specs.Option.{option_and_then, option_map}
-use Rattle.std.specs.Str.{is_utf8}
+use Rattle.std.specs.Prelude.{if◌then◌else◌, ◌++◌, ◌∷◌, [], ℕ, List, None, Option, Some, drop, length, nat_le, take}
+use Rattle.std.specs.{Option.option_and_then, Option.option_map, Str.is_utf8}
 use Rattle.web_page.specs.Given.{FileGiven}
 use Rattle.web_exports.specs.declared.FileSizes.{FileSizes}
 

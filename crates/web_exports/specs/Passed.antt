@@ -1,9 +1,8 @@
 -- What is passed to a turn, as what it is given.
-use Rattle.std.specs.Prelude.{ℕ, Bool, true, false, List, [], Option, Some, None}
+use Rattle.std.specs.Prelude.{[], ℕ, Bool, List, None, Option, Some, false, true}
 use Rattle.std.specs.Option.{option_map, unwrap_or}
 use Rattle.web_page.specs.Given.{FileGiven, TurnGiven}
-use Rattle.web_exports.specs.Files.{files_in, text_in}
-use Rattle.web_exports.specs.declared.FileSizes.{FileSizes}
+use Rattle.web_exports.specs.{Files.files_in, Files.text_in, declared.FileSizes.FileSizes}
 
 pub record TurnPassed : Type 0 where
   pub source : List ℕ

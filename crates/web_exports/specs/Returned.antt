@@ -1,10 +1,8 @@
 -- How a turn comes out, as numbers.
-use Rattle.std.specs.Prelude.{◌≡◌, ◌⊎◌, ◌==◌, ℕ, List, Option, Some, None, if◌then◌else◌, take}
+use Rattle.std.specs.Prelude.{if◌then◌else◌, ◌==◌, ◌≡◌, ◌⊎◌, ℕ, List, None, Option, Some, take}
+use Rattle.web_page.specs.{Given.TurnGiven, Outcomes.TurnResult, Promises.KeepsPromises}
 use Rattle.web_page.specs.declared.turn.SavedSession.{SavedSession}
-use Rattle.web_page.specs.declared.turn.SavedSession.TheVariants.{Absent, Whole, TooLong, Memory}
-use Rattle.web_page.specs.Given.{TurnGiven}
-use Rattle.web_page.specs.Outcomes.{TurnResult}
-use Rattle.web_page.specs.Promises.{KeepsPromises}
+use Rattle.web_page.specs.declared.turn.SavedSession.TheVariants.{Absent, Memory, TooLong, Whole}
 use Rattle.web_exports.specs.declared.Came.{Came}
 
 -- what is said of a saved session, by a number and a count of bytes

@@ -5,8 +5,7 @@
 
 mod files;
 
-ghost use Rattle.std.specs.Prelude.{◌≡◌, ◌≤◌, length};
-ghost use Rattle.std.specs.Option.{option_map};
+ghost use Rattle.std.specs.{Prelude.◌≡◌, Prelude.◌≤◌, Prelude.length, Option.option_map};
 ghost use Rattle.web_exports.specs.Passed.{given_in, session_if, text_or_empty};
 ghost use Rattle.web_exports.specs.Returned.{TurnOf, result_in, saved_by};
 

@@ -1,8 +1,6 @@
 -- Where no call of a keeper failed, each line that asks to save was answered that its file was stored.
-use Rattle.std.proofs.Common.{◌≡◌, ◌<◌, ◌∷◌, ℕ, Bool, true, false, List, [], Option, Some, Err, refl, ap, subst, map, length, arith}
-use Rattle.edge_ports.specs.Counts.{KeeperCounts, counts_stored}
-use Rattle.edge_ports.specs.declared.ports.StoreFault.TheVariants as store
-use Rattle.edge_ports.specs.Files.{FileMap}
+use Rattle.std.proofs.Common.{◌<◌, ◌∷◌, ◌≡◌, [], ℕ, Bool, Err, List, Option, Some, ap, arith, false, length, map, refl, subst, true}
+use Rattle.edge_ports.specs.{Counts.KeeperCounts, Counts.counts_stored, Files.FileMap, declared.ports.StoreFault.StoreFault}
 use Rattle.ask_session.specs.Saves.{FilesAfter, Save, counts_saved}
 use Rattle.web_page.specs.Promises.{files_saved}
 
@@ -16,7 +14,7 @@ pub all_stored : (saves : List Bool) (counts : KeeperCounts) → counts.faults �
     → saves ≡ map (λ (save : Bool). true) saves
 all_stored [] counts first last = refl
 all_stored (true ∷ saves) counts first last = ap (λ (more : List Bool). true ∷ more) (all_stored saves _ first last)
-all_stored (false ∷ saves) counts first last = absurd (omega (arith, last, stays saves (counts_stored (Err store.Failed) counts) (omega arith)))
+all_stored (false ∷ saves) counts first last = absurd (omega (arith, last, stays saves (counts_stored (Err StoreFault.Failed) counts) (omega arith)))
 
 pub as_many : {A B : Type 0} (xs : List A) (ys : List B) → length xs ≡ length ys → map (λ (x : A). true) xs ≡ map (λ (y : B). true) ys
 as_many [] [] e = refl

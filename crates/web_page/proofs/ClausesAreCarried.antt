@@ -1,31 +1,18 @@
 -- What the command promises of its words, files, console and screen holds of what a turn is given and how it comes out.
-use Rattle.std.proofs.Common.{◌≡◌, ◌≤◌, ◌∙◌, ℕ, Bool, true, false, List, [], Option, Some, None, inl, inr, refl, sym, ap, subst, map, length, arith}
-use Rattle.std.specs.Prelude.{◌⊎◌, ◌==◌}
-use Rattle.std.proofs.lemmas.Bool.{eqb-true}
-use Rattle.std.specs.FinMap.{get-insert}
-use Rattle.std.proofs.lemmas.Cmp.{nat_list_cmp_total}
-use Rattle.edge_ports.specs.Counts.{Counted, KeeperCounts}
-use Rattle.edge_ports.specs.Lines.{lines_of}
-use Rattle.edge_ports.specs.Told.{GaveAll, GavePrefix}
-use Rattle.command_words.specs.Meaning.{Meant, Requested, Source, budget_spelled}
+use Rattle.std.proofs.Common.{◌==◌, ◌∙◌, ◌≡◌, ◌≤◌, ◌⊎◌, [], ℕ, Bool, List, None, Option, Some, ap, arith, false, inl, inr, length, map, refl, subst, sym, true}
+use Rattle.std.{proofs.lemmas.Bool.eqb-true, proofs.lemmas.Cmp.nat_list_cmp_total, specs.FinMap.get-insert}
+use Rattle.edge_ports.specs.{Counts.Counted, Counts.KeeperCounts, Lines.lines_of, Told.GaveAll, Told.GavePrefix}
 use Rattle.pas_lexer.specs.Limits.{source_bytes}
-use Rattle.ask_session.specs.Console.{NotRisen}
-use Rattle.ask_session.specs.Dialog.{transcript}
-use Rattle.ask_session.specs.Reached.{Reached, telling}
-use Rattle.ask_session.specs.Saves.{FilesAfter, Save, counts_saved, saves_in}
 use Rattle.dialog_replies.specs.Fit.{misfit}
+use Rattle.ask_session.specs.{Console.NotRisen, Dialog.transcript, Reached.Reached, Reached.telling}
+use Rattle.ask_session.specs.Saves.{FilesAfter, Save, counts_saved, saves_in}
+use Rattle.command_words.specs.Meaning.{Meant, Requested, Source, budget_spelled}
 use Rattle.debuggee.specs.Program.{NoProgram}
-use Rattle.debug_cli.specs.declared.status.Status.{Status}
-use Rattle.debug_cli.specs.Goes.{Goes}
-use Rattle.debug_cli.specs.Headline.{Headline}
-use Rattle.debug_cli.specs.Named.{start_in, subject_in}
-use Rattle.debug_cli.specs.Outside.{NoFetchFailed}
-use Rattle.debug_cli.specs.Setting.{MeansNoProgram, Told}
-use Rattle.debug_cli.specs.Status.{code_of}
-use Rattle.web_page.specs.Given.{TurnGiven, turn_files, turn_meaning}
-use Rattle.web_page.specs.Outside.{FilesState, counts_of, files_at_start}
-use Rattle.web_page.specs.Promises.{CanAsk, files_saved, saves_of_turn, telling_of_turn, transcript_of_turn}
+use Rattle.debug_cli.specs.{Goes.Goes, Headline.Headline, Named.start_in, Named.subject_in, Outside.NoFetchFailed, Setting.MeansNoProgram, Setting.Told}
+use Rattle.debug_cli.specs.{Status.code_of, declared.status.Status.Status}
 use Rattle.web_page.proofs.AllAreStored.{all_stored, as_many, files_are_saved, same_bytes}
+use Rattle.web_page.specs.{Given.TurnGiven, Given.turn_files, Given.turn_meaning, Outside.FilesState, Outside.counts_of, Outside.files_at_start}
+use Rattle.web_page.specs.Promises.{CanAsk, files_saved, saves_of_turn, telling_of_turn, transcript_of_turn}
 
 -- what the words mean, the files, the console's bytes, and what the screen has before and after
 pub record Situation : Type 0 where

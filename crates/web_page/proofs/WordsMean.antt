@@ -1,8 +1,7 @@
 -- What the words of a turn mean.
-use Rattle.std.proofs.Common.{◌≡◌, ◌∷◌, ◌++◌, ℕ, List, [], Option, None, Some, refl, codes}
+use Rattle.std.proofs.Common.{◌++◌, ◌∷◌, ◌≡◌, [], ℕ, List, None, Option, Some, codes, refl}
 use Rattle.std.specs.Option.{option_map}
-use Rattle.clap.specs.Faults.{walk_fault, defaults_fault}
-use Rattle.clap.specs.Walk.{walked}
+use Rattle.clap.specs.{Faults.defaults_fault, Faults.walk_fault, Walk.walked}
 use Rattle.command_words.specs.Meaning.{meant}
 use Rattle.web_page.specs.Given.{FileGiven, TurnGiven, turn_meaning, turn_words}
 

@@ -1,7 +1,6 @@
 -- What a turn of the command in a page is given, and what it asks of the command.
-use Rattle.std.specs.Prelude.{◌∷◌, ◌++◌, ℕ, List, [], Option, Some, None, codes}
-use Rattle.std.specs.Option.{option_map}
-use Rattle.std.specs.FinMap.{empty, insert}
+use Rattle.std.specs.Prelude.{◌++◌, ◌∷◌, [], ℕ, List, None, Option, Some, codes}
+use Rattle.std.specs.{FinMap.empty, FinMap.insert, Option.option_map}
 use Rattle.edge_ports.specs.Files.{FileMap}
 use Rattle.command_words.specs.Meaning.{Meant, Source, budget_spelled}
 

@@ -1,8 +1,7 @@
 -- How a turn comes out.
-use Rattle.std.specs.Prelude.{◌≡◌, ◌<◌, ℕ, List, Option, Some, None, IsSomeAnd, length, take}
-use Rattle.web_page.specs.declared.turn.SavedSession.{SavedSession}
-use Rattle.web_page.specs.declared.turn.SavedSession.TheVariants.{Absent, Whole, TooLong, Memory}
-use Rattle.web_page.specs.declared.turn.TurnOutcome.{TurnOutcome}
+use Rattle.std.specs.Prelude.{◌<◌, ◌≡◌, ℕ, IsSomeAnd, List, None, Option, Some, length, take}
+use Rattle.web_page.specs.declared.turn.{SavedSession.SavedSession, TurnOutcome.TurnOutcome}
+use Rattle.web_page.specs.declared.turn.SavedSession.TheVariants.{Absent, Memory, TooLong, Whole}
 
 -- what the caller gets: the exit status; the bytes that the screen got; and the session that was saved, as the room
 -- for it tells it

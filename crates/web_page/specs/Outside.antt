@@ -1,10 +1,8 @@
 -- What contracts see of the outside of a turn: what is not here cannot happen.
-use Rattle.std.specs.Prelude.{◌≡◌, ℕ, List, [], refl}
+use Rattle.std.specs.Prelude.{◌≡◌, [], ℕ, List, refl}
+use Rattle.std.specs.Coded.{Coded, code_by, coded_list, coded_ℕ, coded×}
 use Rattle.std.specs.FinMap.{code}
-use Rattle.std.specs.Coded.{Coded, code_by, coded×, coded_ℕ, coded_list}
-use Rattle.edge_ports.specs.Counts.{KeeperCounts}
-use Rattle.edge_ports.specs.Files.{FileMap}
-use Rattle.edge_ports.specs.Shelves.{ShelfState}
+use Rattle.edge_ports.specs.{Counts.KeeperCounts, Files.FileMap, Shelves.ShelfState}
 use Rattle.web_page.specs.Given.{TurnGiven, turn_files}
 
 -- the files of a turn, how often one was absent or too long, and how often one was to be stored

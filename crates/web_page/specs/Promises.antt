@@ -1,28 +1,17 @@
 -- What a turn promises, by what it is given and how it comes out.
-use Rattle.std.specs.Prelude.{◌≡◌, ◌≢◌, ◌⊎◌, ◌≤◌, ℕ, Bool, true, List, [], ◌∷◌, Option, Some, None, length, map, codes}
+use Rattle.std.specs.Prelude.{◌∷◌, ◌≡◌, ◌≢◌, ◌≤◌, ◌⊎◌, [], ℕ, Bool, List, None, Option, Some, codes, length, map, true}
 use Rattle.std.specs.FinMap.{insert}
-use Rattle.edge_ports.specs.Counts.{no_counts}
-use Rattle.edge_ports.specs.Files.{FileMap, file_at}
-use Rattle.edge_ports.specs.Lines.{lines_of}
-use Rattle.edge_ports.specs.Told.{GavePrefix}
+use Rattle.edge_ports.specs.{Counts.no_counts, Files.FileMap, Files.file_at, Lines.lines_of, Told.GavePrefix}
 use Rattle.pas_lexer.specs.Limits.{source_bytes}
-use Rattle.command_words.specs.Meaning.{Requested, Source, budget_spelled}
-use Rattle.ask_session.specs.Console.{EndsInTime, GoesOn}
-use Rattle.ask_session.specs.Dialog.{transcript}
-use Rattle.ask_session.specs.Outside.{Outside}
-use Rattle.ask_session.specs.Reached.{Reached, Telling, telling}
-use Rattle.ask_session.specs.Saves.{FilesAfter, Save, saves_in}
 use Rattle.dialog_replies.specs.Fit.{misfit}
+use Rattle.ask_session.specs.{Console.EndsInTime, Console.GoesOn, Dialog.transcript, Outside.Outside, Reached.Reached}
+use Rattle.ask_session.specs.{Reached.Telling, Reached.telling, Saves.FilesAfter, Saves.Save, Saves.saves_in}
+use Rattle.command_words.specs.Meaning.{Requested, Source, budget_spelled}
 use Rattle.debuggee.specs.Program.{NoProgram}
-use Rattle.debug_cli.specs.declared.status.Status.{Status}
-use Rattle.debug_cli.specs.Goes.{Goes}
-use Rattle.debug_cli.specs.Headline.{Headline}
-use Rattle.debug_cli.specs.Named.{start_in, subject_in}
-use Rattle.debug_cli.specs.Setting.{MeansNoSession, Told}
-use Rattle.debug_cli.specs.Status.{code_of}
-use Rattle.web_page.specs.Given.{TurnGiven, turn_files, turn_meaning}
-use Rattle.web_page.specs.Outside.{FilesState, counts_of, files_at_start}
-use Rattle.web_page.specs.Outcomes.{IsGivenBack, TurnResult}
+use Rattle.debug_cli.specs.{Goes.Goes, Headline.Headline, Named.start_in, Named.subject_in, Setting.MeansNoSession}
+use Rattle.debug_cli.specs.{Setting.Told, Status.code_of, declared.status.Status.Status}
+use Rattle.web_page.specs.{Given.TurnGiven, Given.turn_files, Given.turn_meaning, Outcomes.IsGivenBack}
+use Rattle.web_page.specs.{Outcomes.TurnResult, Outside.FilesState, Outside.counts_of, Outside.files_at_start}
 
 -- ---- what is outside of the command
 

@@ -1,9 +1,7 @@
 -- A turn, as what it is given.
-use Rattle.std.specs.Prelude.{map}
-use Rattle.std.specs.Option.{option_map}
+use Rattle.std.specs.{Prelude.map, Option.option_map}
 use Rattle.web_page.specs.Given.{FileGiven, TurnGiven}
-use Rattle.web_page.specs.declared.turn.NamedFile.{NamedFile}
-use Rattle.web_page.specs.declared.turn.PageTurn.{PageTurn}
+use Rattle.web_page.specs.declared.turn.{NamedFile.NamedFile, PageTurn.PageTurn}
 
 abbrev pub file_given : NamedFile → FileGiven
 file_given file = record { name = file.name.now; bytes = file.bytes.now }

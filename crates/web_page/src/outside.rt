@@ -62,7 +62,7 @@ pub struct TurnConsole<'a> {
 }
 
 impl<'a> Model for TurnConsole<'a> {
-    ghost use Rattle.std.specs.Prelude.{List, ℕ};
+    ghost use Rattle.std.specs.Prelude.{ℕ, List};
 
     ghost Value = { List ℕ };
 

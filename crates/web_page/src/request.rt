@@ -1,10 +1,8 @@
 //! What a turn asks of the command: its words, and the files that they name.
-ghost use Rattle.std.specs.Prelude.{◌≡◌, ◌++◌, ◌∷◌, [], map, codes, IfOk, OnOk};
-ghost use Rattle.std.specs.Option.{option_map};
-ghost use Rattle.std.specs.String.{string_bytes};
+ghost use Rattle.std.specs.Prelude.{◌++◌, ◌∷◌, ◌≡◌, [], IfOk, OnOk, codes, map};
+ghost use Rattle.std.specs.{Option.option_map, String.string_bytes};
+ghost use Rattle.web_page.specs.{Outside.files_at_start, Turns.file_given, Turns.given_by};
 ghost use Rattle.web_page.specs.Given.{turn_words, with_files, with_session};
-ghost use Rattle.web_page.specs.Outside.{files_at_start};
-ghost use Rattle.web_page.specs.Turns.{file_given, given_by};
 
 use crate::outside::TurnFiles;
 use crate::turn::{NamedFile, PageTurn};

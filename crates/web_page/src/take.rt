@@ -1,15 +1,12 @@
 //! A turn is taken.
-ghost use Rattle.std.specs.Prelude.{◌≡◌, ◌≤◌, Some, length, take, codes, IfOk};
+ghost use Rattle.std.specs.Prelude.{◌≡◌, ◌≤◌, IfOk, Some, codes, length, take};
 ghost use Rattle.edge_ports.specs.Files.{file_at};
 ghost use Rattle.debug_cli.specs.Named.{meaning};
-ghost use Rattle.web_page.specs.Given.{turn_meaning};
-ghost use Rattle.web_page.specs.Outside.{files_at_start};
-ghost use Rattle.web_page.specs.Turns.{given_by};
-ghost use Rattle.web_page.specs.declared.turn.SavedSession.TheVariants as sessions;
+ghost use Rattle.web_page.specs.{Given.turn_meaning, Outside.files_at_start, Turns.given_by};
 ghost use Rattle.web_page.specs.Outcomes.{IsGivenBack, result_of};
-ghost use Rattle.web_page.specs.Promises.{HasHeadline, IsTranscript, IsFirstPart, ComesToItsEnd, IsSpent};
-ghost use Rattle.web_page.specs.Promises.{RefusesBudget, RefusesSource, RefusesSession};
-ghost use Rattle.web_page.specs.Promises.{GoesByStatus, HearsConsole};
+ghost use Rattle.web_page.specs.Promises.{ComesToItsEnd, GoesByStatus, HasHeadline, HearsConsole, IsFirstPart, IsSpent};
+ghost use Rattle.web_page.specs.Promises.{IsTranscript, RefusesBudget, RefusesSession, RefusesSource};
+ghost use Rattle.web_page.specs.declared.turn.SavedSession.TheVariants as sessions;
 
 use crate::outside::{TurnConsole, TurnFiles};
 use crate::request::{files, words};

@@ -1,9 +1,7 @@
 -- What a search promises fixes its answer.
-use Rattle.std.proofs.Common.{◌≡◌, ◌≢◌, ℕ, ◌<◌, ◌≤◌, List, refl, sym, ap, ◌∙◌, arith, ⊎_elim, Option, Some, None, All}
+use Rattle.std.proofs.Common.{◌<◌, ◌∙◌, ◌≡◌, ◌≢◌, ◌≤◌, ℕ, ⊎_elim, All, List, None, Option, Some, ap, arith, refl, sym}
 use Rattle.std.proofs.lemmas.Bool.{cases_lt}
-use Rattle.weight_lanes.specs.declared.choice.Choice.{Choice}
-use Rattle.weight_lanes.specs.Answers.{IsBest, IsLastSet, IsNext}
-use Rattle.weight_lanes.specs.Places.{IsSet, left_at}
+use Rattle.weight_lanes.specs.{Answers.IsBest, Answers.IsLastSet, Answers.IsNext, Places.IsSet, Places.left_at, declared.choice.Choice.Choice}
 
 pub one_next : (column : List ℕ) (from value : ℕ) (r s : Option ℕ) → IsNext column from value r → IsNext column from value s → r ≡ s
 one_next column from value None None is is' = refl

@@ -1,8 +1,6 @@
 -- What the plain loop knows of its best choice so far.
-use Rattle.std.proofs.Common.{◌≡◌, ◌≢◌, ℕ, ◌<◌, ◌≤◌, List, get_or, Option, MatchOption}
-use Rattle.weight_lanes.specs.declared.choice.Choice.{Choice}
-use Rattle.weight_lanes.specs.Places.{left_at}
-use Rattle.weight_lanes.specs.Lanes.{NoneIn}
+use Rattle.std.proofs.Common.{◌<◌, ◌≡◌, ◌≢◌, ◌≤◌, ℕ, List, MatchOption, Option, get_or}
+use Rattle.weight_lanes.specs.{Lanes.NoneIn, Places.left_at, declared.choice.Choice.Choice}
 
 -- of the places below `count` whose flag is not 0, the choice is the first of those with the least number
 pub record IsBestBelow (weights askable : List ℕ) (total count : ℕ) (choice : Choice) : Type 0 where

@@ -1,35 +1,8 @@
 -- What the operations on vectors of 16 lanes hold, lane by lane.
-use Rattle.std.proofs.Common.{
-  ◌≡◌,
-  ℕ,
-  ◌+◌,
-  ◌-◌,
-  ◌^◌,
-  ◌<◌,
-  ◌≤◌,
-  List,
-  Bool,
-  true,
-  false,
-  cond,
-  ltb,
-  length,
-  get_or,
-  map,
-  min,
-  max,
-  refl,
-  sym,
-  ap,
-  subst,
-  ◌∙◌,
-  arith,
-  w32,
-}
-use Rattle.std.specs.Simd.Lanes.{zip2, sel_l, top, chunk}
-use Rattle.std.proofs.lemmas.Simd.{length-zip2, get_or-zip2, length-sel_l, get_or-sel_l, length-chunk, get_or-chunk, tops_compared}
-use Rattle.std.proofs.lemmas.List.{get_or-map, length-map}
-use Rattle.std.proofs.lemmas.Bool.{ltb-true, ltb-false}
+use Rattle.std.proofs.Common.{◌+◌, ◌-◌, ◌<◌, ◌^◌, ◌∙◌, ◌≡◌, ◌≤◌, ℕ, Bool, List, ap, arith, cond, false, get_or, length, ltb, map, max, min, refl, subst, sym}
+use Rattle.std.proofs.{Common.true, Common.w32, lemmas.Bool.ltb-false, lemmas.Bool.ltb-true, lemmas.List.get_or-map, lemmas.List.length-map}
+use Rattle.std.proofs.lemmas.Simd.{get_or-chunk, get_or-sel_l, get_or-zip2, length-chunk, length-sel_l, length-zip2, tops_compared}
+use Rattle.std.specs.Simd.Lanes.{chunk, sel_l, top, zip2}
 use Rattle.weight_lanes.specs.Lanes.{HasLanes}
 
 -- a load

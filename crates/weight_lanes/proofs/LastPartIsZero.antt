@@ -1,33 +1,8 @@
 -- Flags of which a last part has been found to be 0.
-use Rattle.std.proofs.Common.{
-  ◌≡◌,
-  ◌≢◌,
-  ℕ,
-  zero,
-  suc,
-  ◌≤◌,
-  ◌↔◌,
-  List,
-  length,
-  get_or,
-  take,
-  refl,
-  sym,
-  ◌∙◌,
-  arith,
-  ⊎_elim,
-  Option,
-  Some,
-  None,
-  All,
-  IsNone,
-  IfSome,
-}
-use Rattle.std.proofs.lemmas.Bool.{cases_lt}
-use Rattle.std.proofs.lemmas.List.{get_or-take, get_or_default, length-take-le}
-use Rattle.std.proofs.lemmas.List.Elements.{All-take}
-use Rattle.weight_lanes.specs.Places.{IsSet}
-use Rattle.weight_lanes.specs.Lanes.{NoneIn}
+use Rattle.std.proofs.Common.{◌↔◌, ◌∙◌, ◌≡◌, ◌≢◌, ◌≤◌, ℕ, ⊎_elim, All, IfSome, IsNone, List, None, Option, Some, arith, get_or, length, refl, suc, sym, take}
+use Rattle.std.proofs.Common.{zero}
+use Rattle.std.proofs.lemmas.{Bool.cases_lt, List.get_or-take, List.get_or_default, List.length-take-le, List.Elements.All-take}
+use Rattle.weight_lanes.specs.{Lanes.NoneIn, Places.IsSet}
 
 zero_unless : (x : ℕ) → ¬ (x ≢ 0) → x ≡ 0
 zero_unless zero h = refl

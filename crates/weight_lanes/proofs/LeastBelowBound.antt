@@ -1,5 +1,5 @@
 -- The least of the numbers below a bound, in a variable and in the lanes of a vector.
-use Rattle.std.proofs.Common.{◌≡◌, ℕ, ◌+◌, ◌-◌, ◌<◌, ◌≤◌, inl, inr, List, length, get_or, min, sym, ap, subst, arith, ⊎_elim}
+use Rattle.std.proofs.Common.{◌+◌, ◌-◌, ◌<◌, ◌≡◌, ◌≤◌, ℕ, ⊎_elim, List, ap, arith, get_or, inl, inr, length, min, subst, sym}
 use Rattle.std.proofs.lemmas.Bool.{cases_lt}
 use Rattle.weight_lanes.specs.Lanes.{HasLanes, IsLeastBelow, IsTaken}
 

@@ -1,39 +1,8 @@
 -- What the bits of a mask say of the places of a block.
-use Rattle.std.proofs.Common.{
-  ◌≡◌,
-  ℕ,
-  ◌+◌,
-  ◌-◌,
-  ◌<◌,
-  ◌≤◌,
-  ◌^◌,
-  Bool,
-  true,
-  false,
-  cond,
-  not,
-  eqb,
-  eq-eqb,
-  ◌≢◌,
-  ◌↔◌,
-  List,
-  length,
-  get_or,
-  map,
-  refl,
-  sym,
-  ap,
-  subst,
-  ◌∙◌,
-  arith,
-  ⊎_elim,
-}
-use Rattle.std.specs.Int.{bit_at}
-use Rattle.std.specs.Simd.Lanes.{mask_l}
-use Rattle.std.proofs.lemmas.Simd.{bit_mask_l, mask_l-lt}
-use Rattle.std.proofs.lemmas.Bool.{cases_lt, eqb-true}
-use Rattle.std.proofs.lemmas.List.{get_or-map, length-map}
-use Rattle.std.proofs.lemmas.Nat.Bits.{bit_at_above, bit_at-zero}
+use Rattle.std.proofs.Common.{◌+◌, ◌-◌, ◌<◌, ◌^◌, ◌↔◌, ◌∙◌, ◌≡◌, ◌≢◌, ◌≤◌, ℕ, ⊎_elim, Bool, List, ap, arith, cond, eq-eqb, eqb, false, get_or, length, map, not}
+use Rattle.std.proofs.{Common.refl, Common.subst, Common.sym, Common.true, lemmas.Nat.Bits.bit_at-zero, lemmas.Nat.Bits.bit_at_above}
+use Rattle.std.proofs.lemmas.{Bool.cases_lt, Bool.eqb-true, List.get_or-map, List.length-map, Simd.bit_mask_l, Simd.mask_l-lt}
+use Rattle.std.specs.{Int.bit_at, Simd.Lanes.mask_l}
 use Rattle.weight_lanes.specs.Lanes.{MarksLanes, NoneIn}
 
 pub NoneIn-join : (Q : ℕ → Type 0) (a b c : ℕ) → NoneIn Q a b → NoneIn Q b c → NoneIn Q a c

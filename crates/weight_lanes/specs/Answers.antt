@@ -1,7 +1,6 @@
 -- What each search promises of its answer, as one fact.
-use Rattle.std.specs.Prelude.{◌≡◌, ◌≢◌, ◌↔◌, ℕ, ◌<◌, ◌≤◌, List, Option, All, IsNone, IfSome}
-use Rattle.weight_lanes.specs.declared.choice.Choice.{Choice}
-use Rattle.weight_lanes.specs.Places.{Holds, IsSet, left_at}
+use Rattle.std.specs.Prelude.{◌<◌, ◌↔◌, ◌≡◌, ◌≢◌, ◌≤◌, ℕ, All, IfSome, IsNone, List, Option}
+use Rattle.weight_lanes.specs.{Places.Holds, Places.IsSet, Places.left_at, declared.choice.Choice.Choice}
 
 -- the first of the askable places of which the worse answer leaves the fewest
 pub record IsBest (weights askable : List ℕ) (total : ℕ) (answer : Option Choice) : Type 0 where

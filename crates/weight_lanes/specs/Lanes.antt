@@ -1,5 +1,5 @@
 -- What the lanes of a vector and the bits of a mask say.
-use Rattle.std.specs.Prelude.{◌≡◌, ◌⊎◌, ℕ, ◌<◌, ◌≤◌, ◌==◌, if◌then◌else◌, List, length, slice_index}
+use Rattle.std.specs.Prelude.{if◌then◌else◌, ◌<◌, ◌==◌, ◌≡◌, ◌≤◌, ◌⊎◌, ℕ, List, length, slice_index}
 use Rattle.std.specs.Int.{bit_at}
 use Rattle.weight_lanes.specs.Places.{left_at}
 

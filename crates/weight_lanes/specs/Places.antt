@@ -1,5 +1,5 @@
 -- Places of columns, and the number by which places are compared.
-use Rattle.std.specs.Prelude.{◌≡◌, ◌≢◌, ℕ, ◌-◌, ◌<◌, ◌≤◌, max, List, length, slice_index}
+use Rattle.std.specs.Prelude.{◌-◌, ◌<◌, ◌≡◌, ◌≢◌, ◌≤◌, ℕ, List, length, max, slice_index}
 
 -- the column holds the value at the place
 pub record Holds (column : List ℕ) (value place : ℕ) : Type 0 where

@@ -1,7 +1,6 @@
 //! The lowest and the highest bit of a mask.
 
-ghost use Rattle.std.specs.Prelude.{◌≡◌, ◌≢◌, ℕ, ◌<◌};
-ghost use Rattle.std.specs.Int.{bit_at};
+ghost use Rattle.std.specs.{Prelude.◌<◌, Prelude.◌≡◌, Prelude.◌≢◌, Prelude.ℕ, Int.bit_at};
 
 /// The place of the lowest bit that is set.
 #[inline(always)]

@@ -1,6 +1,6 @@
 //! A choice of a place, and the number by which places are compared.
 
-ghost use Rattle.std.specs.Prelude.{◌≡◌, ◌≤◌, MatchOption, nat_le, if◌then◌else◌};
+ghost use Rattle.std.specs.Prelude.{if◌then◌else◌, ◌≡◌, ◌≤◌, MatchOption, nat_le};
 ghost use Rattle.weight_lanes.specs.Places.{left_of};
 
 /// A place, and how many suspects the worse answer on the call there leaves.

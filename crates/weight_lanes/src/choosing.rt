@@ -1,7 +1,7 @@
 //! The place that may be asked about of which the worse answer leaves the fewest suspects. One pass
 //! finds the least number, a second one the first place that has it.
 
-ghost use Rattle.std.specs.Prelude.{◌≡◌, ◌≢◌, ℕ, ◌<◌, ◌≤◌, ◌↔◌, All, IsNone, IfSome, length, slice_index};
+ghost use Rattle.std.specs.Prelude.{◌<◌, ◌↔◌, ◌≡◌, ◌≢◌, ◌≤◌, ℕ, All, IfSome, IsNone, length, slice_index};
 ghost use Rattle.weight_lanes.specs.Lanes.{HasNumber, IsFirstBelow, IsLeastBelow, NoneIn, lane_number};
 ghost use Rattle.weight_lanes.specs.Places.{AreWeighed, IsSet, left_at};
 

@@ -1,6 +1,6 @@
 //! The next place that holds a value, and the last place whose flag is set.
 
-ghost use Rattle.std.specs.Prelude.{◌≡◌, ℕ, ◌≤◌, ◌↔◌, All, IsNone, IfSome};
+ghost use Rattle.std.specs.Prelude.{◌↔◌, ◌≡◌, ◌≤◌, ℕ, All, IfSome, IsNone};
 ghost use Rattle.weight_lanes.specs.Places.{Holds, IsSet};
 
 use crate::bits::{highest, lowest};

@@ -1,6 +1,6 @@
 //! One block of a column as a vector.
 
-ghost use Rattle.std.specs.Prelude.{◌≡◌, ◌≢◌, ◌+◌, ◌-◌, ◌%◌, ◌≤◌, ◌==◌, if◌then◌else◌, max, min, length, slice_index};
+ghost use Rattle.std.specs.Prelude.{if◌then◌else◌, ◌%◌, ◌+◌, ◌-◌, ◌==◌, ◌≡◌, ◌≢◌, ◌≤◌, length, max, min, slice_index};
 ghost use Rattle.weight_lanes.specs.Lanes.{HasLanes, HasNumber, MarksLanes, lane_number};
 ghost use Rattle.weight_lanes.specs.Places.{AreWeighed};
 

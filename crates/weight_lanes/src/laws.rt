@@ -1,8 +1,7 @@
 //! Each search and its plain loop give one answer.
 
 ghost use Rattle.std.specs.Prelude.{◌≡◌, length};
-ghost use Rattle.weight_lanes.specs.Answers.{IsBest, IsLastSet, IsNext};
-ghost use Rattle.weight_lanes.specs.Places.{AreWeighed};
+ghost use Rattle.weight_lanes.specs.{Answers.IsBest, Answers.IsLastSet, Answers.IsNext, Places.AreWeighed};
 
 use crate::choice::Choice;
 use crate::choosing::best;

@@ -1,6 +1,6 @@
 //! The searches as plain loops.
 
-ghost use Rattle.std.specs.Prelude.{◌≡◌, ◌≢◌, ℕ, ◌<◌, ◌≤◌, ◌↔◌, All, IsNone, IfSome, length};
+ghost use Rattle.std.specs.Prelude.{◌<◌, ◌↔◌, ◌≡◌, ◌≢◌, ◌≤◌, ℕ, All, IfSome, IsNone, length};
 ghost use Rattle.weight_lanes.specs.Places.{AreWeighed, Holds, IsSet, left_at};
 
 use crate::choice::{Choice, better, left_after};

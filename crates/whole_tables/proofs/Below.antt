@@ -1,6 +1,5 @@
 -- One number fewer in a test of all below one.
-use Rattle.std.proofs.Common.{◌≡◌, ℕ, suc, ◌-◌, ◌<◌, Bool, true, ap, arith}
-use Rattle.std.specs.Prelude.{◌&&◌}
+use Rattle.std.proofs.Common.{◌&&◌, ◌-◌, ◌<◌, ◌≡◌, ℕ, Bool, ap, arith, suc, true}
 use Rattle.whole_tables.specs.Fits.{all_below}
 
 pub below-onward : (test : ℕ → Bool) (n : ℕ) → 0 < n → all_below n test ≡ (test (n - 1) && all_below (n - 1) test)

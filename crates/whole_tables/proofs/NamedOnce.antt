@@ -1,16 +1,11 @@
 -- Constructs that have named their parts have none in common.
-use Rattle.std.proofs.Common.{◌≡◌, ◌⊎◌, inl, inr, ℕ, zero, suc, ◌+◌, ◌<◌, Bool, true, false, List, [], ◌∷◌, Option, Some, None, refl, sym, ap, ◌∙◌, arith}
-use Rattle.std.proofs.Common.{length, slice_get, slice_set, subst, if◌then◌else◌}
-use Rattle.std.specs.Prelude.{◌&&◌, ◌||◌}
+use Rattle.std.proofs.Common.{if◌then◌else◌, ◌&&◌, ◌+◌, ◌<◌, ◌||◌, ◌∙◌, ◌∷◌, ◌≡◌, ◌⊎◌, [], ℕ, Bool, List, None, Option, Some, ap, arith, false, inl, inr}
+use Rattle.std.proofs.Common.{length, refl, slice_get, slice_set, subst, suc, sym, true, zero}
+use Rattle.core_program.proofs.{ActionsMeant.no, WholeActions.below_length, WholeParts.and_both}
 use Rattle.core_program.specs.ProgramRows.{ProgramRows, row_at}
 use Rattle.core_program.specs.WholeTables.{is_choice_row, is_common_row, part_at, parts_of}
-use Rattle.core_program.proofs.ActionsMeant.{no}
-use Rattle.core_program.proofs.WholeParts.{and_both}
-use Rattle.core_program.proofs.WholeActions.{below_length}
-use Rattle.whole_tables.specs.declared.once.Naming.{Naming}
-use Rattle.whole_tables.specs.Once.{IsOnce}
 use Rattle.whole_tables.proofs.RowsFit.{last_or_below}
-use Rattle.whole_tables.specs.Parts.{all_named, named, named_by, named_on}
+use Rattle.whole_tables.specs.{Once.IsOnce, Parts.all_named, Parts.named, Parts.named_by, Parts.named_on, declared.once.Naming.Naming}
 
 abbrev Column : Type 0
 Column = List (Option Naming)

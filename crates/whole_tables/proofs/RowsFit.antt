@@ -1,33 +1,15 @@
 -- The test of rows says what rows have to be.
-use Rattle.std.proofs.Common.{◌≡◌, ◌⊎◌, inl, inr, ℕ, zero, suc, ◌<◌, Bool, true, false, Option, Some, None, refl, sym, ap, ◌∙◌, arith, length, subst}
-use Rattle.std.specs.Prelude.{◌&&◌, ◌||◌, not}
-use Rattle.std.proofs.lemmas.Bool.{cases_lt}
-use Rattle.core_program.specs.declared.rows.Row.{Row}
-use Rattle.core_program.specs.declared.rows.Row.TheVariants as row
-use Rattle.core_program.specs.declared.rows.TypeRow.{TypeRow}
-use Rattle.core_program.specs.declared.rows.TypeRow.TheVariants as kind
-use Rattle.core_program.specs.declared.rows.NameRow.{NameRow}
-use Rattle.core_program.specs.declared.rows.NameRow.TheVariants as named
-use Rattle.core_program.specs.declared.rows.PartRow.{PartRow}
-use Rattle.core_program.specs.declared.rows.PartRow.TheVariants as part
-use Rattle.core_program.specs.declared.rows.ItemRow.{ItemRow}
-use Rattle.core_program.specs.declared.rows.ItemRow.TheVariants as item
-use Rattle.core_program.specs.declared.rows.StatementRow.{StatementRow}
-use Rattle.core_program.specs.declared.rows.StatementRow.TheVariants as statement
-use Rattle.core_program.specs.declared.rows.ExpressionRow.{ExpressionRow}
-use Rattle.core_program.specs.declared.rows.ExpressionRow.TheVariants as expression
-use Rattle.core_program.specs.declared.rows.AccessRow.{AccessRow}
-use Rattle.core_program.specs.declared.rows.AccessRow.TheVariants as access
+use Rattle.std.proofs.Common.{◌&&◌, ◌<◌, ◌||◌, ◌∙◌, ◌≡◌, ◌⊎◌, ℕ, Bool, None, Option, Some, ap, arith, false, inl, inr, length, not, refl, subst, suc, sym, true}
+use Rattle.std.proofs.{Common.zero, lemmas.Bool.cases_lt}
+use Rattle.core_program.proofs.{ActionsMeant.no, WholeActions.below_length, WholeParts.and_both}
 use Rattle.core_program.specs.ProgramRows.{ProgramRows, row_at, type_at}
-use Rattle.core_program.specs.WholeTables.{RowFits, TypeFits, NameFits, PartFits, StatementFits, ExpressionFits, AccessFits, ItemFits, Goes}
-use Rattle.core_program.specs.WholeTables.{WrittenFits, is_list, is_scalar, is_cells, is_result_type, is_variants_row}
-use Rattle.core_program.specs.WholeTables.{is_statement, is_record_access, is_read_access, is_variant, is_element_of, is_choice_of}
-use Rattle.core_program.specs.WholeTables.{is_actual_item, is_written_item, is_member_item, is_section_item}
-use Rattle.core_program.proofs.ActionsMeant.{no}
-use Rattle.core_program.proofs.WholeParts.{and_both}
-use Rattle.core_program.proofs.WholeActions.{below_length}
-use Rattle.whole_tables.specs.Fits.{all_below, for_some, type_fits, name_fits, part_fits, statement_fits, expression_fits, access_fits, written_fits}
-use Rattle.whole_tables.specs.Fits.{goes, goes_if, item_fits, row_fits}
+use Rattle.core_program.specs.WholeTables.{AccessFits, ExpressionFits, Goes, ItemFits, NameFits, PartFits, RowFits, StatementFits, TypeFits, WrittenFits}
+use Rattle.core_program.specs.WholeTables.{is_actual_item, is_cells, is_choice_of, is_element_of, is_list, is_member_item, is_read_access, is_record_access}
+use Rattle.core_program.specs.WholeTables.{is_result_type, is_scalar, is_section_item, is_statement, is_variant, is_variants_row, is_written_item}
+use Rattle.core_program.specs.declared.rows.{AccessRow.AccessRow, ExpressionRow.ExpressionRow, ItemRow.ItemRow, NameRow.NameRow, PartRow.PartRow, Row.Row}
+use Rattle.core_program.specs.declared.rows.{StatementRow.StatementRow, TypeRow.TypeRow}
+use Rattle.whole_tables.specs.Fits.{access_fits, all_below, choices_go, elements_go, expression_fits, for_some, goes, item_fits, name_fits, part_fits, row_fits}
+use Rattle.whole_tables.specs.Fits.{statement_fits, type_fits, written_fits}
 
 -- ---- tests taken apart
 
@@ -70,128 +52,131 @@ module _ (p : ProgramRows) (at : ℕ) where
   goes_on : (is_item : Row → Bool) (next : ℕ) → goes is_item p at next ≡ true → Goes is_item p at next
   goes_on is_item next h = both (is_list is_item p next) _ h
 
-  goes_where : (fits : ℕ → Bool) (is_item : (ℕ → Bool) → Row → Bool) (x next : ℕ) → goes_if fits is_item p at x next ≡ true
-      → fits x ≡ true → Goes (is_item fits) p at next
-  goes_where fits is_item x next h k = goes_on (is_item fits) next (onward (fits x) _ h k)
+  elements_mean : (fits : ℕ → Bool) (x next : ℕ) → elements_go fits p at x next ≡ true → fits x ≡ true → Goes (is_element_of fits) p at next
+  elements_mean fits x next h k = goes_on (is_element_of fits) next (onward (fits x) _ h k)
+
+  choices_mean : (fits : ℕ → Bool) (x next : ℕ) → choices_go fits p at x next ≡ true → fits x ≡ true → Goes (is_choice_of fits) p at next
+  choices_mean fits x next h k = goes_on (is_choice_of fits) next (onward (fits x) _ h k)
 
   type_means : (t : TypeRow) → type_fits p t ≡ true → TypeFits p t
-  type_means (kind.Ordinal least greatest) h = tt
-  type_means (kind.Subrange host least greatest) h = h
-  type_means (kind.Set packed base) h = h
-  type_means (kind.Pointer domain) h = h
-  type_means (kind.Array packed index component cells) h = both _ _ h
-  type_means (kind.Record packed region cells variants) h = some_holds variants (λ v. is_variants_row (row_at p v)) h
+  type_means (TypeRow.Ordinal least greatest) h = tt
+  type_means (TypeRow.Subrange host least greatest) h = h
+  type_means (TypeRow.Set packed base) h = h
+  type_means (TypeRow.Pointer domain) h = h
+  type_means (TypeRow.Array packed index component cells) h = both _ _ h
+  type_means (TypeRow.Record packed region cells variants) h = some_holds variants (λ v. is_variants_row (row_at p v)) h
 
   name_means : (n : NameRow) → name_fits p n ≡ true → NameFits p n
-  name_means (named.Constant of' value) h = h
-  name_means (named.Text token) h = h
-  name_means (named.TypeName of') h = h
-  name_means (named.Variable mode of' place level) h = h
-  name_means (named.RoutineFormal place level heading) h = h
-  name_means (named.Field of' offset holder) h = both _ _ h
-  name_means (named.Tag of' offset holder variants) h = three _ _ _ h
-  name_means (named.Routine assigned number region) h = h
-  name_means (named.Required routine) h = tt
-  name_means (named.TextFile file) h = tt
-  name_means (named.Label marked value level ways) h = tt
+  name_means (NameRow.Constant of' value) h = h
+  name_means (NameRow.Text token) h = h
+  name_means (NameRow.TypeName of') h = h
+  name_means (NameRow.Variable mode of' place level) h = h
+  name_means (NameRow.RoutineFormal place level heading) h = h
+  name_means (NameRow.Field of' offset holder) h = both _ _ h
+  name_means (NameRow.Tag of' offset holder variants) h = three _ _ _ h
+  name_means (NameRow.Routine assigned number region) h = h
+  name_means (NameRow.Required routine) h = tt
+  name_means (NameRow.TextFile file) h = tt
+  name_means (NameRow.Label marked value level ways) h = tt
 
   part_means : (q : PartRow) → part_fits p at q ≡ true → PartFits p at q
-  part_means (part.Variants hidden offset cells values holder) h = three _ _ _ h
-  part_means (part.Variant variants position) h = both _ _ h
-  part_means (part.Heading name sections result) h =
-      let b = both (is_list is_section_item p sections) (for_some result (λ t. is_result_type (type_at p t))) h in
-      (b.0, some_holds result (λ t. is_result_type (type_at p t)) b.1)
-  part_means (part.Forward function block) h = tt
-  part_means (part.Completing first) h = tt
+  part_means (PartRow.Variants hidden offset cells values holder) h = three _ _ _ h
+  part_means (PartRow.Variant variants position) h = both _ _ h
+  part_means (PartRow.Heading name sections result) h =
+      let b = both (goes is_section_item p at sections) (for_some result (λ t. is_result_type (type_at p t))) h in
+      (goes_on is_section_item sections b.0, some_holds result (λ t. is_result_type (type_at p t)) b.1)
+  part_means (PartRow.Forward function block) h = tt
+  part_means (PartRow.Completing first) h = tt
 
   statement_means : (s : StatementRow) → statement_fits p at s ≡ true → StatementFits p at s
-  statement_means statement.Empty h = tt
-  statement_means (statement.Assign line target value of') h = both _ _ h
-  statement_means (statement.Call line routine levels actuals) h = both _ _ h
-  statement_means (statement.CallFormal line formal levels actuals) h = both _ _ h
-  statement_means (statement.Goto line label levels) h = tt
-  statement_means (statement.Labelled label s) h = both _ _ h
-  statement_means (statement.Compound statements) h = h
-  statement_means (statement.If line condition then') h = both _ _ h
-  statement_means (statement.IfElse line condition then' otherwise) h = three _ _ _ h
-  statement_means (statement.Case line selector choices) h = both _ _ h
-  statement_means (statement.Repeat line statements condition) h = both _ _ h
-  statement_means (statement.While line condition body) h = both _ _ h
-  statement_means (statement.For line initial turns) h = both _ _ h
-  statement_means (statement.Turns direction last place of' body) h = three _ _ _ h
-  statement_means (statement.With line records body) h = both _ _ h
-  statement_means (statement.Read ends_line line actuals) h = h
-  statement_means (statement.Write ends_line line actuals) h = h
-  statement_means (statement.Page line) h = tt
-  statement_means (statement.New line a of') h = both _ _ h
-  statement_means (statement.Dispose line v of') h = both _ _ h
-  statement_means (statement.Pack packing line unpacked index packed) h = three _ _ _ h
+  statement_means StatementRow.Empty h = tt
+  statement_means (StatementRow.Assign line target value of') h = both _ _ h
+  statement_means (StatementRow.Call line routine levels actuals) h = both _ _ h
+  statement_means (StatementRow.CallFormal line formal levels actuals) h = both _ _ h
+  statement_means (StatementRow.Goto line label levels) h = tt
+  statement_means (StatementRow.Labelled label s) h = both _ _ h
+  statement_means (StatementRow.Compound statements) h = h
+  statement_means (StatementRow.If line condition then') h = both _ _ h
+  statement_means (StatementRow.IfElse line condition then' otherwise) h = three _ _ _ h
+  statement_means (StatementRow.Case line selector choices) h = both _ _ h
+  statement_means (StatementRow.Repeat line statements condition) h = both _ _ h
+  statement_means (StatementRow.While line condition body) h = both _ _ h
+  statement_means (StatementRow.For line initial turns) h = both _ _ h
+  statement_means (StatementRow.Turns direction last place of' body) h = three _ _ _ h
+  statement_means (StatementRow.With line records body) h = both _ _ h
+  statement_means (StatementRow.Read ends_line line actuals) h = h
+  statement_means (StatementRow.Write ends_line line actuals) h = h
+  statement_means (StatementRow.Page line) h = tt
+  statement_means (StatementRow.New line a of') h = both _ _ h
+  statement_means (StatementRow.Dispose line v of') h = both _ _ h
+  statement_means (StatementRow.Pack packing line unpacked index packed) h = three _ _ _ h
 
   expression_means : (e : ExpressionRow) → expression_fits p e ≡ true → ExpressionFits p e
-  expression_means (expression.Constant value) h = tt
-  expression_means (expression.Text token) h = h
-  expression_means expression.Nil h = tt
-  expression_means (expression.Sign minus operand) h = h
-  expression_means (expression.Not operand) h = h
-  expression_means (expression.Arithmetic operator left right) h = both _ _ h
-  expression_means (expression.Logic operator left right) h = both _ _ h
-  expression_means (expression.Sets operator left right) h = both _ _ h
-  expression_means (expression.Compare order left right) h = both _ _ h
-  expression_means (expression.CompareTexts order left right) h = both _ _ h
-  expression_means (expression.CompareSets order left right) h = both _ _ h
-  expression_means (expression.ComparePointers equal left right) h = both _ _ h
-  expression_means (expression.In left right) h = both _ _ h
-  expression_means (expression.Set members) h = h
-  expression_means (expression.Apply routine levels actuals) h = both _ _ h
-  expression_means (expression.ApplyFormal formal levels actuals) h = both _ _ h
-  expression_means (expression.Function function operand least greatest) h = h
-  expression_means expression.Eof h = tt
-  expression_means expression.Eoln h = tt
+  expression_means (ExpressionRow.Constant value) h = tt
+  expression_means (ExpressionRow.Text token) h = h
+  expression_means ExpressionRow.Nil h = tt
+  expression_means (ExpressionRow.Sign minus operand) h = h
+  expression_means (ExpressionRow.Not operand) h = h
+  expression_means (ExpressionRow.Arithmetic operator left right) h = both _ _ h
+  expression_means (ExpressionRow.Logic operator left right) h = both _ _ h
+  expression_means (ExpressionRow.Sets operator left right) h = both _ _ h
+  expression_means (ExpressionRow.Compare order left right) h = both _ _ h
+  expression_means (ExpressionRow.CompareTexts order left right) h = both _ _ h
+  expression_means (ExpressionRow.CompareSets order left right) h = both _ _ h
+  expression_means (ExpressionRow.ComparePointers equal left right) h = both _ _ h
+  expression_means (ExpressionRow.In left right) h = both _ _ h
+  expression_means (ExpressionRow.Set members) h = h
+  expression_means (ExpressionRow.Apply routine levels actuals) h = both _ _ h
+  expression_means (ExpressionRow.ApplyFormal formal levels actuals) h = both _ _ h
+  expression_means (ExpressionRow.Function function operand least greatest) h = h
+  expression_means ExpressionRow.Eof h = tt
+  expression_means ExpressionRow.Eoln h = tt
 
   access_means : (a : AccessRow) → access_fits p at a ≡ true → AccessFits p at a
-  access_means (access.Variable place levels of') h = h
-  access_means (access.Reference place levels of') h = h
-  access_means (access.Within record' field of') h = both _ _ h
-  access_means (access.Index inner index array of') h = five _ _ _ _ _ h
-  access_means (access.Field inner field of') h = four _ _ _ _ h
-  access_means (access.Dereference inner of') h = three _ _ _ h
+  access_means (AccessRow.Variable place levels of') h = h
+  access_means (AccessRow.Reference place levels of') h = h
+  access_means (AccessRow.Within record' field of') h = both _ _ h
+  access_means (AccessRow.Index inner index array of') h = five _ _ _ _ _ h
+  access_means (AccessRow.Field inner field of') h = four _ _ _ _ h
+  access_means (AccessRow.Dereference inner of') h = three _ _ _ h
 
   written_means : (value of' : ℕ) → written_fits p value of' ≡ true → WrittenFits p value of'
   written_means value of' h = let b = both (is_scalar p value || is_cells p value) _ h in (b.0, onward (is_scalar p value) _ b.1)
 
   item_means : (i : ItemRow) → item_fits p at i ≡ true → ItemFits p at i
-  item_means (item.Element x next) h =
-      let b = three (goes_if (is_statement p) is_element_of p at x next) (goes_if (is_record_access p) is_element_of p at x next)
-      (goes_if (is_read_access p) is_element_of p at x next) h in (
-        goes_where (is_statement p) is_element_of x next b.0,
-        goes_where (is_record_access p) is_element_of x next b.1,
-        goes_where (is_read_access p) is_element_of x next b.2,
+  item_means (ItemRow.Element x next) h =
+      let b = three (elements_go (is_statement p) p at x next) (elements_go (is_record_access p) p at x next)
+      (elements_go (is_read_access p) p at x next) h in (
+        elements_mean (is_statement p) x next b.0,
+        elements_mean (is_record_access p) x next b.1,
+        elements_mean (is_read_access p) x next b.2,
       )
-  item_means (item.Value v of' next) h = let b = both _ (goes is_actual_item p at next) h in (b.0, goes_on is_actual_item next b.1)
-  item_means (item.Place a next) h = let b = both _ (goes is_actual_item p at next) h in (b.0, goes_on is_actual_item next b.1)
-  item_means (item.Routine routine levels next) h = let b = both _ (goes is_actual_item p at next) h in (b.0, goes_on is_actual_item next b.1)
-  item_means (item.RoutineFormal formal levels next) h = let b = both _ (goes is_actual_item p at next) h in (b.0, goes_on is_actual_item next b.1)
-  item_means (item.Written v of' next) h =
+  item_means (ItemRow.Value v of' next) h = let b = both _ (goes is_actual_item p at next) h in (b.0, goes_on is_actual_item next b.1)
+  item_means (ItemRow.Place a next) h = let b = both _ (goes is_actual_item p at next) h in (b.0, goes_on is_actual_item next b.1)
+  item_means (ItemRow.Routine routine levels next) h = let b = both _ (goes is_actual_item p at next) h in (b.0, goes_on is_actual_item next b.1)
+  item_means (ItemRow.RoutineFormal formal levels next) h = let b = both _ (goes is_actual_item p at next) h in (b.0, goes_on is_actual_item next b.1)
+  item_means (ItemRow.Written v of' next) h =
       let b = both (written_fits p v of') (goes is_written_item p at next) h in (written_means v of' b.0, goes_on is_written_item next b.1)
-  item_means (item.WrittenWide v of' width next) h =
+  item_means (ItemRow.WrittenWide v of' width next) h =
       let b = three (written_fits p v of') _ (goes is_written_item p at next) h in (written_means v of' b.0, b.1, goes_on is_written_item next b.2)
-  item_means (item.Member v next) h = let b = both _ (goes is_member_item p at next) h in (b.0, goes_on is_member_item next b.1)
-  item_means (item.Members first last next) h = let b = three _ _ (goes is_member_item p at next) h in (b.0, b.1, goes_on is_member_item next b.2)
-  item_means (item.Choice value chosen next) h =
-      let b = both (goes_if (is_statement p) is_choice_of p at chosen next) (goes_if (is_variant p) is_choice_of p at chosen next) h in
-      (goes_where (is_statement p) is_choice_of chosen next b.0, goes_where (is_variant p) is_choice_of chosen next b.1)
-  item_means (item.Section mode first count next) h = let b = both _ (goes is_section_item p at next) h in (b.0, goes_on is_section_item next b.1)
-  item_means (item.RoutineSection heading next) h = let b = both _ (goes is_section_item p at next) h in (b.0, goes_on is_section_item next b.1)
+  item_means (ItemRow.Member v next) h = let b = both _ (goes is_member_item p at next) h in (b.0, goes_on is_member_item next b.1)
+  item_means (ItemRow.Members first last next) h = let b = three _ _ (goes is_member_item p at next) h in (b.0, b.1, goes_on is_member_item next b.2)
+  item_means (ItemRow.Choice value chosen next) h =
+      let b = both (choices_go (is_statement p) p at chosen next) (choices_go (is_variant p) p at chosen next) h in
+      (choices_mean (is_statement p) chosen next b.0, choices_mean (is_variant p) chosen next b.1)
+  item_means (ItemRow.Section mode first count next) h = let b = both _ (goes is_section_item p at next) h in (b.0, goes_on is_section_item next b.1)
+  item_means (ItemRow.RoutineSection heading next) h =
+      let b = three _ _ (goes is_section_item p at next) h in (b.0, b.1, goes_on is_section_item next b.2)
 
   pub row_means : (r : Row) → row_fits p at r ≡ true → RowFits p at r
-  row_means row.Nothing h = tt
-  row_means (row.Type t) h = type_means t h
-  row_means (row.Name n) h = name_means n h
-  row_means (row.Part q) h = part_means q h
-  row_means (row.Statement s) h = statement_means s h
-  row_means (row.Expression e) h = expression_means e h
-  row_means (row.Access a) h = access_means a h
-  row_means (row.Item i) h = item_means i h
+  row_means Row.Nothing h = tt
+  row_means (Row.Type t) h = type_means t h
+  row_means (Row.Name n) h = name_means n h
+  row_means (Row.Part q) h = part_means q h
+  row_means (Row.Statement s) h = statement_means s h
+  row_means (Row.Expression e) h = expression_means e h
+  row_means (Row.Access a) h = access_means a h
+  row_means (Row.Item i) h = item_means i h
 
 -- ---- all rows
 

@@ -1,6 +1,5 @@
 -- One record further in the list of a with statement.
-use Rattle.std.proofs.Common.{◌≡◌, ℕ, suc, ◌-◌, ◌+◌, ◌<◌, true, false, List, Option, Some, None, ap, ◌∙◌, arith}
-use Rattle.std.specs.Prelude.{◌&&◌, nat_le}
+use Rattle.std.proofs.Common.{◌&&◌, ◌+◌, ◌-◌, ◌<◌, ◌∙◌, ◌≡◌, ℕ, List, None, Option, Some, ap, arith, false, nat_le, suc, true}
 use Rattle.core_program.specs.ProgramRows.{ProgramRows, row_at}
 use Rattle.whole_tables.specs.Scopes.{element_of, needed, scoped_item, scoped_records}
 

@@ -1,21 +1,13 @@
 -- The test of scopes says that the records are there which constructs need.
-use Rattle.std.proofs.Common.{◌≡◌, inl, inr, ℕ, zero, suc, ◌+◌, ◌<◌, ◌≤◌, true, List, [], ◌∷◌, sym, arith}
-use Rattle.std.proofs.Common.{length, nat_lt, nat_eq, subst}
-use Rattle.std.specs.Prelude.{nat_le}
+use Rattle.std.proofs.Common.{◌+◌, ◌<◌, ◌∷◌, ◌≡◌, ◌≤◌, [], ℕ, List, arith, inl, inr, length, nat_eq, nat_le, nat_lt, subst, suc, sym, true, zero}
 use Rattle.std.proofs.lemmas.Bool.Decides.{nat_tests}
-use Rattle.core_program.specs.declared.rows.Row.{Row}
-use Rattle.core_program.specs.declared.rows.Row.TheVariants as row
-use Rattle.core_program.specs.declared.rows.ItemRow.TheVariants as item
-use Rattle.core_program.specs.declared.rows.StatementRow.TheVariants as statement
-use Rattle.core_program.specs.declared.rows.AccessRow.TheVariants as access
+use Rattle.core_program.proofs.{ActionsMeant.no, WholeActions.below_length, WholeParts.and_both}
 use Rattle.core_program.specs.ProgramRows.{ProgramRows, row_at}
 use Rattle.core_program.specs.WholeTables.{Each, ScopedItem, ScopedRecords, ScopedRow, parts_of}
-use Rattle.core_program.proofs.ActionsMeant.{no}
-use Rattle.core_program.proofs.WholeParts.{and_both}
-use Rattle.core_program.proofs.WholeActions.{below_length}
+use Rattle.core_program.specs.declared.rows.{AccessRow.AccessRow, ItemRow.ItemRow, Row.Row, StatementRow.StatementRow}
+use Rattle.whole_tables.proofs.RowsFit.{below}
 use Rattle.whole_tables.specs.Fits.{all_below}
 use Rattle.whole_tables.specs.Scopes.{each_of, element_of, needed, scoped_item, scoped_records, scoped_row}
-use Rattle.whole_tables.proofs.RowsFit.{below}
 
 less : (a b : ℕ) → nat_lt a b ≡ true → a < b
 less a b h = grind (arith, nat_tests)
@@ -36,7 +28,7 @@ module _ (p : ProgramRows) (column : List ℕ) where
   item_means : (n w body : ℕ) → ((v next : ℕ) → scoped_records p column n v next body ≡ true → ScopedRecords p (needed column) n v next body)
       → (r : Row) → scoped_item column (λ v next. scoped_records p column n v next body) w body (element_of r) ≡ true
       → ScopedItem (needed column) (λ v next. ScopedRecords p (needed column) n v next body) w body r
-  item_means n w body more (row.Item (item.Element a next)) h =
+  item_means n w body more (Row.Item (ItemRow.Element a next)) h =
       let b = and_both (nat_le (needed column a) w) (scoped_records p column n (w + 1) next body) h in
       (at_most (needed column a) w b.0, more (w + 1) next b.1)
   item_means n w body more r h = at_most (needed column body) w h
@@ -46,8 +38,8 @@ module _ (p : ProgramRows) (column : List ℕ) where
   records_mean (suc n) w at body h = item_means n w body (λ v next. records_mean n v next body) (row_at p at) h
 
   pub scope_means : (at : ℕ) (r : Row) → scoped_row p column (length p.rows) at r ≡ true → ScopedRow p (needed column) at r
-  scope_means at (row.Access (access.Within record' field of')) h = less record' (needed column at) h
-  scope_means at (row.Statement (statement.With line records body)) h =
+  scope_means at (Row.Access (AccessRow.Within record' field of')) h = less record' (needed column at) h
+  scope_means at (Row.Statement (StatementRow.With line records body)) h =
       records_mean (length p.rows) (needed column at) records body h
   scope_means at r h = each_means (needed column at) (parts_of r) h
 

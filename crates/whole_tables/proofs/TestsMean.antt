@@ -1,34 +1,26 @@
 -- Tables that pass the tests are whole.
-use Rattle.std.proofs.Common.{◌≡◌, ℕ, zero, suc, ◌<◌, negsuc, pos, Bool, true, false, List, [], ◌∷◌, Option, Some, None, refl, sym, ap, ◌∙◌, arith}
-use Rattle.std.proofs.Common.{length, nat_lt, is_some, slice_get}
-use Rattle.std.specs.Prelude.{◌||◌, IsSome, nat_eq}
-use Rattle.std.specs.Ordering.{int_eq}
-use Rattle.std.proofs.lemmas.Bool.Decides.{Decides-int_eq, nat_tests}
-use Rattle.core_program.specs.declared.program.Routine.{Routine}
-use Rattle.core_program.specs.declared.rows.TypeRow.{TypeRow}
-use Rattle.core_program.specs.declared.rows.TypeRow.TheVariants as kind
-use Rattle.core_program.specs.ProgramRows.{ProgramRows, row_at, routine_at, type_at}
-use Rattle.core_program.specs.Headings.{signature_at}
+use Rattle.std.proofs.Common.{◌<◌, ◌||◌, ◌∙◌, ◌∷◌, ◌≡◌, [], ℕ, Bool, IsSome, List, None, Option, Some, ap, arith, false, is_some, length, nat_eq, nat_lt}
+use Rattle.std.proofs.Common.{negsuc, pos, refl, slice_get, suc, sym, true, zero}
+use Rattle.std.{proofs.lemmas.Bool.Decides.Decides-int_eq, proofs.lemmas.Bool.Decides.nat_tests, specs.Ordering.int_eq}
+use Rattle.core_program.proofs.{ActionsMeant.no, WholeParts.and_both, WholeParts.or_second}
+use Rattle.core_program.specs.{Headings.signature_at, declared.program.Routine.Routine, declared.rows.TypeRow.TypeRow}
+use Rattle.core_program.specs.ProgramRows.{ProgramRows, routine_at, row_at, type_at}
 use Rattle.core_program.specs.WholeTables.{RoutineFits, WholeTables, has_result, is_element_of, is_list, is_statement}
-use Rattle.core_program.proofs.ActionsMeant.{no}
-use Rattle.core_program.proofs.WholeParts.{and_both, or_second}
+use Rattle.whole_tables.proofs.{RowsFit.below, RowsFit.four, RowsFit.rows_mean, RowsFit.three, Scoped.same, Scoped.scopes_mean}
+use Rattle.whole_tables.specs.{Once.IsOnce, Scopes.are_all_scoped, Scopes.needed, Scopes.outermost, Scopes.scoped_row}
 use Rattle.whole_tables.specs.Fits.{all_below, do_all_fit, is_integer, routine_fits, same_bool}
-use Rattle.whole_tables.specs.Once.{IsOnce}
-use Rattle.whole_tables.specs.Scopes.{are_all_scoped, needed, outermost, scoped_row}
-use Rattle.whole_tables.proofs.RowsFit.{below, four, rows_mean, three}
-use Rattle.whole_tables.proofs.Scoped.{scopes_mean, same}
 
-integer_means : (t : Option TypeRow) → is_integer t ≡ true → t ≡ Some (kind.Ordinal (negsuc 2147483646) (pos 2147483647))
-integer_means (Some (kind.Ordinal least greatest)) h =
+integer_means : (t : Option TypeRow) → is_integer t ≡ true → t ≡ Some (TypeRow.Ordinal (negsuc 2147483646) (pos 2147483647))
+integer_means (Some (TypeRow.Ordinal least greatest)) h =
     let b = and_both (int_eq least (negsuc 2147483646)) (int_eq greatest (pos 2147483647)) h in
     let l = (Decides-int_eq least (negsuc 2147483646)).0 b.0 in
     let g = (Decides-int_eq greatest (pos 2147483647)).0 b.1 in
-    λ i. Some (kind.Ordinal (l i) (g i))
-integer_means (Some (kind.Subrange host least greatest)) h = no h
-integer_means (Some (kind.Set packed base)) h = no h
-integer_means (Some (kind.Pointer domain)) h = no h
-integer_means (Some (kind.Array packed index component cells)) h = no h
-integer_means (Some (kind.Record packed region cells variants)) h = no h
+    λ i. Some (TypeRow.Ordinal (l i) (g i))
+integer_means (Some (TypeRow.Subrange host least greatest)) h = no h
+integer_means (Some (TypeRow.Set packed base)) h = no h
+integer_means (Some (TypeRow.Pointer domain)) h = no h
+integer_means (Some (TypeRow.Array packed index component cells)) h = no h
+integer_means (Some (TypeRow.Record packed region cells variants)) h = no h
 integer_means None h = no h
 
 bools : (a b : Bool) → same_bool a b ≡ true → a ≡ b

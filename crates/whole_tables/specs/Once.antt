@@ -1,7 +1,6 @@
 -- No two constructs have a part in common, and none has one twice.
-use Rattle.std.specs.Prelude.{◌≡◌, ℕ, false, Some}
-use Rattle.core_program.specs.ProgramRows.{ProgramRows}
-use Rattle.core_program.specs.WholeTables.{may_share, part_at}
+use Rattle.std.specs.Prelude.{◌≡◌, ℕ, Some, false}
+use Rattle.core_program.specs.{ProgramRows.ProgramRows, WholeTables.may_share, WholeTables.part_at}
 
 abbrev pub IsOnce : ProgramRows → Type 0
 IsOnce p = (a i b j n : ℕ) → part_at p a i ≡ Some n → part_at p b j ≡ Some n → may_share p a b n ≡ false

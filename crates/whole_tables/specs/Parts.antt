@@ -1,17 +1,26 @@
 -- The parts of a construct, at most three, and which constructs they are parts of.
-use Rattle.std.specs.Prelude.{ℕ, suc, ◌&&◌, List, [], ◌∷◌, Option, Some, None, slice_get, slice_set}
-use Rattle.std.specs.Prelude.{if◌then◌else◌}
-use Rattle.core_program.specs.ProgramRows.{ProgramRows, row_at}
+use Rattle.std.specs.Prelude.{if◌then◌else◌, ◌&&◌, ◌∷◌, [], ℕ, List, None, Option, Some, slice_get, slice_set, suc}
+use Rattle.core_program.specs.{ProgramRows.ProgramRows, ProgramRows.row_at, declared.rows.StatementRow.StatementRow}
 use Rattle.core_program.specs.WholeTables.{is_choice_row, is_common_row}
-use Rattle.whole_tables.specs.declared.parts.Parts.{Parts}
-use Rattle.whole_tables.specs.declared.parts.Parts.TheVariants as parts
-use Rattle.whole_tables.specs.declared.once.Naming.{Naming}
+use Rattle.whole_tables.specs.declared.{once.Naming.Naming, parts.Parts.Parts}
 
 abbrev pub listed : Parts → List ℕ
-listed parts.Nothing = []
-listed (parts.One a) = a ∷ []
-listed (parts.Two a b) = a ∷ b ∷ []
-listed (parts.Three a b c) = a ∷ b ∷ c ∷ []
+listed Parts.Nothing = []
+listed (Parts.One a) = a ∷ []
+listed (Parts.Two a b) = a ∷ b ∷ []
+listed (Parts.Three a b c) = a ∷ b ∷ c ∷ []
+
+-- the parts of a conditional, a repetitive or a with statement
+abbrev pub structured_parts_of : StatementRow → List ℕ
+structured_parts_of (StatementRow.If line condition then') = condition ∷ then' ∷ []
+structured_parts_of (StatementRow.IfElse line condition then' otherwise) = condition ∷ then' ∷ otherwise ∷ []
+structured_parts_of (StatementRow.Case line selector choices) = selector ∷ choices ∷ []
+structured_parts_of (StatementRow.Repeat line statements condition) = statements ∷ condition ∷ []
+structured_parts_of (StatementRow.While line condition body) = condition ∷ body ∷ []
+structured_parts_of (StatementRow.For line initial turns) = initial ∷ turns ∷ []
+structured_parts_of (StatementRow.Turns direction last place of' body) = last ∷ body ∷ []
+structured_parts_of (StatementRow.With line records body) = records ∷ body ∷ []
+structured_parts_of s = []
 
 -- ---- which construct names each number
 

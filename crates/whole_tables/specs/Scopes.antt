@@ -1,15 +1,10 @@
 -- Whether the records of with statements are there that constructs need, as a test: by a column of how many each
 -- construct needs around it.
-use Rattle.std.specs.Prelude.{ℕ, zero, suc, ◌+◌, Bool, true, false, ◌&&◌, nat_lt, nat_le, nat_eq, List, [], ◌∷◌, length}
-use Rattle.std.specs.Prelude.{Option, Some, None, slice_get, unwrap_or}
-use Rattle.core_program.specs.declared.program.Routine.{Routine}
-use Rattle.core_program.specs.declared.rows.Row.{Row}
-use Rattle.core_program.specs.declared.rows.Row.TheVariants as row
-use Rattle.core_program.specs.declared.rows.ItemRow.TheVariants as item
-use Rattle.core_program.specs.declared.rows.StatementRow.TheVariants as statement
-use Rattle.core_program.specs.declared.rows.AccessRow.TheVariants as access
-use Rattle.core_program.specs.ProgramRows.{ProgramRows, row_at, routine_at}
-use Rattle.core_program.specs.WholeTables.{parts_of}
+use Rattle.std.specs.Prelude.{◌&&◌, ◌+◌, ◌∷◌, [], ℕ, Bool, List, None, Option, Some, false, length, nat_eq, nat_le}
+use Rattle.std.specs.Prelude.{nat_lt, slice_get, suc, true, unwrap_or, zero}
+use Rattle.core_program.specs.{WholeTables.parts_of, declared.program.Routine.Routine}
+use Rattle.core_program.specs.ProgramRows.{ProgramRows, routine_at, row_at}
+use Rattle.core_program.specs.declared.rows.{AccessRow.AccessRow, ItemRow.ItemRow, Row.Row, StatementRow.StatementRow}
 use Rattle.whole_tables.specs.Fits.{all_below}
 
 -- how many records of with statements a construct needs around it
@@ -22,7 +17,7 @@ each_of test (n ∷ ns) = test n && each_of test ns
 
 -- the element of a list, and the number of the next one
 abbrev pub element_of : Row → Option (ℕ × ℕ)
-element_of (row.Item (item.Element a next)) = Some (a, next)
+element_of (Row.Item (ItemRow.Element a next)) = Some (a, next)
 element_of r = None
 
 abbrev pub scoped_item : List ℕ → (more : (records at : ℕ) → Bool) → (records body : ℕ) → Option (ℕ × ℕ) → Bool
@@ -36,8 +31,8 @@ scoped_records p column (suc n) w at body =
 
 -- of so many rows
 abbrev pub scoped_row : ProgramRows → List ℕ → (rows at : ℕ) → Row → Bool
-scoped_row p column rows at (row.Access (access.Within record' field of')) = nat_lt record' (needed column at)
-scoped_row p column rows at (row.Statement (statement.With line records body)) =
+scoped_row p column rows at (Row.Access (AccessRow.Within record' field of')) = nat_lt record' (needed column at)
+scoped_row p column rows at (Row.Statement (StatementRow.With line records body)) =
     scoped_records p column rows (needed column at) records body
 scoped_row p column rows at r = each_of (λ n. nat_le (needed column n) (needed column at)) (parts_of r)
 

@@ -1,6 +1,6 @@
 //! Whether a row names rows of the kinds that its places take.
 
-ghost use Rattle.std.specs.Prelude.{◌≡◌, ◌&&◌};
+ghost use Rattle.std.specs.Prelude.{◌&&◌, ◌≡◌};
 ghost use Rattle.core_program.specs.WholeTables as whole;
 ghost use Rattle.whole_tables.specs.Fits as fits;
 
@@ -12,8 +12,8 @@ use crate::kinds::{
 };
 use crate::lists::{
     actuals_go, choices_go, elements_go, is_actual_list, is_case_list, is_member_list,
-    is_read_list, is_record_list, is_section_list, is_statement_list, is_variant_list,
-    is_written_list, members_go, sections_go, written_go,
+    is_read_list, is_record_list, is_statement_list, is_variant_list, is_written_list, members_go,
+    sections_go, written_go,
 };
 use core_program::rows::{
     AccessRow, ExpressionRow, ItemRow, NameRow, PartRow, Row, StatementRow, TypeRow,
@@ -82,7 +82,7 @@ fn part_fits(program: &ProgramTables, at: u32, row: PartRow) -> bool
             result,
             ..
         } => {
-            is_section_list(program, sections)
+            sections_go(program, at, sections)
                 && match result {
                     None => true,
                     Some(of) => is_result_type(program.type_row(of)),
@@ -96,7 +96,6 @@ fn statement_fits(program: &ProgramTables, at: u32, row: StatementRow) -> bool
     ensures { result ≡ fits.statement_fits program.now at row }
 {
     match row {
-        StatementRow::Empty => true,
         StatementRow::Assign {
             target,
             value,
@@ -113,11 +112,22 @@ fn statement_fits(program: &ProgramTables, at: u32, row: StatementRow) -> bool
             actuals,
             ..
         } => is_formal(program, formal) && is_actual_list(program, actuals),
-        StatementRow::Goto { .. } => true,
         StatementRow::Labelled { statement, .. } => {
             is_statement(program, statement) && at < statement
         }
-        StatementRow::Page { .. } => true,
+        StatementRow::Compound { statements } => is_statement_list(program, statements),
+        StatementRow::With { records, body, .. } => {
+            is_record_list(program, records) && is_statement(program, body)
+        }
+        _ => required_fits(program, row),
+    }
+}
+
+/// A call of a required procedure, or another statement.
+fn required_fits(program: &ProgramTables, row: StatementRow) -> bool
+    ensures { result ≡ fits.required_fits program.now row }
+{
+    match row {
         StatementRow::Read { actuals, .. } => is_read_list(program, actuals),
         StatementRow::Write { actuals, .. } => is_written_list(program, actuals),
         StatementRow::New { access, of, .. } => is_access(program, access) && is_type(program, of),
@@ -134,15 +144,15 @@ fn statement_fits(program: &ProgramTables, at: u32, row: StatementRow) -> bool
                 && is_scalar(program, index)
                 && is_array_access(program, packed)
         }
-        _ => structured_fits(program, row),
+        _ => choosing_fits(program, row),
     }
 }
 
-fn structured_fits(program: &ProgramTables, row: StatementRow) -> bool
-    ensures { result ≡ fits.structured_fits program.now row }
+/// A conditional statement, or another one.
+fn choosing_fits(program: &ProgramTables, row: StatementRow) -> bool
+    ensures { result ≡ fits.choosing_fits program.now row }
 {
     match row {
-        StatementRow::Compound { statements } => is_statement_list(program, statements),
         StatementRow::If {
             condition,
             then,
@@ -163,6 +173,15 @@ fn structured_fits(program: &ProgramTables, row: StatementRow) -> bool
             choices,
             ..
         } => is_scalar(program, selector) && is_case_list(program, choices),
+        _ => repeated_fits(program, row),
+    }
+}
+
+/// A repetitive statement, or another one.
+fn repeated_fits(program: &ProgramTables, row: StatementRow) -> bool
+    ensures { result ≡ fits.repeated_fits program.now row }
+{
+    match row {
         StatementRow::Repeat {
             statements,
             condition,
@@ -178,9 +197,6 @@ fn structured_fits(program: &ProgramTables, row: StatementRow) -> bool
         }
         StatementRow::Turns { last, of, body, .. } => {
             is_scalar(program, last) && is_ordinal(program, of) && is_statement(program, body)
-        }
-        StatementRow::With { records, body, .. } => {
-            is_record_list(program, records) && is_statement(program, body)
         }
         _ => true,
     }
@@ -265,11 +281,10 @@ fn written_fits(program: &ProgramTables, value: u32, of: u32) -> bool
         && (!is_scalar(program, value) || is_ordinal(program, of))
 }
 
-fn item_fits(program: &ProgramTables, at: u32, row: ItemRow) -> bool
-    ensures { result ≡ fits.item_fits program.now at row }
+fn actual_fits(program: &ProgramTables, at: u32, row: ItemRow) -> bool
+    ensures { result ≡ fits.actual_fits program.now at row }
 {
     match row {
-        ItemRow::Element { item, next } => elements_go(program, at, item, next),
         ItemRow::Value { value, of, next } => {
             is_value_for(program, of, value) && actuals_go(program, at, next)
         }
@@ -282,6 +297,15 @@ fn item_fits(program: &ProgramTables, at: u32, row: ItemRow) -> bool
         ItemRow::RoutineFormal { formal, next, .. } => {
             is_formal(program, formal) && actuals_go(program, at, next)
         }
+        _ => true,
+    }
+}
+
+fn item_fits(program: &ProgramTables, at: u32, row: ItemRow) -> bool
+    ensures { result ≡ fits.item_fits program.now at row }
+{
+    match row {
+        ItemRow::Element { item, next } => elements_go(program, at, item, next),
         ItemRow::Written { value, of, next } => {
             written_fits(program, value, of) && written_go(program, at, next)
         }
@@ -306,8 +330,9 @@ fn item_fits(program: &ProgramTables, at: u32, row: ItemRow) -> bool
             is_variable_row(program.row(first)) && sections_go(program, at, next)
         }
         ItemRow::RoutineSection { heading, next } => {
-            is_heading(program, heading) && sections_go(program, at, next)
+            is_heading(program, heading) && at < heading && sections_go(program, at, next)
         }
+        _ => actual_fits(program, at, row),
     }
 }
 

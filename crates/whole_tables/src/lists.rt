@@ -1,8 +1,9 @@
 //! What stands where a list begins or goes on.
 
-ghost use Rattle.std.specs.Prelude.{◌≡◌, ◌&&◌, ◌||◌, nat_lt};
+ghost use Rattle.std.specs.Prelude.{◌&&◌, ◌||◌, ◌≡◌, nat_lt};
 ghost use Rattle.core_program.specs.WholeTables as whole;
-ghost use Rattle.whole_tables.specs.Fits.{goes, goes_if};
+ghost use Rattle.whole_tables.specs.Fits.{goes};
+ghost use Rattle.whole_tables.specs.Fits as fits;
 
 use crate::kinds::{is_read_access, is_record_access, is_statement, is_variant};
 use core_program::ProgramTables;
@@ -72,7 +73,7 @@ pub(crate) fn is_member_list(program: &ProgramTables, at: u32) -> bool
 }
 
 /// Whether a list of sections of formal parameters begins at a number.
-pub(crate) fn is_section_list(program: &ProgramTables, at: u32) -> bool
+fn is_section_list(program: &ProgramTables, at: u32) -> bool
     ensures { result ≡ whole.is_list whole.is_section_item program.now at }
 {
     at == LIST_END || is_section_item(program.row(at))
@@ -193,28 +194,28 @@ pub(crate) fn sections_go(program: &ProgramTables, at: u32, next: u32) -> bool
 }
 
 fn statements_go(program: &ProgramTables, at: u32, item: u32, next: u32) -> bool
-    ensures { result ≡ goes_if (whole.is_statement program.now) whole.is_element_of program.now at item next }
+    ensures { result ≡ fits.elements_go (whole.is_statement program.now) program.now at item next }
 {
     !is_statement(program, item) || (is_statement_list(program, next) && comes_next(at, next))
 }
 
 fn records_go(program: &ProgramTables, at: u32, item: u32, next: u32) -> bool
-    ensures { result ≡ goes_if (whole.is_record_access program.now) whole.is_element_of program.now at item next }
+    ensures { result ≡ fits.elements_go (whole.is_record_access program.now) program.now at item next }
 {
     !is_record_access(program, item) || (is_record_list(program, next) && comes_next(at, next))
 }
 
 fn reads_go(program: &ProgramTables, at: u32, item: u32, next: u32) -> bool
-    ensures { result ≡ goes_if (whole.is_read_access program.now) whole.is_element_of program.now at item next }
+    ensures { result ≡ fits.elements_go (whole.is_read_access program.now) program.now at item next }
 {
     !is_read_access(program, item) || (is_read_list(program, next) && comes_next(at, next))
 }
 
 /// Whether a list goes on from an element.
 pub(crate) fn elements_go(program: &ProgramTables, at: u32, item: u32, next: u32) -> bool
-    ensures { result ≡ (goes_if (whole.is_statement program.now) whole.is_element_of program.now at item next
-        && goes_if (whole.is_record_access program.now) whole.is_element_of program.now at item next
-        && goes_if (whole.is_read_access program.now) whole.is_element_of program.now at item next) }
+    ensures { result ≡ (fits.elements_go (whole.is_statement program.now) program.now at item next
+        && fits.elements_go (whole.is_record_access program.now) program.now at item next
+        && fits.elements_go (whole.is_read_access program.now) program.now at item next) }
 {
     statements_go(program, at, item, next)
         && records_go(program, at, item, next)
@@ -222,21 +223,21 @@ pub(crate) fn elements_go(program: &ProgramTables, at: u32, item: u32, next: u32
 }
 
 fn cases_go(program: &ProgramTables, at: u32, chosen: u32, next: u32) -> bool
-    ensures { result ≡ goes_if (whole.is_statement program.now) whole.is_choice_of program.now at chosen next }
+    ensures { result ≡ fits.choices_go (whole.is_statement program.now) program.now at chosen next }
 {
     !is_statement(program, chosen) || (is_case_list(program, next) && comes_next(at, next))
 }
 
 fn variants_go(program: &ProgramTables, at: u32, chosen: u32, next: u32) -> bool
-    ensures { result ≡ goes_if (whole.is_variant program.now) whole.is_choice_of program.now at chosen next }
+    ensures { result ≡ fits.choices_go (whole.is_variant program.now) program.now at chosen next }
 {
     !is_variant(program, chosen) || (is_variant_list(program, next) && comes_next(at, next))
 }
 
 /// Whether a list goes on from a constant.
 pub(crate) fn choices_go(program: &ProgramTables, at: u32, chosen: u32, next: u32) -> bool
-    ensures { result ≡ (goes_if (whole.is_statement program.now) whole.is_choice_of program.now at chosen next
-        && goes_if (whole.is_variant program.now) whole.is_choice_of program.now at chosen next) }
+    ensures { result ≡ (fits.choices_go (whole.is_statement program.now) program.now at chosen next
+        && fits.choices_go (whole.is_variant program.now) program.now at chosen next) }
 {
     cases_go(program, at, chosen, next) && variants_go(program, at, chosen, next)
 }

@@ -1,10 +1,9 @@
 //! That no two constructs have a part in common.
 
-ghost use Rattle.std.specs.Prelude.{◌≡◌, ◌∷◌, [], true, Some, is_some, length, slice_set, IfOk};
-ghost use Rattle.core_program.specs.ProgramRows.{row_at};
+ghost use Rattle.std.specs.Prelude.{◌∷◌, ◌≡◌, [], IfOk, Some, is_some, length, slice_set, true};
 ghost use Rattle.core_program.specs.WholeTables as whole;
-ghost use Rattle.whole_tables.specs.Parts as parts;
 ghost use Rattle.whole_tables.specs.Once.{IsOnce};
+ghost use Rattle.whole_tables.specs.Parts as parts;
 
 use crate::parts::{Parts, parts_of};
 use core_program::ProgramTables;

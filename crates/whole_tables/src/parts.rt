@@ -3,7 +3,7 @@
 ghost use Rattle.std.specs.Prelude.{◌≡◌};
 ghost use Rattle.core_program.specs.WholeTables as whole;
 ghost use Rattle.core_program.specs.declared.rows.Row.TheVariants as rows;
-ghost use Rattle.whole_tables.specs.Parts.{listed};
+ghost use Rattle.whole_tables.specs.Parts.{listed, structured_parts_of};
 
 use core_program::rows::{AccessRow, ExpressionRow, ItemRow, Row, StatementRow};
 
@@ -16,15 +16,11 @@ pub(crate) enum Parts {
     Three(u32, u32, u32),
 }
 
-fn statement_parts(row: StatementRow) -> Parts
-    ensures { listed result ≡ whole.parts_of (rows.Statement row) }
+/// The parts of a conditional, a repetitive or a with statement.
+fn structured_parts(row: StatementRow) -> Parts
+    ensures { listed result ≡ structured_parts_of row }
 {
     match row {
-        StatementRow::Assign { target, value, .. } => Parts::Two(target, value),
-        StatementRow::Call { actuals, .. } => Parts::One(actuals),
-        StatementRow::CallFormal { actuals, .. } => Parts::One(actuals),
-        StatementRow::Labelled { statement, .. } => Parts::One(statement),
-        StatementRow::Compound { statements } => Parts::One(statements),
         StatementRow::If {
             condition,
             then,
@@ -54,6 +50,19 @@ fn statement_parts(row: StatementRow) -> Parts
         StatementRow::For { initial, turns, .. } => Parts::Two(initial, turns),
         StatementRow::Turns { last, body, .. } => Parts::Two(last, body),
         StatementRow::With { records, body, .. } => Parts::Two(records, body),
+        _ => Parts::Nothing,
+    }
+}
+
+fn statement_parts(row: StatementRow) -> Parts
+    ensures { listed result ≡ whole.parts_of (rows.Statement row) }
+{
+    match row {
+        StatementRow::Assign { target, value, .. } => Parts::Two(target, value),
+        StatementRow::Call { actuals, .. } => Parts::One(actuals),
+        StatementRow::CallFormal { actuals, .. } => Parts::One(actuals),
+        StatementRow::Labelled { statement, .. } => Parts::One(statement),
+        StatementRow::Compound { statements } => Parts::One(statements),
         StatementRow::Read { actuals, .. } => Parts::One(actuals),
         StatementRow::Write { actuals, .. } => Parts::One(actuals),
         StatementRow::New { access, .. } => Parts::One(access),
@@ -64,7 +73,7 @@ fn statement_parts(row: StatementRow) -> Parts
             packed,
             ..
         } => Parts::Three(unpacked, index, packed),
-        _ => Parts::Nothing,
+        _ => structured_parts(row),
     }
 }
 

@@ -2,9 +2,8 @@
 
 ghost use Rattle.std.specs.Prelude.{◌≡◌, nat_le};
 ghost use Rattle.core_program.specs.ProgramRows.{row_at};
-ghost use Rattle.whole_tables.specs.Parts.{listed};
+ghost use Rattle.whole_tables.specs.{Parts.listed, Scopes.each_of};
 ghost use Rattle.whole_tables.specs.Scopes as scopes;
-ghost use Rattle.whole_tables.specs.Scopes.{each_of};
 
 use crate::parts::{Parts, parts_of};
 use core_program::rows::{AccessRow, ItemRow, Row, StatementRow};
@@ -158,7 +157,7 @@ impl Around {
         Ok(())
     }
 
-    /// A construct is given its records, unless it has as few already.
+    /// A construct is given its records, unless it has as few already. It is gone over when it is reached first.
     fn give(
         &mut self,
         program: &ProgramTables,
@@ -169,7 +168,11 @@ impl Around {
         if number >= self.column.len() || self.column[number] <= records {
             return Ok(());
         }
+        let was_reached = self.column[number] != u32::MAX;
         self.column[number] = records;
+        if was_reached {
+            return Ok(());
+        }
         match program.row(construct) {
             Row::Statement(
                 StatementRow::With {

@@ -1,10 +1,10 @@
 //! Whether tables are whole.
 
-ghost use Rattle.std.specs.Prelude.{◌≡◌, true, length, IfOk};
-ghost use Rattle.core_program.specs.ProgramRows.{row_at, routine_at, type_at};
+ghost use Rattle.std.specs.Prelude.{◌≡◌, IfOk, length, true};
+ghost use Rattle.core_program.specs.ProgramRows.{routine_at, row_at, type_at};
 ghost use Rattle.core_program.specs.WholeTables.{WholeTables};
-ghost use Rattle.whole_tables.specs.Fits as fits;
 ghost use Rattle.whole_tables.specs.Fits.{all_below};
+ghost use Rattle.whole_tables.specs.Fits as fits;
 ghost use Rattle.whole_tables.specs.Scopes as scopes;
 
 use crate::fits::{routine_fits, row_fits};

@@ -1,10 +1,8 @@
 use Rattle.std.proofs.Common.{◌∙◌, ℕ, ap, map, take}
 use Rattle.web_page.specs.Turns.{file_given}
-use Rattle.web_exports.specs.Passed.{TurnPassed, given_in}
-use Rattle.web_exports.specs.Returned.{result_in}
-use Rattle.web_exports.proofs.MemoryRunsOut.{memory_out}
-use Rattle.web_exports.proofs.TurnIsPassed.{given_same, result_same, turn_passed}
+use Rattle.web_exports.proofs.{MemoryRunsOut.memory_out, TurnIsPassed.given_same, TurnIsPassed.result_same, TurnIsPassed.turn_passed}
 use Rattle.web_exports.proofs.pasask_turn.Goals as goal
+use Rattle.web_exports.specs.{Passed.TurnPassed, Passed.given_in, Returned.result_in}
 
 pub returns-in-Ok-clause-turn : goal.returns-in-Ok-clause-turn
 returns-in-Ok-clause-turn c =

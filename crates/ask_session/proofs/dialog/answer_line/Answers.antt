@@ -1,12 +1,12 @@
-use Rattle.std.proofs.Common.{true, refl}
-use Rattle.dialog_replies.specs.declared.instructions.Instruction.TheVariants as asks
-use Rattle.ask_session.specs.Turned.{DialogMoment}
+use Rattle.std.proofs.Common.{refl, true}
+use Rattle.dialog_replies.specs.declared.instructions.Instruction.{Instruction}
 use Rattle.ask_session.proofs.LineIsAnswered.{Asks, breaks_off, ends_by, replies_so, saves_so}
 use Rattle.ask_session.proofs.dialog.answer_line.Goals as goal
+use Rattle.ask_session.specs.Turned.{DialogMoment}
 
 pub returns-in-Quit-clause-answers : goal.returns-in-Quit-clause-answers
 returns-in-Quit-clause-answers g c =
-    (ends_by c.args.line.now asks.Quit (record { short = c.requires.short; is = c.in-Quit.ensures }) true refl, refl)
+    (ends_by c.args.line.now Instruction.Quit (record { short = c.requires.short; is = c.in-Quit.ensures }) true refl, refl)
 
 pub returns-in-Save-clause-answers : goal.returns-in-Save-clause-answers
 returns-in-Save-clause-answers g c =
@@ -22,7 +22,7 @@ pub returns-in-Ok-clause-answers : goal.returns-in-Ok-clause-answers
 returns-in-Ok-clause-answers g c =
     let files = g.K.Keeper.files in
     let counts = g.K.Keeper.counts in
-    let line : Asks c.args.line.now (asks.Command c.in-Command.command) = record { short = c.requires.short; is = c.in-Command.ensures } in
+    let line : Asks c.args.line.now (Instruction.Command c.in-Command.command) = record { short = c.requires.short; is = c.in-Command.ensures } in
     let old : DialogMoment = record { entries = c.args.debug.now.book.entries; files = files c.args.keeper.now; counts = counts c.args.keeper.now } in
     replies_so (g.D.Debugged.subject c.args.run.now) c.args.start.now (record { line = c.args.line.now; moment = old }) c.answer.new.debug.book.entries
     c.in-Ok.reply c.in-Command.command line c.in-Ok.ensures.outcome

@@ -1,10 +1,8 @@
-use Rattle.std.proofs.Common.{◌≡◌, [], false, refl, ap, sym, ◌∙◌, append-nil}
-use Rattle.edge_ports.specs.Lines.{handed_lines}
-use Rattle.edge_ports.proofs.PiecesAddUp.{moves_more, took_nothing}
-use Rattle.ask_session.specs.Outside.{Outside}
-use Rattle.ask_session.specs.Turned.{DialogStage}
+use Rattle.std.proofs.Common.{◌∙◌, ◌≡◌, [], ap, append-nil, false, refl, sym}
+use Rattle.edge_ports.{proofs.PiecesAddUp.moves_more, proofs.PiecesAddUp.took_nothing, specs.Lines.handed_lines}
 use Rattle.ask_session.proofs.DialogEnds.{answered_more, first_stage, heard_of, none_answered, stage, talk_ends, talked_of}
 use Rattle.ask_session.proofs.dialog.answer_lines.Goals as goal
+use Rattle.ask_session.specs.{Outside.Outside, Turned.DialogStage}
 
 pub lines-init : goal.lines-init
 lines-init g c =

@@ -1,11 +1,9 @@
-use Rattle.std.proofs.Common.{◌≡◌, ◌-◌, IsTrue}
-use Rattle.std.specs.Io.KnownBytes.{IsAtEnd}
-use Rattle.edge_ports.specs.Lines.{Moves}
-use Rattle.edge_ports.specs.Limits.{console_bytes}
+use Rattle.std.{proofs.Common.◌-◌, proofs.Common.◌≡◌, proofs.Common.IsTrue, specs.Io.KnownBytes.IsAtEnd}
+use Rattle.edge_ports.specs.{Limits.console_bytes, Lines.Moves}
 use Rattle.dialog_replies.specs.Kept.{IsSearchOf}
-use Rattle.ask_session.specs.Turned.{Answered}
 use Rattle.ask_session.proofs.DialogEnds.{first_stage, stage}
 use Rattle.ask_session.proofs.dialog.answer_lines.Given as goal
+use Rattle.ask_session.specs.Turned.{Answered}
 
 abbrev pub invariant-lines : goal.invariant-lines
 invariant-lines g l =

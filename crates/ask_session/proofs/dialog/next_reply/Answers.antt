@@ -1,11 +1,9 @@
 use Rattle.std.proofs.Common.{ℕ, List, Ok, subst}
-use Rattle.edge_ports.specs.declared.lines.Turn.{Turn}
-use Rattle.edge_ports.specs.declared.lines.Turn.TheVariants.{Line, TooLong}
-use Rattle.edge_ports.specs.Lines.{handed_lines}
-use Rattle.edge_ports.specs.Turns.{HandedBy}
-use Rattle.ask_session.specs.Turned.{AnswersLine, DialogMoment}
+use Rattle.edge_ports.specs.{Lines.handed_lines, Turns.HandedBy}
+use Rattle.edge_ports.specs.declared.lines.Turn.{Turn, TheVariants.Line, TheVariants.TooLong}
 use Rattle.ask_session.proofs.LineIsAnswered.{next_of}
 use Rattle.ask_session.proofs.dialog.next_reply.Goals as goal
+use Rattle.ask_session.specs.Turned.{AnswersLine, DialogMoment}
 
 pub returns-in-Ok-Line-clause-reply : goal.returns-in-Ok-Line-clause-reply
 returns-in-Ok-Line-clause-reply g c =

@@ -1,9 +1,8 @@
-use Rattle.std.proofs.Common.{ℕ, List, [], inl, refl, arith, subst, ◌∙◌}
+use Rattle.std.proofs.Common.{◌∙◌, [], ℕ, List, arith, inl, refl, subst}
 use Rattle.dialog_replies.specs.Start.{saved_text}
-use Rattle.ask_session.specs.Saves.{FileAfter, Save}
-use Rattle.ask_session.specs.Turned.{DialogMoment}
 use Rattle.ask_session.proofs.LineIsAnswered.{save_out, save_said}
 use Rattle.ask_session.proofs.dialog.save.Goals as goal
+use Rattle.ask_session.specs.{Saves.FileAfter, Saves.Save, Turned.DialogMoment}
 
 pub returns-in_default : goal.returns-in_default
 returns-in_default g c = record { goes = ([], omega arith, refl, inl refl) }

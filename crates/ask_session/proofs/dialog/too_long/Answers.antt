@@ -1,5 +1,4 @@
-use Rattle.std.proofs.Common.{ℕ, List, ◌++◌, ap, ◌∙◌}
-use Rattle.std.specs.Prelude.{codes}
+use Rattle.std.proofs.Common.{◌++◌, ◌∙◌, ℕ, List, ap, codes}
 use Rattle.ask_session.proofs.LineIsAnswered.{breaks_off, too_long_so}
 use Rattle.ask_session.proofs.dialog.too_long.Goals as goal
 

@@ -1,9 +1,8 @@
 use Rattle.std.proofs.Common.{subst}
 use Rattle.dialog_replies.specs.Fit.{misfit}
-use Rattle.ask_session.specs.Heard.{RefusedBy}
-use Rattle.ask_session.specs.Outside.{Outside}
 use Rattle.ask_session.proofs.TranscriptIsGiven.{Cause, Closed, ScreenStayed, done_or_memory, refused_or_memory, spent_or_memory, told_so}
 use Rattle.ask_session.proofs.session.converse.Goals as goal
+use Rattle.ask_session.specs.{Heard.RefusedBy, Outside.Outside}
 
 pub returns-clause-transcript : goal.returns-clause-transcript
 returns-clause-transcript g c = λ bytes told.

@@ -1,11 +1,9 @@
-use Rattle.std.proofs.Common.{ℕ, List, [], sym, subst, ◌∙◌, append-nil}
+use Rattle.std.proofs.Common.{◌∙◌, [], ℕ, List, append-nil, subst, sym}
 use Rattle.edge_ports.specs.Told.{GaveAll, GavePrefix}
-use Rattle.dialog_replies.specs.Fit.{misfit}
-use Rattle.dialog_replies.specs.Lines.{misfit_line}
-use Rattle.ask_session.specs.Heard.{lines_in}
-use Rattle.ask_session.specs.Outside.{Outside}
+use Rattle.dialog_replies.specs.{Fit.misfit, Lines.misfit_line}
 use Rattle.ask_session.proofs.SessionsAreHeld.{ended_at_once, fits_by, nothing, refused_so, said_misfit, screen_at_once, unfit_by}
 use Rattle.ask_session.proofs.session.hold_if_fit.Goals as goal
+use Rattle.ask_session.specs.{Heard.lines_in, Outside.Outside}
 
 pub hold_session-requires-clause-fits : goal.hold_session-requires-clause-fits
 hold_session-requires-clause-fits g c =

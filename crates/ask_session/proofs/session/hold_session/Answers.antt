@@ -1,12 +1,9 @@
-use Rattle.std.proofs.Common.{◌≡◌, ℕ, List, [], ap, subst, ◌∙◌}
+use Rattle.std.proofs.Common.{◌∙◌, ◌≡◌, [], ℕ, List, ap, subst}
 use Rattle.edge_ports.specs.Told.{GaveAll, GavePrefix}
-use Rattle.dialog_replies.specs.Replies.{opening}
-use Rattle.dialog_replies.specs.Start.{entries_at_start}
-use Rattle.ask_session.specs.Dialog.{replies}
-use Rattle.ask_session.specs.Heard.{lines_in}
-use Rattle.ask_session.specs.Outside.{Outside}
+use Rattle.dialog_replies.specs.{Replies.opening, Start.entries_at_start}
 use Rattle.ask_session.proofs.SessionsAreHeld.{Opened, ended_at_once, nothing, said_fit, screen_at_once, went_so}
 use Rattle.ask_session.proofs.session.hold_session.Goals as goal
+use Rattle.ask_session.specs.{Dialog.replies, Heard.lines_in, Outside.Outside}
 
 pub returns-in_default-clause-goes : goal.returns-in_default-clause-goes
 returns-in_default-clause-goes g c =

@@ -1,5 +1,4 @@
-use Rattle.std.proofs.Common.{subst}
-use Rattle.std.specs.FinMap.{get}
+use Rattle.std.{proofs.Common.subst, specs.FinMap.get}
 use Rattle.core_program.specs.Agree.{Shows}
 use Rattle.body_replay.proofs.AgreementByParts.{one_more_holds}
 use Rattle.body_replay.proofs.agreement.are_as_seen.Goals as goal

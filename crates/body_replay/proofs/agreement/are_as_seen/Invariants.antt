@@ -1,5 +1,4 @@
-use Rattle.std.proofs.Common.{All, drop}
-use Rattle.std.specs.FinMap.{get}
+use Rattle.std.{proofs.Common.All, proofs.Common.drop, specs.FinMap.get}
 use Rattle.core_program.specs.Agree.{Shows}
 use Rattle.body_replay.proofs.agreement.are_as_seen.Given as goal
 

@@ -1,4 +1,4 @@
-use Rattle.std.proofs.Common.{◌≡◌, ◌+◌, ◌<◌, ℕ, slice_get}
+use Rattle.std.proofs.Common.{◌+◌, ◌<◌, ◌≡◌, ℕ, slice_get}
 use Rattle.body_replay.proofs.agreement.are_same_items.Given as goal
 
 abbrev pub invariant-looked : goal.invariant-looked

@@ -1,4 +1,4 @@
-use Rattle.std.proofs.Common.{◌≡◌, ◌+◌, ◌-◌, drop, fold, max, take}
+use Rattle.std.proofs.Common.{◌+◌, ◌-◌, ◌≡◌, drop, fold, max, take}
 use Rattle.call_tree.specs.Recording.{depths_of}
 use Rattle.body_replay.proofs.agreement.deepest.Given as goal
 

@@ -1,5 +1,4 @@
-use Rattle.std.proofs.Common.{◌<◌, subst, sym}
-use Rattle.std.specs.List.{All}
+use Rattle.std.{proofs.Common.◌<◌, proofs.Common.subst, proofs.Common.sym, specs.List.All}
 use Rattle.body_replay.proofs.ChangesOneByOne.{below_listed}
 use Rattle.body_replay.proofs.applied.apply.Goals as goal
 

@@ -1,4 +1,4 @@
-use Rattle.std.proofs.Common.{◌≡◌, ◌+◌, drop}
+use Rattle.std.proofs.Common.{◌+◌, ◌≡◌, drop}
 use Rattle.core_program.specs.Apply.{changed_cells}
 use Rattle.body_replay.proofs.applied.change_cells.Given as goal
 

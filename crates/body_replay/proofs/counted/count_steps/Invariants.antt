@@ -1,4 +1,4 @@
-use Rattle.std.proofs.Common.{◌≡◌, ◌+◌}
+use Rattle.std.proofs.Common.{◌+◌, ◌≡◌}
 use Rattle.body_replay.proofs.counted.count_steps.Given as goal
 
 abbrev pub invariant-taken : goal.invariant-taken

@@ -1,8 +1,7 @@
 use Rattle.std.proofs.Common.{ap, refl}
 use Rattle.core_program.specs.Run.{without_frame}
 use Rattle.eval_ops.specs.Machines.{Moment}
-use Rattle.body_replay.proofs.StepsAreCounted.{counts_left}
-use Rattle.body_replay.proofs.WorkEnds.{ends_so}
+use Rattle.body_replay.proofs.{StepsAreCounted.counts_left, WorkEnds.ends_so}
 use Rattle.body_replay.proofs.framed.in_frame.Goals as goal
 
 pub returns-clause-ends : goal.returns-clause-ends

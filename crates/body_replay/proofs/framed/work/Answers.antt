@@ -1,14 +1,10 @@
-use Rattle.std.proofs.Common.{◌≡◌, ◌+◌, ◌∙◌, Some, ap, subst, sym}
-use Rattle.std.specs.Prelude.{IsSome}
+use Rattle.std.proofs.Common.{◌+◌, ◌∙◌, ◌≡◌, IsSome, Some, ap, subst, sym}
 use Rattle.core_program.specs.ProgramRows.{routine_at}
-use Rattle.eval_ops.specs.Frames.{framing}
-use Rattle.eval_ops.specs.Machines.{IsReady, machine_state}
-use Rattle.body_replay.specs.Counting.{CountsEachStep, Tally}
-use Rattle.body_replay.specs.Traces.{FrameMade, tally}
-use Rattle.body_replay.proofs.FramesAgain.{fits, made_fell}
-use Rattle.body_replay.proofs.StepsAreCounted.{counts_fell}
+use Rattle.eval_ops.specs.{Frames.framing, Machines.IsReady, Machines.machine_state}
+use Rattle.body_replay.proofs.{FramesAgain.fits, FramesAgain.made_fell, StepsAreCounted.counts_fell}
 use Rattle.body_replay.proofs.WorkEnds.{ends_framed, ends_unframed, job_in_frame, rests_at_first, routine_there}
 use Rattle.body_replay.proofs.framed.work.Goals as goal
+use Rattle.body_replay.specs.{Counting.CountsEachStep, Counting.Tally, Traces.FrameMade, Traces.tally}
 
 pub unwrap-routine-requires : goal.unwrap-routine-requires
 unwrap-routine-requires g c = subst (λ o. IsSome o) (sym c.routine.ensures) (routine_there c.requires.entered.2)

@@ -1,4 +1,4 @@
-use Rattle.std.proofs.Common.{◌≡◌, suc, ◌+◌, [], ◌∷◌, ◌++◌, append_assoc, ap, sym, ◌∙◌, drop, length, length-append, arith}
+use Rattle.std.proofs.Common.{◌++◌, ◌+◌, ◌∙◌, ◌∷◌, ◌≡◌, [], ap, append_assoc, arith, drop, length, length-append, suc, sym}
 use Rattle.eval_ops.proofs.Lists.{drop_get}
 use Rattle.body_replay.proofs.kept_state.copy_items.Goals as goal
 

@@ -1,4 +1,4 @@
-use Rattle.std.proofs.Common.{◌≡◌, ◌++◌, drop, length}
+use Rattle.std.proofs.Common.{◌++◌, ◌≡◌, drop, length}
 use Rattle.body_replay.proofs.kept_state.copy_items.Given as goal
 
 abbrev pub invariant-items : goal.invariant-items

@@ -1,9 +1,9 @@
-use Rattle.std.proofs.Common.{◌≡◌, ◌+◌, ◌∙◌, Some, ap, refl, subst, sym}
+use Rattle.std.proofs.Common.{◌+◌, ◌∙◌, ◌≡◌, Some, ap, refl, subst, sym}
 use Rattle.core_program.proofs.OutcomesCompose.{some_same}
 use Rattle.eval_ops.specs.Machines.{Moment}
-use Rattle.body_replay.specs.Counting.{changes_met, own_steps}
 use Rattle.body_replay.proofs.StepsAreCounted.{counted_at_end}
 use Rattle.body_replay.proofs.replays.replay.Goals as goal
+use Rattle.body_replay.specs.Counting.{changes_met, own_steps}
 
 pub returns-clause-events : goal.returns-clause-events
 returns-clause-events g c input is = (c.in_ok-ending.ensures.work input is).events

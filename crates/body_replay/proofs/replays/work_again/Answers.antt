@@ -1,11 +1,11 @@
 use Rattle.std.proofs.Common.{◌∙◌, ap, refl}
 use Rattle.core_program.specs.State.{State}
 use Rattle.eval_ops.specs.Machines.{Moment}
-use Rattle.body_replay.specs.Counting.{at_entry}
 use Rattle.body_replay.proofs.RecordsOfRuns.{kept, row_of_run, run_of_history}
 use Rattle.body_replay.proofs.StepsAreCounted.{counts_left, counts_none}
 use Rattle.body_replay.proofs.WorkBegins.{entered, few_numbers, is_done, items_few, job, job_number, output_before, ready_before, room_before}
 use Rattle.body_replay.proofs.replays.work_again.Goals as goal
+use Rattle.body_replay.specs.Counting.{at_entry}
 
 pub machine_before-requires : goal.machine_before-requires
 machine_before-requires g c =

@@ -1,11 +1,9 @@
-use Rattle.std.proofs.Common.{◌≡◌, ◌<◌, ◌∙◌, All, false, refl, subst, sym, true}
-use Rattle.std.specs.Prelude.{◌↔◌}
+use Rattle.std.proofs.Common.{◌<◌, ◌↔◌, ◌∙◌, ◌≡◌, All, false, refl, subst, sym, true}
 use Rattle.core_program.specs.Agree.{Agrees}
-use Rattle.body_replay.specs.Traces.{kept_state}
-use Rattle.body_replay.proofs.ChangesOneByOne.{below_listed}
-use Rattle.body_replay.proofs.RecordsOfRuns.{kept, row_of_run, run_of_history}
+use Rattle.body_replay.proofs.{ChangesOneByOne.below_listed, RecordsOfRuns.kept, RecordsOfRuns.row_of_run, RecordsOfRuns.run_of_history}
 use Rattle.body_replay.proofs.RowsAgree.{agreed, few_rows, for_call, from_itself, last_there, nothing_found, room_of, same_of, way_of_agreed}
 use Rattle.body_replay.proofs.transplants.agreed_effect.Goals as goal
+use Rattle.body_replay.specs.Traces.{kept_state}
 
 pub has_room-requires-clause-last : goal.has_room-requires-clause-last
 has_room-requires-clause-last c =

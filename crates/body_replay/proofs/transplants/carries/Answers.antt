@@ -1,8 +1,7 @@
 use Rattle.std.proofs.Common.{◌∙◌, is_some}
-use Rattle.body_replay.specs.Traces.{kept_state}
-use Rattle.body_replay.proofs.RecordsOfRuns.{kept}
-use Rattle.body_replay.proofs.RowsAgree.{carries_so, row_there}
+use Rattle.body_replay.proofs.{RecordsOfRuns.kept, RowsAgree.carries_so, RowsAgree.row_there}
 use Rattle.body_replay.proofs.transplants.carries.Goals as goal
+use Rattle.body_replay.specs.Traces.{kept_state}
 
 pub returns : goal.returns
 returns c input is =

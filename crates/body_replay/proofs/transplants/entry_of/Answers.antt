@@ -1,9 +1,8 @@
-use Rattle.std.proofs.Common.{◌≡◌, ◌∙◌}
-use Rattle.body_replay.specs.Traces.{kept_state}
+use Rattle.std.proofs.Common.{◌∙◌, ◌≡◌}
+use Rattle.body_replay.proofs.{RowsAgree.for_call, WorkBegins.output_before}
 use Rattle.body_replay.proofs.RecordsOfRuns.{before_is, kept, row_of_run, run_of_history}
-use Rattle.body_replay.proofs.RowsAgree.{for_call}
-use Rattle.body_replay.proofs.WorkBegins.{output_before}
 use Rattle.body_replay.proofs.transplants.entry_of.Goals as goal
+use Rattle.body_replay.specs.Traces.{kept_state}
 
 pub machine_before-requires : goal.machine_before-requires
 machine_before-requires c =

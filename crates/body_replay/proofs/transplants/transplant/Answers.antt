@@ -1,15 +1,10 @@
-use Rattle.std.proofs.Common.{◌≡◌, ◌<◌, ◌∙◌, All, arith, refl, subst, sym}
-use Rattle.std.specs.Prelude.{◌↔◌, IfSome, IsSome}
-use Rattle.core_program.specs.Agree.{Agrees}
+use Rattle.std.proofs.Common.{◌<◌, ◌↔◌, ◌∙◌, ◌≡◌, All, IfSome, IsSome, arith, refl, subst, sym}
+use Rattle.core_program.specs.{Agree.Agrees, State.IsSound}
 use Rattle.core_program.specs.Apply as effects
-use Rattle.core_program.specs.State.{IsSound}
-use Rattle.body_replay.specs.ByRows.{IsEffectOf}
-use Rattle.body_replay.specs.Carried.{RunsTo}
-use Rattle.body_replay.specs.Traces.{kept_state}
-use Rattle.body_replay.proofs.ChangesOneByOne.{below_listed}
-use Rattle.body_replay.proofs.RecordsOfRuns.{kept, row_of_run, run_of_history}
+use Rattle.body_replay.proofs.{ChangesOneByOne.below_listed, RecordsOfRuns.kept, RecordsOfRuns.row_of_run, RecordsOfRuns.run_of_history}
 use Rattle.body_replay.proofs.RowsAgree.{applied_is, at_call, few_rows, for_call, fresh_fits, from_itself, last_there, place_fits, runs_to}
 use Rattle.body_replay.proofs.transplants.transplant.Goals as goal
+use Rattle.body_replay.specs.{ByRows.IsEffectOf, Carried.RunsTo, Traces.kept_state}
 
 pub after_effect-requires-clause-addresses : goal.after_effect-requires-clause-addresses
 after_effect-requires-clause-addresses c =

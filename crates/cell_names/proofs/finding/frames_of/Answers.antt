@@ -1,4 +1,4 @@
-use Rattle.std.proofs.Common.{◌≤◌, length, arith}
+use Rattle.std.proofs.Common.{◌≤◌, arith, length}
 use Rattle.cell_names.proofs.NamesMade.{frames_end, frames_on}
 use Rattle.cell_names.proofs.finding.frames_of.Goals as goal
 

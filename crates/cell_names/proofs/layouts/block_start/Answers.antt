@@ -1,7 +1,7 @@
-use Rattle.std.proofs.Common.{sym, ap, ◌∙◌}
-use Rattle.cell_names.specs.Layouts.{is_name_of}
+use Rattle.std.proofs.Common.{◌∙◌, ap, sym}
 use Rattle.cell_names.proofs.PartsInTurn.{block_before, block_first, block_here}
 use Rattle.cell_names.proofs.layouts.block_start.Goals as goal
+use Rattle.cell_names.specs.Layouts.{is_name_of}
 
 pub returns-then-is_name_of : goal.returns-then-is_name_of
 returns-then-is_name_of c =

@@ -1,6 +1,6 @@
 use Rattle.std.proofs.Common.{◌≡◌}
-use Rattle.cell_names.specs.Layouts.{block_start}
 use Rattle.cell_names.proofs.layouts.block_start.Given as goal
+use Rattle.cell_names.specs.Layouts.{block_start}
 
 abbrev pub decreases-tokens : goal.decreases-tokens
 decreases-tokens l = l.token

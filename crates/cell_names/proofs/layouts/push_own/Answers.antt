@@ -1,7 +1,7 @@
-use Rattle.std.proofs.Common.{ap, ◌∙◌}
-use Rattle.cell_names.specs.Layouts.{own_in}
+use Rattle.std.proofs.Common.{◌∙◌, ap}
 use Rattle.cell_names.proofs.PartsInTurn.{own_end, own_on}
 use Rattle.cell_names.proofs.layouts.push_own.Goals as goal
+use Rattle.cell_names.specs.Layouts.{own_in}
 
 pub tokens-preserved : goal.tokens-preserved
 tokens-preserved c =

@@ -1,7 +1,6 @@
-use Rattle.std.proofs.Common.{◌≡◌, ◌++◌}
-use Rattle.cell_names.specs.Places.{finds}
-use Rattle.cell_names.specs.Layouts.{own_between}
+use Rattle.std.proofs.Common.{◌++◌, ◌≡◌}
 use Rattle.cell_names.proofs.layouts.push_own.Given as goal
+use Rattle.cell_names.specs.{Layouts.own_between, Places.finds}
 
 abbrev pub invariant-tokens : goal.invariant-tokens
 invariant-tokens l =

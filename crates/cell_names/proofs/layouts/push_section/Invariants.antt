@@ -1,7 +1,6 @@
-use Rattle.std.proofs.Common.{◌≡◌, ◌-◌, ◌++◌}
-use Rattle.cell_names.specs.Places.{finds}
-use Rattle.cell_names.specs.Layouts.{section_parts}
+use Rattle.std.proofs.Common.{◌++◌, ◌-◌, ◌≡◌}
 use Rattle.cell_names.proofs.layouts.push_section.Given as goal
+use Rattle.cell_names.specs.{Layouts.section_parts, Places.finds}
 
 abbrev pub invariant-names : goal.invariant-names
 invariant-names l =

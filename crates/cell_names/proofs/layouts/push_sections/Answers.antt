@@ -1,7 +1,7 @@
-use Rattle.std.proofs.Common.{◌<◌, sym, ◌∙◌, arith}
-use Rattle.cell_names.specs.Layouts.{most_sections}
+use Rattle.std.proofs.Common.{◌<◌, ◌∙◌, arith, sym}
 use Rattle.cell_names.proofs.PartsInTurn.{finds_all, most_is, sections_end, sections_on}
 use Rattle.cell_names.proofs.layouts.push_sections.Goals as goal
+use Rattle.cell_names.specs.Layouts.{most_sections}
 
 pub returns-in-None : goal.returns-in-None
 returns-in-None c =

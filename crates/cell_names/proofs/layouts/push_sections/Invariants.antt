@@ -1,7 +1,6 @@
-use Rattle.std.proofs.Common.{◌≡◌, ◌-◌, ◌++◌}
-use Rattle.cell_names.specs.Places.{finds}
-use Rattle.cell_names.specs.Layouts.{most_sections, sections_parts}
+use Rattle.std.proofs.Common.{◌++◌, ◌-◌, ◌≡◌}
 use Rattle.cell_names.proofs.layouts.push_sections.Given as goal
+use Rattle.cell_names.specs.{Layouts.most_sections, Layouts.sections_parts, Places.finds}
 
 abbrev pub invariant-sections : goal.invariant-sections
 invariant-sections l =

@@ -1,6 +1,6 @@
-use Rattle.std.proofs.Common.{sym, arith}
-use Rattle.cell_names.proofs.Decimals.{one_digit, two_digits, three_digits, four_digits, five_digits, six_digits, seven_digits, eight_digits, nine_digits}
-use Rattle.cell_names.proofs.Decimals.{ten_digits}
+use Rattle.std.proofs.Common.{arith, sym}
+use Rattle.cell_names.proofs.Decimals.{eight_digits, five_digits, four_digits, nine_digits, one_digit, seven_digits, six_digits, ten_digits, three_digits}
+use Rattle.cell_names.proofs.Decimals.{two_digits}
 use Rattle.cell_names.proofs.name_parts.digits_in.Goals as goal
 
 pub returns-then-number-lt10 : goal.returns-then-number-lt10

@@ -1,4 +1,4 @@
-use Rattle.std.proofs.Common.{◌-◌, sym, ◌∙◌, arith}
+use Rattle.std.proofs.Common.{◌∙◌, arith, sym}
 use Rattle.cell_names.proofs.Decimals.{all_text, digit_missing, digit_other, digit_same, first_same, not_one}
 use Rattle.cell_names.proofs.name_parts.is_number.Goals as goal
 

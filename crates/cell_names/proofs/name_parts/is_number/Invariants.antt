@@ -1,4 +1,4 @@
-use Rattle.std.proofs.Common.{◌≡◌, ◌≤◌, length, take, decimal, bytes_eq}
+use Rattle.std.proofs.Common.{◌≡◌, ◌≤◌, bytes_eq, decimal, length, take}
 use Rattle.cell_names.proofs.name_parts.is_number.Given as goal
 
 abbrev pub decreases-digits : goal.decreases-digits

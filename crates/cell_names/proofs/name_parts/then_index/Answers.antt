@@ -1,8 +1,7 @@
-use Rattle.std.proofs.Common.{codes, option_copied, w64}
-use Rattle.std.proofs.lemmas.Int.{to_z-of_z}
-use Rattle.cell_names.specs.Values.{within_bounds}
+use Rattle.std.proofs.{Common.codes, Common.option_copied, Common.w64, lemmas.Int.to_z-of_z}
 use Rattle.cell_names.proofs.NameParts.{in_three}
 use Rattle.cell_names.proofs.name_parts.then_index.Goals as goal
+use Rattle.cell_names.specs.Values.{within_bounds}
 
 pub returns : goal.returns
 returns c =

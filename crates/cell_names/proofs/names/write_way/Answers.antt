@@ -1,7 +1,7 @@
-use Rattle.std.proofs.Common.{◌++◌, ap, ◌∙◌}
-use Rattle.cell_names.specs.Names.{SceneLists, scene_in, selector_text}
+use Rattle.std.proofs.Common.{◌++◌, ◌∙◌, ap}
 use Rattle.cell_names.proofs.WaysDown.{all_taken, begins, ends_here, goes_on}
 use Rattle.cell_names.proofs.names.write_way.Goals as goal
+use Rattle.cell_names.specs.Names.{SceneLists, scene_in, selector_text}
 
 pub steps-init : goal.steps-init
 steps-init c = begins (scene_in c.args.scene.now) c.args.wanted c.args.from c.args.out.now

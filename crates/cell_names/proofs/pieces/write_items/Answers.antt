@@ -1,7 +1,7 @@
-use Rattle.std.proofs.Common.{◌++◌, ap, ◌∙◌}
-use Rattle.cell_names.specs.Pieces.{escaped}
+use Rattle.std.proofs.Common.{◌++◌, ◌∙◌, ap}
 use Rattle.cell_names.proofs.WrittenInTurn.{range_written_next}
 use Rattle.cell_names.proofs.pieces.write_items.Goals as goal
+use Rattle.cell_names.specs.Pieces.{escaped}
 
 pub items-preserved : goal.items-preserved
 items-preserved c =

@@ -1,7 +1,6 @@
-use Rattle.std.proofs.Common.{◌≡◌, ◌++◌}
-use Rattle.std.specs.Prelude.{flat_map, slice_range}
-use Rattle.cell_names.specs.Pieces.{escaped}
+use Rattle.std.proofs.Common.{◌++◌, ◌≡◌, flat_map, slice_range}
 use Rattle.cell_names.proofs.pieces.write_items.Given as goal
+use Rattle.cell_names.specs.Pieces.{escaped}
 
 abbrev pub invariant-items : goal.invariant-items
 invariant-items l =

@@ -1,5 +1,4 @@
-use Rattle.std.proofs.Common.{arith}
-use Rattle.std.proofs.lemmas.Bool.Decides.{nat_tests}
+use Rattle.std.proofs.{Common.arith, lemmas.Bool.Decides.nat_tests}
 use Rattle.cell_names.proofs.PartsSplit.{after_all}
 use Rattle.cell_names.proofs.places.none_before.Goals as goal
 

@@ -1,5 +1,4 @@
-use Rattle.std.proofs.Common.{◌≡◌, []}
-use Rattle.std.specs.Prelude.{replicate}
+use Rattle.std.proofs.Common.{◌≡◌, [], replicate}
 use Rattle.cell_names.proofs.records.blank_lists.Given as goal
 
 abbrev pub invariant-lists : goal.invariant-lists

@@ -1,7 +1,7 @@
-use Rattle.std.proofs.Common.{sym, ap, ◌∙◌}
-use Rattle.cell_names.specs.Records.{holder_around, is_record}
+use Rattle.std.proofs.Common.{◌∙◌, ap, sym}
 use Rattle.cell_names.proofs.RecordsInTurn.{record_further, record_here, record_nowhere}
 use Rattle.cell_names.proofs.records.record_of.Goals as goal
+use Rattle.cell_names.specs.Records.{holder_around, is_record}
 
 pub returns-then-is_record : goal.returns-then-is_record
 returns-then-is_record c =

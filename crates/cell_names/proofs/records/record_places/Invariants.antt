@@ -1,8 +1,6 @@
-use Rattle.std.proofs.Common.{◌≡◌, ℕ, ◌++◌, length}
-use Rattle.cell_names.specs.Places.{finds}
-use Rattle.cell_names.specs.Finding.{list_at}
-use Rattle.cell_names.specs.Records.{record_parts, record_parts_from}
+use Rattle.std.proofs.Common.{◌++◌, ◌≡◌, ℕ, length}
 use Rattle.cell_names.proofs.records.record_places.Given as goal
+use Rattle.cell_names.specs.{Finding.list_at, Places.finds, Records.record_parts, Records.record_parts_from}
 
 abbrev pub invariant-tokens : goal.invariant-tokens
 invariant-tokens l = record {

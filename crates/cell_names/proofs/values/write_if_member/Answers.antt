@@ -1,7 +1,7 @@
-use Rattle.std.proofs.Common.{◌++◌, sym, ap, ◌∙◌}
-use Rattle.cell_names.specs.Values.{members_text}
+use Rattle.std.proofs.Common.{◌++◌, ◌∙◌, ap, sym}
 use Rattle.cell_names.proofs.MembersInTurn.{member_written, next_is_none}
 use Rattle.cell_names.proofs.values.write_if_member.Goals as goal
+use Rattle.cell_names.specs.Values.{members_text}
 
 pub returns-then-is_member : goal.returns-then-is_member
 returns-then-is_member c =

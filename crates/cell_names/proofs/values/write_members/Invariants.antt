@@ -1,6 +1,6 @@
-use Rattle.std.proofs.Common.{◌≡◌, ◌++◌, true}
-use Rattle.cell_names.specs.Values.{members_from, members_text}
+use Rattle.std.proofs.Common.{◌++◌, ◌≡◌, true}
 use Rattle.cell_names.proofs.values.write_members.Given as goal
+use Rattle.cell_names.specs.Values.{members_from, members_text}
 
 abbrev pub invariant-members : goal.invariant-members
 invariant-members l =

@@ -1,9 +1,8 @@
-use Rattle.std.proofs.Common.{ℕ, ◌+◌, ◌≤◌, ◌≡◌, Some, ap, subst, sym, ◌∙◌}
+use Rattle.std.proofs.Common.{◌+◌, ◌∙◌, ◌≡◌, ◌≤◌, ℕ, Some, ap, subst, sym}
 use Rattle.core_program.specs.ProgramRows.{size_of, type_at}
-use Rattle.cell_names.specs.Names.{SceneLists, scene_in}
-use Rattle.cell_names.specs.Walks.{left_of_component}
 use Rattle.cell_names.proofs.CellsAlike.{array_below, record_below}
 use Rattle.cell_names.proofs.walks.alike_below.Goals as goal
+use Rattle.cell_names.specs.{Names.SceneLists, Names.scene_in, Walks.left_of_component}
 
 pub returns-in-Some-Array : goal.returns-in-Some-Array
 returns-in-Some-Array c = λ k below.

@@ -1,8 +1,8 @@
-use Rattle.std.proofs.Common.{ℕ, ◌+◌, ◌≤◌, ◌≡◌, subst, sym, ◌∙◌, arith}
+use Rattle.std.proofs.Common.{◌+◌, ◌∙◌, ◌≡◌, ◌≤◌, ℕ, arith, subst, sym}
 use Rattle.std.proofs.lemmas.Bool.Decides.{nat_tests}
-use Rattle.cell_names.specs.Names.{SceneLists, scene_in}
 use Rattle.cell_names.proofs.CellsAlike.{local_moves}
 use Rattle.cell_names.proofs.walks.alike_in.Goals as goal
+use Rattle.cell_names.specs.Names.{SceneLists, scene_in}
 
 pub returns-else-is_result : goal.returns-else-is_result
 returns-else-is_result c = λ k below.

@@ -1,4 +1,4 @@
-use Rattle.std.proofs.Common.{sym, ◌∙◌, arith}
+use Rattle.std.proofs.Common.{◌∙◌, arith, sym}
 use Rattle.cell_names.proofs.IndicesPassed.{none_indexed}
 use Rattle.cell_names.proofs.walks.passed_component.Goals as goal
 

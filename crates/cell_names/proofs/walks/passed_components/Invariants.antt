@@ -1,6 +1,6 @@
-use Rattle.std.proofs.Common.{◌≡◌, ℕ, ◌+◌, ◌-◌, ◌≤◌, false}
-use Rattle.cell_names.specs.Walks.{is_indexed}
+use Rattle.std.proofs.Common.{◌+◌, ◌-◌, ◌≡◌, ◌≤◌, ℕ, false}
 use Rattle.cell_names.proofs.walks.passed_components.Given as goal
+use Rattle.cell_names.specs.Walks.{is_indexed}
 
 abbrev pub decreases-components : goal.decreases-components
 decreases-components l = l.limit - l.more

@@ -1,13 +1,7 @@
-use Rattle.std.proofs.Common.{◌≡◌, ℕ, ◌+◌, ◌≤◌, false, Some, subst, sym, ◌∙◌}
-use Rattle.cell_names.specs.Names.{SceneLists, scene_in}
-use Rattle.cell_names.specs.Walks.{components_of, is_indexed}
-use Rattle.cell_names.proofs.IndicesPassed.{no_component, no_index}
-use Rattle.cell_names.proofs.NamesPassed.{none_alike}
+use Rattle.std.proofs.Common.{◌+◌, ◌∙◌, ◌≡◌, ◌≤◌, ℕ, Some, false, subst, sym}
+use Rattle.cell_names.proofs.{FieldsPassed.no_field, FieldsPassed.not_here, IndicesPassed.no_component, IndicesPassed.no_index, NamesPassed.none_alike}
 use Rattle.cell_names.proofs.walks.passed_over.Goals as goal
-
-pub passed_fields-requires : goal.passed_fields-requires
-passed_fields-requires c =
-    none_alike (scene_in c.args.scene.now) c.args.at c.args.name.now c.alike_below-first.result c.alike_below-first.ensures c.requires
+use Rattle.cell_names.specs.{Names.SceneLists, Names.scene_in, Walks.components_of, Walks.is_indexed, Walks.record_of}
 
 pub passed_components-requires : goal.passed_components-requires
 passed_components-requires c =
@@ -26,3 +20,19 @@ returns-in-Some c =
     no_component (scene_in c.args.scene.now) c.args.at c.args.name.now c.in-Some.array array c.passed_components.result
     (subst (λ (v : SceneLists). (k : ℕ) → k ≤ c.passed_components.result
     → is_indexed v.program c.in-Some.array (c.args.at.place + k) c.args.name.now ≡ false) c.scene.view_is c.passed_components.ensures)
+
+pub passed_fields-requires : goal.passed_fields-requires
+passed_fields-requires c =
+    let record' = subst (λ (v : SceneLists). record_of v.program c.args.at.held ≡ Some c.in-Some-record_of.of) c.scene.view_is
+    (sym c.record_of.ensures ∙ c.in-Some-record_of.is) in
+    not_here (scene_in c.args.scene.now) c.args.at c.in-Some-record_of.of c.args.name.now record' c.requires
+
+pub returns-in-Some-record_of : goal.returns-in-Some-record_of
+returns-in-Some-record_of c =
+    let record' = subst (λ (v : SceneLists). record_of v.program c.args.at.held ≡ Some c.in-Some-record_of.of) c.scene.view_is
+    (sym c.record_of.ensures ∙ c.in-Some-record_of.is) in
+    no_field (scene_in c.args.scene.now) c.args.at c.in-Some-record_of.of c.args.name.now c.passed_fields.result record' c.passed_fields.ensures
+
+pub returns-in-None-record_of : goal.returns-in-None-record_of
+returns-in-None-record_of c =
+    none_alike (scene_in c.args.scene.now) c.args.at c.args.name.now c.alike_below-first.result c.alike_below-first.ensures c.requires

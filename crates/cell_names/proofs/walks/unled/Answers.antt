@@ -1,7 +1,7 @@
-use Rattle.std.proofs.Common.{sym, ◌∙◌, arith}
-use Rattle.cell_names.specs.Names.{scene_in}
+use Rattle.std.proofs.Common.{◌∙◌, arith, sym}
 use Rattle.cell_names.proofs.NamesPassed.{led_begins, led_here, led_on, unled_far, unled_here}
 use Rattle.cell_names.proofs.walks.unled.Goals as goal
+use Rattle.cell_names.specs.Names.{scene_in}
 
 pub steps-init : goal.steps-init
 steps-init c = led_begins (scene_in c.args.scene.now) c.args.from c.args.name.now c.args.limit

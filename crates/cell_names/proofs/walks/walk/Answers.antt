@@ -1,8 +1,7 @@
 use Rattle.std.proofs.Common.{arith, subst, sym}
-use Rattle.cell_names.specs.Names.{scene_in}
-use Rattle.cell_names.specs.Walks.{Walks}
 use Rattle.cell_names.proofs.RootsPassed.{heap_walked, stack_walked}
 use Rattle.cell_names.proofs.walks.walk.Goals as goal
+use Rattle.cell_names.specs.{Names.scene_in, Walks.Walks}
 
 pub returns-then-address-ge524288 : goal.returns-then-address-ge524288
 returns-then-address-ge524288 c =

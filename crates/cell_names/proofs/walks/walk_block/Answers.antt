@@ -1,7 +1,7 @@
-use Rattle.std.proofs.Common.{sym, ◌∙◌}
-use Rattle.cell_names.specs.Names.{scene_in}
+use Rattle.std.proofs.Common.{◌∙◌, sym}
 use Rattle.cell_names.proofs.RootsPassed.{block_passed}
 use Rattle.cell_names.proofs.walks.walk_block.Goals as goal
+use Rattle.cell_names.specs.Names.{scene_in}
 
 pub returns-in-Some : goal.returns-in-Some
 returns-in-Some c =

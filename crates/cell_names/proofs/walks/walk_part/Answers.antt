@@ -1,8 +1,7 @@
 use Rattle.std.proofs.Common.{◌+◌, ◌-◌, subst}
-use Rattle.cell_names.specs.Names.{root_in, scene_in}
-use Rattle.cell_names.specs.Walks.{WalksOver}
 use Rattle.cell_names.proofs.RootsPassed.{frame_there}
 use Rattle.cell_names.proofs.walks.walk_part.Goals as goal
+use Rattle.cell_names.specs.{Names.root_in, Names.scene_in, Walks.WalksOver}
 
 pub returns-in-Some : goal.returns-in-Some
 returns-in-Some c =

@@ -1,10 +1,7 @@
-use Rattle.std.proofs.Common.{◌≡◌, true, false, Some, None, ap, option_copied, subst, sym, ◌∙◌}
-use Rattle.cell_names.specs.Names.{SceneLists, origin_text, scene_in}
-use Rattle.cell_names.specs.NamedBy.{after_part, is_of_all}
-use Rattle.cell_names.specs.Walks.{moved_root}
-use Rattle.cell_names.proofs.NamesPassed.{named_part, named_whole, unnamed_part, unnamed_whole}
-use Rattle.cell_names.proofs.RootsPassed.{root_named}
+use Rattle.std.proofs.Common.{◌∙◌, ◌≡◌, None, Some, ap, false, option_copied, subst, sym, true}
+use Rattle.cell_names.proofs.{NamesPassed.named_part, NamesPassed.named_whole, NamesPassed.unnamed_part, NamesPassed.unnamed_whole, RootsPassed.root_named}
 use Rattle.cell_names.proofs.walks.walk_root.Goals as goal
+use Rattle.cell_names.specs.{NamedBy.after_part, NamedBy.is_of_all, Names.SceneLists, Names.origin_text, Names.scene_in, Walks.moved_root}
 
 pub returns-then-is_of_all : goal.returns-then-is_of_all
 returns-then-is_of_all c =

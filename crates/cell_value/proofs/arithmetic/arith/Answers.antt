@@ -1,4 +1,4 @@
-use Rattle.std.proofs.Common.{sym, ◌∙◌}
+use Rattle.std.proofs.Common.{◌∙◌, sym}
 use Rattle.cell_value.proofs.Laws.{arith_of_whole, quotient_law, remainder_law}
 use Rattle.cell_value.proofs.arithmetic.arith.Goals as goal
 

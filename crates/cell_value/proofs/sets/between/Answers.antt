@@ -1,5 +1,4 @@
-use Rattle.std.proofs.Common.{◌∙◌, refl, w64}
-use Rattle.std.proofs.lemmas.Int.{to_z-of_z}
+use Rattle.std.proofs.{Common.◌∙◌, Common.refl, Common.w64, lemmas.Int.to_z-of_z}
 use Rattle.cell_value.proofs.Masks.{below_has, bounds_of_below, included_is_between}
 use Rattle.cell_value.proofs.sets.between.Goals as goal
 

@@ -1,5 +1,4 @@
-use Rattle.std.proofs.Common.{arith, w64}
-use Rattle.std.proofs.lemmas.Int.{to_z-of_z}
+use Rattle.std.proofs.{Common.arith, Common.w64, lemmas.Int.to_z-of_z}
 use Rattle.cell_value.proofs.BitsAreMembers.{number_of_byte, number_of_none}
 use Rattle.cell_value.proofs.sets.holds.Goals as goal
 

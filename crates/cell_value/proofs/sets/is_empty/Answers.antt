@@ -1,6 +1,5 @@
 use Rattle.std.proofs.Common.{arith}
-use Rattle.cell_value.proofs.WordsMakeSets.{IsWhole, each_of_four}
-use Rattle.cell_value.proofs.BitsAreMembers.{nothing_where_zero, zero_where_nothing}
+use Rattle.cell_value.proofs.{BitsAreMembers.nothing_where_zero, BitsAreMembers.zero_where_nothing, WordsMakeSets.IsWhole, WordsMakeSets.each_of_four}
 use Rattle.cell_value.proofs.sets.is_empty.Goals as goal
 
 pub returns : goal.returns

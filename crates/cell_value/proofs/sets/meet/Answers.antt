@@ -1,5 +1,5 @@
-use Rattle.std.proofs.Common.{◌&&◌, bit_and, arith}
-use Rattle.cell_value.proofs.WordsMakeSets.{IsWhole, each_of_four, joined_is, joined_has, intersection_joins}
+use Rattle.std.proofs.Common.{◌&&◌, arith, bit_and}
+use Rattle.cell_value.proofs.WordsMakeSets.{IsWhole, each_of_four, intersection_joins, joined_has, joined_is}
 use Rattle.cell_value.proofs.sets.meet.Goals as goal
 
 pub returns : goal.returns

@@ -1,5 +1,5 @@
-use Rattle.std.proofs.Common.{◌-◌, ◌&&◌, not, bit_and, arith}
-use Rattle.cell_value.proofs.WordsMakeSets.{IsWhole, each_of_four, joined_is, joined_has, difference_joins}
+use Rattle.std.proofs.Common.{◌&&◌, ◌-◌, arith, bit_and, not}
+use Rattle.cell_value.proofs.WordsMakeSets.{IsWhole, difference_joins, each_of_four, joined_has, joined_is}
 use Rattle.cell_value.proofs.sets.minus.Goals as goal
 
 pub returns : goal.returns

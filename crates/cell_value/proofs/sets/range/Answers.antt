@@ -1,4 +1,4 @@
-use Rattle.std.proofs.Common.{◌∙◌, ◌+◌, arith}
+use Rattle.std.proofs.Common.{◌+◌, ◌∙◌, arith}
 use Rattle.cell_value.proofs.Masks.{below_has, between_of_below}
 use Rattle.cell_value.proofs.sets.range.Goals as goal
 

@@ -1,5 +1,5 @@
-use Rattle.std.proofs.Common.{◌||◌, bit_or, arith}
-use Rattle.cell_value.proofs.WordsMakeSets.{IsWhole, each_of_four, joined_is, joined_has, union_joins}
+use Rattle.std.proofs.Common.{◌||◌, arith, bit_or}
+use Rattle.cell_value.proofs.WordsMakeSets.{IsWhole, each_of_four, joined_has, joined_is, union_joins}
 use Rattle.cell_value.proofs.sets.union.Goals as goal
 
 pub returns : goal.returns

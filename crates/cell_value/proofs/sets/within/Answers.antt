@@ -1,7 +1,7 @@
 use Rattle.std.proofs.Common.{◌∙◌, ap, sym}
-use Rattle.cell_value.specs.Sets.{has, is_included}
-use Rattle.cell_value.proofs.BitsAreMembers.{same_truth, included, nothing_outside}
+use Rattle.cell_value.proofs.BitsAreMembers.{included, nothing_outside, same_truth}
 use Rattle.cell_value.proofs.sets.within.Goals as goal
+use Rattle.cell_value.specs.Sets.{has, is_included}
 
 pub returns-clause-exact : goal.returns-clause-exact
 returns-clause-exact c = same_truth _ (is_included c.args.a c.args.b)

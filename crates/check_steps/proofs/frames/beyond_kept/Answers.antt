@@ -1,4 +1,4 @@
-use Rattle.std.proofs.Common.{sym, ◌∙◌}
+use Rattle.std.proofs.Common.{◌∙◌, sym}
 use Rattle.check_steps.proofs.Chains.{leads-absent, leads-kept}
 use Rattle.check_steps.proofs.frames.beyond_kept.Goals as goal
 

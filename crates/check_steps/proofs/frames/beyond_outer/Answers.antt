@@ -1,4 +1,4 @@
-use Rattle.std.proofs.Common.{sym, ◌∙◌}
+use Rattle.std.proofs.Common.{◌∙◌, sym}
 use Rattle.check_steps.proofs.Chains.{leads-further}
 use Rattle.check_steps.proofs.frames.beyond_outer.Goals as goal
 

@@ -1,4 +1,4 @@
-use Rattle.std.proofs.Common.{rules, sym, ◌∙◌}
+use Rattle.std.proofs.Common.{◌∙◌, rules, sym}
 use Rattle.check_steps.proofs.NameLists.{with_kept, with_new}
 use Rattle.check_steps.proofs.words.add_name.Goals as goal
 

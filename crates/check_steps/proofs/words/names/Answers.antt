@@ -1,7 +1,7 @@
-use Rattle.std.proofs.Common.{sym, ◌∙◌}
-use Rattle.check_steps.specs.Words.{name_from, required_names, with_name_of}
+use Rattle.std.proofs.Common.{◌∙◌, sym}
 use Rattle.check_steps.proofs.NameLists.{fold_more}
 use Rattle.check_steps.proofs.words.names.Goals as goal
+use Rattle.check_steps.specs.Words.{name_from, required_names, with_name_of}
 
 pub tokens-preserved : goal.tokens-preserved
 tokens-preserved c =

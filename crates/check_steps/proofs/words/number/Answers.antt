@@ -1,4 +1,4 @@
-use Rattle.std.proofs.Common.{ℕ, Option, ap, sym, ◌∙◌}
+use Rattle.std.proofs.Common.{◌∙◌, ℕ, Option, ap, sym}
 use Rattle.std.specs.Prelude.{unwrap_or}
 use Rattle.check_steps.proofs.NameLists.{place_kept}
 use Rattle.check_steps.proofs.words.number.Goals as goal

@@ -1,9 +1,8 @@
-use Rattle.std.proofs.Common.{ℕ, ◌++◌, ◌∷◌, [], ap, sym, ◌∙◌}
-use Rattle.std.specs.Global.{Vec}
-use Rattle.std.proofs.lemmas.List.{map_push}
-use Rattle.check_steps.specs.Words.{texts_in, kept_of, kept_text}
+use Rattle.std.proofs.Common.{◌++◌, ◌∙◌, ◌∷◌, [], ℕ, ap, sym}
+use Rattle.std.{proofs.lemmas.List.map_push, specs.Global.Vec}
 use Rattle.check_steps.proofs.NameLists.{map_more}
 use Rattle.check_steps.proofs.words.texts.Goals as goal
+use Rattle.check_steps.specs.Words.{kept_of, kept_text, texts_in}
 
 pub tokens-preserved : goal.tokens-preserved
 tokens-preserved c =

@@ -1,7 +1,7 @@
-use Rattle.std.proofs.Common.{◌++◌, ◌∷◌, [], ap, sym, ◌∙◌}
-use Rattle.check_steps.specs.Words.{texts_in, spelled_by, word_of}
+use Rattle.std.proofs.Common.{◌++◌, ◌∙◌, ◌∷◌, [], ap, sym}
 use Rattle.check_steps.proofs.NameLists.{map_more}
 use Rattle.check_steps.proofs.words.words.Goals as goal
+use Rattle.check_steps.specs.Words.{spelled_by, texts_in, word_of}
 
 pub tokens-preserved : goal.tokens-preserved
 tokens-preserved c =

@@ -1,7 +1,7 @@
 use Rattle.std.proofs.Common.{◌≡◌, drop}
-use Rattle.check_steps.specs.Steps.{run_step, each}
-use Rattle.code_checker.specs.Blocks.{code_routine}
+use Rattle.check_steps.specs.Steps.{each, run_step}
 use Rattle.code_checker.proofs.blocks.+code.Given as goal
+use Rattle.code_checker.specs.Blocks.{code_routine}
 
 abbrev pub invariant-check_routines-routines : goal.invariant-check_routines-routines
 invariant-check_routines-routines l =

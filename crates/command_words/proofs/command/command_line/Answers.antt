@@ -1,8 +1,8 @@
-use Rattle.std.proofs.Common.{◌≡◌, ◌∙◌, ap₂, codes, rules}
+use Rattle.std.proofs.Common.{◌∙◌, ◌≡◌, ap₂, codes, rules}
 use Rattle.std.proofs.lemmas.Result.{IfOk-weaker}
 use Rattle.clap.specs.Words.{rule_of, with_rule}
-use Rattle.command_words.specs.CommandLine.{option_named, source_argument}
 use Rattle.command_words.proofs.command.command_line.Goals as goal
+use Rattle.command_words.specs.CommandLine.{option_named, source_argument}
 
 pub returns : goal.returns
 returns c =

@@ -1,5 +1,5 @@
 use Rattle.std.proofs.Common.{arith, rules}
-use Rattle.command_words.proofs.DigitsSpellNumbers.{spells_number, spells_no_number}
+use Rattle.command_words.proofs.DigitsSpellNumbers.{spells_no_number, spells_number}
 use Rattle.command_words.proofs.made.number_in.Goals as goal
 
 pub returns-in-Ok-clause-spelled : goal.returns-in-Ok-clause-spelled

@@ -1,7 +1,6 @@
-use Rattle.std.proofs.Common.{List, map, rules}
-use Rattle.std.specs.String.{string_bytes}
+use Rattle.std.{proofs.Common.List, proofs.Common.map, proofs.Common.rules, specs.String.string_bytes}
 use Rattle.clap.specs.Words.{Text, app_of}
-use Rattle.command_words.proofs.ClapReadsWords.{answers, refuses, allows, taken, not_taken}
+use Rattle.command_words.proofs.ClapReadsWords.{allows, answers, not_taken, refuses, taken}
 use Rattle.command_words.proofs.request.read_words.Goals as goal
 
 pub returns-in-Ok-clause-meant : goal.returns-in-Ok-clause-meant

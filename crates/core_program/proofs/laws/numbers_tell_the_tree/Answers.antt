@@ -1,8 +1,8 @@
 use Rattle.std.proofs.Common.{refl}
-use Rattle.core_program.specs.Numbering.{belows}
-use Rattle.core_program.proofs.NestedCallsAreIntervals.{subtree_in, subtree_of, parent_is}
 use Rattle.core_program.proofs.CallsOfRunsNest.{forest_of, rooted}
+use Rattle.core_program.proofs.NestedCallsAreIntervals.{parent_is, subtree_in, subtree_of}
 use Rattle.core_program.proofs.laws.numbers_tell_the_tree.Goals as goal
+use Rattle.core_program.specs.Numbering.{belows}
 
 pub returns : goal.returns
 returns c = record {

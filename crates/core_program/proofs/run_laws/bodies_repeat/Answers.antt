@@ -1,4 +1,4 @@
-use Rattle.core_program.proofs.LawsOfRuns.{made, body_is}
+use Rattle.core_program.proofs.LawsOfRuns.{body_is, made}
 use Rattle.core_program.proofs.run_laws.bodies_repeat.Goals as goal
 
 pub returns : goal.returns

@@ -1,5 +1,4 @@
-use Rattle.core_program.proofs.LawsOfRuns.{made}
-use Rattle.core_program.proofs.RecordsStand.{stands}
+use Rattle.core_program.proofs.{LawsOfRuns.made, RecordsStand.stands}
 use Rattle.core_program.proofs.run_laws.records_stand.Goals as goal
 
 pub returns : goal.returns

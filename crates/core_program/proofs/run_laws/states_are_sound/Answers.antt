@@ -1,4 +1,4 @@
-use Rattle.core_program.proofs.LawsOfRuns.{begins_sound, acts_sound, parts_sound, calls_sound, made, made_sound, runs_items}
+use Rattle.core_program.proofs.LawsOfRuns.{acts_sound, begins_sound, calls_sound, made, made_sound, parts_sound, runs_items}
 use Rattle.core_program.proofs.run_laws.states_are_sound.Goals as goal
 
 pub returns-clause-first : goal.returns-clause-first

@@ -1,4 +1,4 @@
-use Rattle.core_program.proofs.LawsOfRuns.{acts_countable, parts_countable, calls_countable, made, made_countable}
+use Rattle.core_program.proofs.LawsOfRuns.{acts_countable, calls_countable, made, made_countable, parts_countable}
 use Rattle.core_program.proofs.run_laws.touches_are_countable.Goals as goal
 
 pub returns-clause-acts : goal.returns-clause-acts

@@ -1,13 +1,8 @@
-use Rattle.std.proofs.Common.{Err, List, ℕ, Some, None, inl, refl, ap, subst, ◌∙◌}
-use Rattle.command_words.specs.Meaning.{IsWithinLimits}
-use Rattle.command_words.specs.Reading.{meant_of}
-use Rattle.command_words.specs.declared.request.Asked.{Asked}
-use Rattle.debug_cli.specs.Given.{GivesText}
-use Rattle.debug_cli.specs.Outside.{outside}
-use Rattle.debug_cli.specs.Setting.{NamesNoFile}
-use Rattle.debug_cli.specs.declared.status.Status.TheVariants as status
+use Rattle.std.proofs.Common.{◌∙◌, ℕ, Err, List, None, Some, ap, inl, refl, subst}
+use Rattle.command_words.specs.{Meaning.IsWithinLimits, Reading.meant_of, declared.request.Asked.Asked}
 use Rattle.debug_cli.proofs.StatusTellsWhy.{made_gone, refusal_gone, session_gone, words_gone}
 use Rattle.debug_cli.proofs.ask.ask.Goals as goal
+use Rattle.debug_cli.specs.{Given.GivesText, Outside.outside, Setting.NamesNoFile, declared.status.Status.Status}
 
 pub ask_about-requires-clause-budget : goal.ask_about-requires-clause-budget
 ask_about-requires-clause-budget g c =
@@ -29,7 +24,7 @@ returns-in-Err-clause-gone g c =
 pub returns-in-Ok-made_text-clause-gone : goal.returns-in-Ok-made_text-clause-gone
 returns-in-Ok-made_text-clause-gone g c =
     let made = c.in-Ok-made_text.ensures.text in
-    let given = subst (λ (b : List ℕ). GivesText c.give_text.result status.Done b (g.O.Sink.given c.args.screen.now) (g.O.Sink.given c.give_text.new.screen))
+    let given = subst (λ (b : List ℕ). GivesText c.give_text.result Status.Done b (g.O.Sink.given c.args.screen.now) (g.O.Sink.given c.give_text.new.screen))
     (c.as_slice.ensures ∙ made.1) c.give_text.ensures.gives in
     made_gone (c.in-Ok-Made.ensures.meant ∙ ap (λ (a : Asked). Some (meant_of a)) c.in-Ok-Made.field-0-is) (record { files = refl; left = refl }) refl
     made.0 given

@@ -1,11 +1,10 @@
-use Rattle.std.proofs.Common.{◌≡◌, ◌⊎◌, ℕ, sym, subst, ◌∙◌}
+use Rattle.std.proofs.Common.{◌∙◌, ◌≡◌, ◌⊎◌, ℕ, subst, sym}
 use Rattle.debuggee.specs.Execution.{Supply}
-use Rattle.debug_cli.specs.declared.status.Status.TheVariants as status
-use Rattle.debug_cli.specs.Setting.{InFiles}
-use Rattle.debug_cli.proofs.StatusByCode.{either_code, no_console, no_screen, screen_code, console_counted, screen_counted}
-use Rattle.debug_cli.proofs.StatusIsRefusal.{program_refused, session_refused, no_fault_status, no_words_status}
+use Rattle.debug_cli.proofs.StatusByCode.{console_counted, either_code, no_console, no_screen, screen_code, screen_counted}
+use Rattle.debug_cli.proofs.StatusIsRefusal.{no_fault_status, no_words_status, program_refused, session_refused}
 use Rattle.debug_cli.proofs.TranscriptIsGiven.{first_part, tables_are_whole, wanted_or_memory, whole_transcript}
 use Rattle.debug_cli.proofs.ask.ask_pascal.Goals as goal
+use Rattle.debug_cli.specs.{Setting.InFiles, declared.status.Status.Status}
 
 pub returns-clause-headline : goal.returns-clause-headline
 returns-clause-headline g c = λ r t means e.
@@ -33,7 +32,7 @@ returns-clause-prefix g c = λ set well.
 
 pub returns-clause-complete : goal.returns-clause-complete
 returns-clause-complete g c = λ set wanted comes none.
-    either_code c.ask.result wanted status.Memory c.code.result c.code.ensures
+    either_code c.ask.result wanted Status.Memory c.code.result c.code.ensures
     (wanted_or_memory c.one_run.ensures c.args.words.now c.ask.ensures.gone
     (record { console_counted = c.ask.ensures.console_faults; screen_counted = c.ask.ensures.screen_faults }) set wanted comes none)
 
@@ -43,12 +42,12 @@ returns-clause-usage g c = λ none. subst (λ (n : ℕ). (n ≡ 2) ⊎ (n ≡ 6)
 pub returns-clause-no_program : goal.returns-clause-no_program
 returns-clause-no_program g c = λ means told well still.
     let screen = no_screen c.ask.result (g.O.Sink.faults c.args.screen.now) (g.O.Sink.faults c.ask.new.screen) c.ask.ensures.screen_faults still in
-    either_code c.ask.result status.Source status.Memory c.code.result c.code.ensures (program_refused c.ask.ensures.gone told well means screen)
+    either_code c.ask.result Status.Source Status.Memory c.code.result c.code.ensures (program_refused c.ask.ensures.gone told well means screen)
 
 pub returns-clause-no_session : goal.returns-clause-no_session
 returns-clause-no_session g c = λ means told well still.
     let screen = no_screen c.ask.result (g.O.Sink.faults c.args.screen.now) (g.O.Sink.faults c.ask.new.screen) c.ask.ensures.screen_faults still in
-    either_code c.ask.result status.Session status.Memory c.code.result c.code.ensures
+    either_code c.ask.result Status.Session Status.Memory c.code.result c.code.ensures
     (session_refused c.ask.ensures.gone c.one_run.ensures told well means screen)
 
 pub returns-clause-without_faults : goal.returns-clause-without_faults

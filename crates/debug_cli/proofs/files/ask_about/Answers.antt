@@ -1,21 +1,13 @@
-use Rattle.std.proofs.Common.{◌≡◌, ◌≤◌, inl, length, List, ℕ, Some, refl, sym, ap, subst, ◌∙◌, Bool}
+use Rattle.std.proofs.Common.{◌∙◌, ◌≡◌, ◌≤◌, ℕ, Bool, List, Some, ap, inl, length, refl, subst, sym}
 use Rattle.sha2.specs.Sha256.{sha256}
 use Rattle.edge_ports.specs.Counts.{Counted}
-use Rattle.command_words.specs.Meaning.{Requested, Source}
-use Rattle.command_words.specs.Reading.{requested_by}
 use Rattle.dialog_replies.specs.declared.start.Start.{Start}
-use Rattle.ask_session.specs.Outside.{Outside}
-use Rattle.ask_session.specs.Went.{Went}
-use Rattle.debuggee.specs.Execution.{Execution, execution_of}
-use Rattle.debuggee.specs.Limits.{input_bytes}
-use Rattle.debuggee.specs.Subjects.{subject_of}
-use Rattle.debug_cli.specs.Goes.{Goes}
-use Rattle.debug_cli.specs.Named.{Begun, start_in}
-use Rattle.debug_cli.specs.Outside.{outside}
-use Rattle.debug_cli.specs.Status.{is_console, is_screen}
-use Rattle.debug_cli.proofs.StatusByCode.{console_by_end, screen_by_end}
-use Rattle.debug_cli.proofs.StatusTellsWhy.{talk_goes}
+use Rattle.ask_session.specs.{Outside.Outside, Went.Went}
+use Rattle.command_words.specs.{Meaning.Requested, Meaning.Source, Reading.requested_by}
+use Rattle.debuggee.specs.{Execution.Execution, Execution.execution_of, Limits.input_bytes, Subjects.subject_of}
+use Rattle.debug_cli.proofs.{StatusByCode.console_by_end, StatusByCode.screen_by_end, StatusTellsWhy.talk_goes}
 use Rattle.debug_cli.proofs.files.ask_about.Goals as goal
+use Rattle.debug_cli.specs.{Goes.Goes, Named.Begun, Named.start_in, Outside.outside, Status.is_console, Status.is_screen}
 
 pub run_program-requires-clause-input : goal.run_program-requires-clause-input
 run_program-requires-clause-input g c = subst (λ (b : List ℕ). length b ≤ input_bytes) (sym c.as_slice-3.ensures) c.requires.supplied.short

@@ -1,4 +1,4 @@
-use Rattle.std.proofs.Common.{List, ℕ, sym, subst}
+use Rattle.std.proofs.Common.{ℕ, List, subst, sym}
 use Rattle.session_file.specs.Whole.{IsDigest}
 use Rattle.debug_cli.proofs.DigestsAreWhole.{digest_whole}
 use Rattle.debug_cli.proofs.files.digest.Goals as goal

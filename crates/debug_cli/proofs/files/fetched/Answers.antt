@@ -1,7 +1,7 @@
-use Rattle.std.proofs.Common.{ap, Err, None}
-use Rattle.debug_cli.specs.Outside.{outside}
+use Rattle.std.proofs.Common.{Err, None, ap}
 use Rattle.debug_cli.proofs.RefusalsAreOwed.{file_refused}
 use Rattle.debug_cli.proofs.files.fetched.Goals as goal
+use Rattle.debug_cli.specs.Outside.{outside}
 
 pub returns-in-Ok-clause-refused : goal.returns-in-Ok-clause-refused
 returns-in-Ok-clause-refused g c = λ r sought i. outside (c.in-Ok.ensures.files i) (c.in-Ok.ensures.counts i) None None

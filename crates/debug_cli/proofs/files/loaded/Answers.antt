@@ -1,13 +1,10 @@
-use Rattle.std.proofs.Common.{inr, List, ℕ, None, refl, sym, subst}
+use Rattle.std.proofs.Common.{ℕ, List, None, inr, refl, subst, sym}
 use Rattle.std.proofs.lemmas.Result.{err_from_is_err_and}
-use Rattle.command_words.specs.Meaning.{Source}
 use Rattle.ask_session.specs.Outside.{Outside}
-use Rattle.debug_cli.specs.declared.refusals.Refusal.TheVariants as refusal
-use Rattle.debug_cli.specs.Named.{IsFetched, session_bytes}
-use Rattle.debug_cli.specs.Outside.{outside}
-use Rattle.debug_cli.specs.Refusals.{IsRefusal}
+use Rattle.command_words.specs.Meaning.{Source}
 use Rattle.debug_cli.proofs.RefusalsAreOwed.{loaded, session_refused}
 use Rattle.debug_cli.proofs.files.loaded.Goals as goal
+use Rattle.debug_cli.specs.{Named.IsFetched, Named.session_bytes, Outside.outside, Refusals.IsRefusal, declared.refusals.Refusal.Refusal}
 
 pub returns-in_err-bytes-clause-refused : goal.returns-in_err-bytes-clause-refused
 returns-in_err-bytes-clause-refused g c = λ r run named.
@@ -21,7 +18,7 @@ returns-in_err-session-clause-refused g c = λ r run named.
     let same = c.in_ok-bytes.ensures.refused r (inr (inr (run, named, refl))) in
     let fetched = subst (λ (b : List ℕ). IsFetched before.files c.args.name.now session_bytes b) (sym c.as_slice.ensures) c.in_ok-bytes.ensures.bytes in
     rw (p.1, p.2)
-    (subst (λ (x : Outside). IsRefusal (Source r) before x (refusal.Session c.in_err-session.field-0.0)) (sym same)
+    (subst (λ (x : Outside). IsRefusal (Source r) before x (Refusal.Session c.in_err-session.field-0.0)) (sym same)
     (session_refused r before run c.args.name.now named c.as_slice.result.now fetched c.in_err-session.field-0.0 c.in_err-session.ensures.answer))
 
 pub returns-clause-saved : goal.returns-clause-saved

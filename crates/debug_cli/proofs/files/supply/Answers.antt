@@ -1,17 +1,12 @@
-use Rattle.std.proofs.Common.{◌≤◌, inl, length, List, ℕ, None, refl, sym, subst, ◌∙◌}
+use Rattle.std.proofs.Common.{◌∙◌, ◌≤◌, ℕ, List, None, inl, length, refl, subst, sym}
 use Rattle.std.proofs.lemmas.Result.{err_from_is_err_and}
 use Rattle.pas_lexer.specs.Limits.{source_bytes}
-use Rattle.command_words.specs.Meaning.{Source}
-use Rattle.command_words.specs.Reading.{requested_by}
-use Rattle.debuggee.specs.Program.{IsProgram}
 use Rattle.ask_session.specs.Outside.{Outside}
-use Rattle.debug_cli.specs.declared.refusals.Refusal.TheVariants as refusal
-use Rattle.debug_cli.specs.Named.{IsFetched}
-use Rattle.debug_cli.specs.Outside.{outside}
-use Rattle.debug_cli.specs.Refusals.{IsRefusal}
-use Rattle.debug_cli.proofs.RefusalsAreOwed.{source_refused}
-use Rattle.debug_cli.proofs.WhatIsSupplied.{all_supplied, is_checked, is_run}
+use Rattle.command_words.specs.{Meaning.Source, Reading.requested_by}
+use Rattle.debuggee.specs.Program.{IsProgram}
+use Rattle.debug_cli.proofs.{RefusalsAreOwed.source_refused, WhatIsSupplied.all_supplied, WhatIsSupplied.is_checked, WhatIsSupplied.is_run}
 use Rattle.debug_cli.proofs.files.supply.Goals as goal
+use Rattle.debug_cli.specs.{Named.IsFetched, Outside.outside, Refusals.IsRefusal, declared.refusals.Refusal.Refusal}
 
 pub read_source-requires : goal.read_source-requires
 read_source-requires g c = subst (λ (b : List ℕ). length b ≤ source_bytes) (sym c.as_slice.ensures) c.in_ok-source.ensures.bytes.1
@@ -41,7 +36,7 @@ returns-in_err-program-clause-refused g c =
     let before : Outside = outside (g.K.Keeper.files c.args.keeper.now) (g.K.Keeper.counts c.args.keeper.now) None None in
     let fetched = subst (λ (b : List ℕ). IsFetched before.files r.source source_bytes b) (sym c.as_slice.ensures) c.in_ok-source.ensures.bytes in
     rw (p.1, p.2)
-    (subst (λ (x : Outside). IsRefusal (Source r) before x (refusal.Source c.in_err-program.field-0.0)) (sym (c.in_ok-source.ensures.refused r (inl refl)))
+    (subst (λ (x : Outside). IsRefusal (Source r) before x (Refusal.Source c.in_err-program.field-0.0)) (sym (c.in_ok-source.ensures.refused r (inl refl)))
     (source_refused (Source r) before c.as_slice.result.now fetched c.in_err-program.field-0.0 c.in_err-program.ensures.refused))
 
 pub returns-in_err-input-clause-refused : goal.returns-in_err-input-clause-refused

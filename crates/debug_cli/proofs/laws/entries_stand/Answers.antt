@@ -1,5 +1,4 @@
-use Rattle.debuggee.specs.Execution.{execution_of}
-use Rattle.debuggee.specs.Subjects.{subject_of}
+use Rattle.debuggee.specs.{Execution.execution_of, Subjects.subject_of}
 use Rattle.debug_cli.proofs.laws.entries_stand.Goals as goal
 
 pub returns : goal.returns

@@ -1,7 +1,6 @@
+use Rattle.debuggee.specs.{Execution.execution_of, Subjects.subject_of}
 use Rattle.debug_cli.proofs.RunIsTree.{run_is_tree}
 use Rattle.debug_cli.proofs.laws.search_is_sound.Goals as goal
-use Rattle.debuggee.specs.Execution.{execution_of}
-use Rattle.debuggee.specs.Subjects.{subject_of}
 
 pub returns-clause-asks : goal.returns-clause-asks
 returns-clause-asks c = λ t p s.

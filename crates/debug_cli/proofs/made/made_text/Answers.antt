@@ -1,13 +1,10 @@
-use Rattle.std.proofs.Common.{◌≤◌, List, ℕ, length, sym, ap, subst, ◌∙◌}
+use Rattle.std.proofs.Common.{◌∙◌, ◌≤◌, ℕ, List, ap, length, subst, sym}
 use Rattle.std.proofs.lemmas.Result.{err_from_is_err_and}
 use Rattle.pas_lexer.specs.Limits.{source_bytes}
-use Rattle.command_words.specs.Meaning.{Made}
-use Rattle.debuggee.specs.Execution.{Execution}
-use Rattle.debuggee.specs.Program.{IsProgram}
-use Rattle.debuggee.specs.Subjects.{subject_of}
 use Rattle.made_program.specs.Lines.{made_lines}
-use Rattle.debug_cli.proofs.MadeSourceIsShort.{made_short}
-use Rattle.debug_cli.proofs.RefusalsAreOwed.{memory_refused, source_refused}
+use Rattle.command_words.specs.Meaning.{Made}
+use Rattle.debuggee.specs.{Execution.Execution, Program.IsProgram, Subjects.subject_of}
+use Rattle.debug_cli.proofs.{MadeSourceIsShort.made_short, RefusalsAreOwed.memory_refused, RefusalsAreOwed.source_refused}
 use Rattle.debug_cli.proofs.made.made_text.Goals as goal
 
 pub read_source-requires : goal.read_source-requires

@@ -1,7 +1,6 @@
-use Rattle.std.proofs.Common.{inl, List, ℕ, subst}
-use Rattle.debug_cli.specs.Given.{GivesText}
-use Rattle.debug_cli.specs.declared.status.Status.{Status}
+use Rattle.std.proofs.Common.{ℕ, List, inl, subst}
 use Rattle.debug_cli.proofs.refusals.refuse.Goals as goal
+use Rattle.debug_cli.specs.{Given.GivesText, declared.status.Status.Status}
 
 pub returns-in-Ok-clause-says : goal.returns-in-Ok-clause-says
 returns-in-Ok-clause-says g c =

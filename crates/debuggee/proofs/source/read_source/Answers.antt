@@ -1,5 +1,5 @@
 use Rattle.std.proofs.lemmas.Result.{err_from_is_err_and}
-use Rattle.debuggee.proofs.SourceIsRun.{no_tokens_only, no_tokens_refused, IsDivided, unread_only, unread_refused, read_only, read_found}
+use Rattle.debuggee.proofs.SourceIsRun.{IsDivided, no_tokens_only, no_tokens_refused, read_found, read_only, unread_only, unread_refused}
 use Rattle.debuggee.proofs.source.read_source.Goals as goal
 
 pub returns-in_err-tokens-clause-only : goal.returns-in_err-tokens-clause-only

@@ -1,4 +1,4 @@
-use Rattle.debuggee.proofs.SourceIsRun.{misfit_unlexed, misfit_only}
+use Rattle.debuggee.proofs.SourceIsRun.{misfit_only, misfit_unlexed}
 use Rattle.debuggee.proofs.source.read_tokens.Goals as goal
 
 pub returns-in-Err-clause-only : goal.returns-in-Err-clause-only

@@ -1,4 +1,4 @@
-use Rattle.std.proofs.Common.{sym, ◌∙◌}
+use Rattle.std.proofs.Common.{◌∙◌, sym}
 use Rattle.decl_checker.proofs.Early.{early_fault, early_none, found, nothing, without}
 use Rattle.decl_checker.proofs.answers.answer.Goals as goal
 

@@ -1,12 +1,9 @@
 use Rattle.std.proofs.Common.{◌≡◌, drop}
-use Rattle.pas_tree.specs.declared.expressions.Arguments.{out-Arguments}
-use Rattle.pas_tree.specs.declared.expressions.Index.{out-Index}
-use Rattle.pas_tree.specs.declared.expressions.Simple.{out-Simple}
-use Rattle.pas_tree.specs.declared.expressions.Term.{out-Term}
-use Rattle.check_steps.specs.Steps.{run_step, each}
-use Rattle.decl_checker.specs.Accesses.{access_type, arguments_uses, indices, members_uses, simple_uses, term_uses}
-use Rattle.decl_checker.specs.Accesses.{next_argument, next_factor, next_index, next_member, next_term, selector}
+use Rattle.pas_tree.specs.declared.expressions.{Arguments.out-Arguments, Index.out-Index, Simple.out-Simple, Term.out-Term}
+use Rattle.check_steps.specs.Steps.{each, run_step}
 use Rattle.decl_checker.proofs.expressions.+expressions.Given as goal
+use Rattle.decl_checker.specs.Accesses.{access_type, arguments_uses, indices, members_uses, next_argument, next_factor, next_index, next_member, next_term}
+use Rattle.decl_checker.specs.Accesses.{selector, simple_uses, term_uses}
 
 abbrev pub invariant-use_simple-others : goal.invariant-use_simple-others
 invariant-use_simple-others l =

@@ -1,8 +1,8 @@
 use Rattle.std.proofs.Common.{◌≡◌, drop}
-use Rattle.check_steps.specs.Steps.{run_step, each}
+use Rattle.check_steps.specs.Steps.{each, run_step}
 use Rattle.kind_checker.specs.Names.{on_name}
-use Rattle.decl_checker.specs.Parameters.{program_parameter}
 use Rattle.decl_checker.proofs.parameters.check_more_parameters.Given as goal
+use Rattle.decl_checker.specs.Parameters.{program_parameter}
 
 abbrev pub invariant-names : goal.invariant-names
 invariant-names l =

@@ -1,7 +1,7 @@
-use Rattle.std.proofs.Common.{nat_eq, sym, ◌∙◌, arith}
+use Rattle.std.proofs.Common.{◌∙◌, arith, nat_eq, sym}
 use Rattle.indexmap.specs.IndexMap.{get}
 use Rattle.decl_checker.proofs.Places.{known_at, new_at, tells_all}
-use Rattle.decl_checker.proofs.regions.starts.Goals.{then-not-contains_key+in_ok-insert, else-not-contains_key}
+use Rattle.decl_checker.proofs.regions.starts.Goals.{else-not-contains_key, then-not-contains_key+in_ok-insert}
 use Rattle.decl_checker.proofs.regions.starts.Goals as goal
 
 pub regions-preserved : goal.regions-preserved

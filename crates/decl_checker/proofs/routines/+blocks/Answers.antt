@@ -1,8 +1,8 @@
 use Rattle.std.proofs.Common.{◌∙◌}
 use Rattle.check_steps.proofs.Runs.{each_next}
-use Rattle.decl_checker.specs.Routines.{routine}
 use Rattle.decl_checker.proofs.BlockRolls.{routine_done}
 use Rattle.decl_checker.proofs.routines.+blocks.Goals as goal
+use Rattle.decl_checker.specs.Routines.{routine}
 
 pub check_routines-routines-preserved : goal.check_routines-routines-preserved
 check_routines-routines-preserved t c =

@@ -1,7 +1,7 @@
 use Rattle.std.proofs.Common.{◌≡◌, drop}
-use Rattle.check_steps.specs.Steps.{run_step, each}
-use Rattle.decl_checker.specs.Routines.{routine}
+use Rattle.check_steps.specs.Steps.{each, run_step}
 use Rattle.decl_checker.proofs.routines.+blocks.Given as goal
+use Rattle.decl_checker.specs.Routines.{routine}
 
 abbrev pub invariant-check_routines-routines : goal.invariant-check_routines-routines
 invariant-check_routines-routines l =

@@ -1,9 +1,8 @@
 use Rattle.std.proofs.Common.{◌≡◌, drop}
-use Rattle.pas_tree.specs.declared.statements.Case.{out-Case}
-use Rattle.pas_tree.specs.declared.statements.Statements.{out-Statements}
-use Rattle.check_steps.specs.Steps.{run_step, each}
-use Rattle.decl_checker.specs.Statements.{case_uses, next_branch, next_statement, statements_uses}
+use Rattle.pas_tree.specs.declared.statements.{Case.out-Case, Statements.out-Statements}
+use Rattle.check_steps.specs.Steps.{each, run_step}
 use Rattle.decl_checker.proofs.statements.+statements.Given as goal
+use Rattle.decl_checker.specs.Statements.{case_uses, next_branch, next_statement, statements_uses}
 
 abbrev pub invariant-use_statements-others : goal.invariant-use_statements-others
 invariant-use_statements-others l =

@@ -1,7 +1,7 @@
 use Rattle.std.proofs.Common.{◌≡◌, drop}
-use Rattle.check_steps.specs.Steps.{run_step, each}
-use Rattle.decl_checker.specs.Statements.{next_constant}
+use Rattle.check_steps.specs.Steps.{each, run_step}
 use Rattle.decl_checker.proofs.statements.use_more_constants.Given as goal
+use Rattle.decl_checker.specs.Statements.{next_constant}
 
 abbrev pub invariant-others : goal.invariant-others
 invariant-others l = run_step (each (next_constant l.frame) tt (drop l.other-index l.others)) l.work

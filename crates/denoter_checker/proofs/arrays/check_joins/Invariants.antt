@@ -1,7 +1,7 @@
-use Rattle.std.proofs.Common.{◌≡◌, ◌≤◌, take, length}
-use Rattle.check_steps.specs.Steps.{run_step, each_back}
-use Rattle.denoter_checker.specs.Arrays.{next_joined}
+use Rattle.std.proofs.Common.{◌≡◌, ◌≤◌, length, take}
+use Rattle.check_steps.specs.Steps.{each_back, run_step}
 use Rattle.denoter_checker.proofs.arrays.check_joins.Given as goal
+use Rattle.denoter_checker.specs.Arrays.{next_joined}
 
 abbrev pub invariant-others : goal.invariant-others
 invariant-others l = record {

@@ -1,7 +1,7 @@
 use Rattle.std.proofs.Common.{◌≡◌, drop}
-use Rattle.check_steps.specs.Steps.{run_step, each}
-use Rattle.denoter_checker.specs.Defines.{define_next_arm, define_next_section, define_other}
+use Rattle.check_steps.specs.Steps.{each, run_step}
 use Rattle.denoter_checker.proofs.defines.+define.Given as goal
+use Rattle.denoter_checker.specs.Defines.{define_next_arm, define_next_section, define_other}
 
 abbrev pub invariant-define_others-others : goal.invariant-define_others-others
 invariant-define_others-others l =

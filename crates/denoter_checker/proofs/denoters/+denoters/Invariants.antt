@@ -1,7 +1,7 @@
 use Rattle.std.proofs.Common.{◌≡◌, drop}
-use Rattle.check_steps.specs.Steps.{run_step, each}
-use Rattle.denoter_checker.specs.Denoters.{next_arm, next_index, next_section}
+use Rattle.check_steps.specs.Steps.{each, run_step}
 use Rattle.denoter_checker.proofs.denoters.+denoters.Given as goal
+use Rattle.denoter_checker.specs.Denoters.{next_arm, next_index, next_section}
 
 abbrev pub invariant-check_other_indexes-others : goal.invariant-check_other_indexes-others
 invariant-check_other_indexes-others l =

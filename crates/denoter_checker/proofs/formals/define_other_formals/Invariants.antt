@@ -1,7 +1,7 @@
 use Rattle.std.proofs.Common.{◌≡◌, drop}
-use Rattle.check_steps.specs.Steps.{run_step, each}
-use Rattle.denoter_checker.specs.Formals.{define_next_formal}
+use Rattle.check_steps.specs.Steps.{each, run_step}
 use Rattle.denoter_checker.proofs.formals.define_other_formals.Given as goal
+use Rattle.denoter_checker.specs.Formals.{define_next_formal}
 
 abbrev pub invariant-others : goal.invariant-others
 invariant-others l =

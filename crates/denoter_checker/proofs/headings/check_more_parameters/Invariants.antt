@@ -1,8 +1,8 @@
 use Rattle.std.proofs.Common.{◌≡◌, drop}
-use Rattle.check_steps.specs.Steps.{run_step, each}
+use Rattle.check_steps.specs.Steps.{each, run_step}
 use Rattle.kind_checker.specs.Names.{on_name}
-use Rattle.denoter_checker.specs.Headings.{parameter}
 use Rattle.denoter_checker.proofs.headings.check_more_parameters.Given as goal
+use Rattle.denoter_checker.specs.Headings.{parameter}
 
 abbrev pub invariant-names : goal.invariant-names
 invariant-names l =

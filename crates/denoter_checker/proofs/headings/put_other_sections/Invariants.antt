@@ -1,7 +1,7 @@
-use Rattle.std.proofs.Common.{◌≡◌, ◌≤◌, take, length}
-use Rattle.check_steps.specs.Steps.{run_step, each_back}
-use Rattle.denoter_checker.specs.Headings.{put_next_section}
+use Rattle.std.proofs.Common.{◌≡◌, ◌≤◌, length, take}
+use Rattle.check_steps.specs.Steps.{each_back, run_step}
 use Rattle.denoter_checker.proofs.headings.put_other_sections.Given as goal
+use Rattle.denoter_checker.specs.Headings.{put_next_section}
 
 abbrev pub invariant-others : goal.invariant-others
 invariant-others l = record {

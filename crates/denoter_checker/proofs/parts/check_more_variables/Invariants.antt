@@ -1,7 +1,7 @@
 use Rattle.std.proofs.Common.{◌≡◌, drop}
-use Rattle.check_steps.specs.Steps.{run_step, each}
-use Rattle.denoter_checker.specs.Parts.{variable_declaration}
+use Rattle.check_steps.specs.Steps.{each, run_step}
 use Rattle.denoter_checker.proofs.parts.check_more_variables.Given as goal
+use Rattle.denoter_checker.specs.Parts.{variable_declaration}
 
 abbrev pub invariant-parts : goal.invariant-parts
 invariant-parts l =

@@ -1,7 +1,7 @@
 use Rattle.std.proofs.Common.{◌≡◌, drop}
-use Rattle.check_steps.specs.Steps.{run_step, each}
-use Rattle.denoter_checker.specs.Parts.{define_type}
+use Rattle.check_steps.specs.Steps.{each, run_step}
 use Rattle.denoter_checker.proofs.parts.define_more_types.Given as goal
+use Rattle.denoter_checker.specs.Parts.{define_type}
 
 abbrev pub invariant-parts : goal.invariant-parts
 invariant-parts l =

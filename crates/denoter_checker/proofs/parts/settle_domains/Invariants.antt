@@ -1,7 +1,7 @@
-use Rattle.std.proofs.Common.{◌≡◌, ◌-◌}
+use Rattle.std.proofs.Common.{◌-◌, ◌≡◌}
 use Rattle.check_steps.specs.Steps.{run_step}
-use Rattle.denoter_checker.specs.Parts.{settle_from}
 use Rattle.denoter_checker.proofs.parts.settle_domains.Given as goal
+use Rattle.denoter_checker.specs.Parts.{settle_from}
 
 abbrev pub invariant-tokens : goal.invariant-tokens
 invariant-tokens l =

@@ -1,8 +1,8 @@
 use Rattle.std.proofs.Common.{◌≡◌, drop}
-use Rattle.check_steps.specs.Steps.{run_step, each}
+use Rattle.check_steps.specs.Steps.{each, run_step}
 use Rattle.kind_checker.specs.Names.{on_name}
-use Rattle.denoter_checker.specs.Denoters.{field_place}
 use Rattle.denoter_checker.proofs.records.check_more_fields.Given as goal
+use Rattle.denoter_checker.specs.Denoters.{field_place}
 
 abbrev pub invariant-names : goal.invariant-names
 invariant-names l =

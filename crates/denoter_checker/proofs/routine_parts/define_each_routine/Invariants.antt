@@ -1,7 +1,7 @@
 use Rattle.std.proofs.Common.{◌≡◌, drop}
-use Rattle.check_steps.specs.Steps.{run_step, each}
-use Rattle.denoter_checker.specs.RoutineParts.{define_routine}
+use Rattle.check_steps.specs.Steps.{each, run_step}
 use Rattle.denoter_checker.proofs.routine_parts.define_each_routine.Given as goal
+use Rattle.denoter_checker.specs.RoutineParts.{define_routine}
 
 abbrev pub invariant-routines : goal.invariant-routines
 invariant-routines l =

@@ -1,7 +1,7 @@
 use Rattle.std.proofs.Common.{◌≡◌, drop}
-use Rattle.check_steps.specs.Steps.{run_step, each}
-use Rattle.denoter_checker.specs.Variants.{next_arm_choices}
+use Rattle.check_steps.specs.Steps.{each, run_step}
 use Rattle.denoter_checker.proofs.variants.check_more_arm_choices.Given as goal
+use Rattle.denoter_checker.specs.Variants.{next_arm_choices}
 
 abbrev pub invariant-arms : goal.invariant-arms
 invariant-arms l =

@@ -1,7 +1,7 @@
 use Rattle.std.proofs.Common.{◌≡◌, drop}
-use Rattle.check_steps.specs.Steps.{run_step, each}
-use Rattle.denoter_checker.specs.Variants.{next_choice}
+use Rattle.check_steps.specs.Steps.{each, run_step}
 use Rattle.denoter_checker.proofs.variants.check_more_choices.Given as goal
+use Rattle.denoter_checker.specs.Variants.{next_choice}
 
 abbrev pub invariant-constants : goal.invariant-constants
 invariant-constants l =

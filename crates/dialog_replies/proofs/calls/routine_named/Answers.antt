@@ -1,4 +1,4 @@
-use Rattle.std.proofs.Common.{◌≡◌, ◌<◌, ℕ, List, false, ap, sym, ◌∙◌, arith}
+use Rattle.std.proofs.Common.{◌<◌, ◌∙◌, ◌≡◌, ℕ, List, ap, arith, false, sym}
 use Rattle.std.specs.Str.{str_eq_ignore_ascii_case}
 use Rattle.dialog_replies.proofs.LinesInTurn.{passed_over}
 use Rattle.dialog_replies.proofs.calls.routine_named.Goals as goal

@@ -1,9 +1,6 @@
-use Rattle.std.proofs.Common.{◌≡◌, ◌-◌}
-use Rattle.std.specs.Prelude.{find}
-use Rattle.std.specs.List.{range_with_len}
-use Rattle.std.specs.Str.{str_eq_ignore_ascii_case}
-use Rattle.dialog_replies.specs.Subject.{routine_named}
+use Rattle.std.{proofs.Common.◌-◌, proofs.Common.◌≡◌, proofs.Common.find, specs.List.range_with_len, specs.Str.str_eq_ignore_ascii_case}
 use Rattle.dialog_replies.proofs.calls.routine_named.Given as goal
+use Rattle.dialog_replies.specs.Subject.{routine_named}
 
 abbrev pub invariant-loop-routine : goal.invariant-loop-routine
 invariant-loop-routine g l =

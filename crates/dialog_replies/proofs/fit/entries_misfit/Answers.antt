@@ -1,4 +1,4 @@
-use Rattle.std.proofs.Common.{sym, ◌∙◌}
+use Rattle.std.proofs.Common.{◌∙◌, sym}
 use Rattle.dialog_replies.proofs.MisfitsInTurn.{found_here, passed_here}
 use Rattle.dialog_replies.proofs.fit.entries_misfit.Goals as goal
 

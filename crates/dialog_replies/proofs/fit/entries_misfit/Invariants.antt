@@ -1,6 +1,6 @@
-use Rattle.std.proofs.Common.{◌≡◌, ◌+◌, drop}
-use Rattle.dialog_replies.specs.Fit.{entries_misfit}
+use Rattle.std.proofs.Common.{◌+◌, ◌≡◌, drop}
 use Rattle.dialog_replies.proofs.fit.entries_misfit.Given as goal
+use Rattle.dialog_replies.specs.Fit.{entries_misfit}
 
 abbrev pub invariant-places : goal.invariant-places
 invariant-places g l =

@@ -1,11 +1,10 @@
-use Rattle.std.proofs.Common.{◌≡◌, ℕ, ◌+◌, List, [], ◌∷◌, ◌++◌, length, ap, sym, ◌∙◌, arith}
-use Rattle.std.specs.Prelude.{map}
+use Rattle.std.proofs.Common.{◌++◌, ◌+◌, ◌∙◌, ◌∷◌, ◌≡◌, [], ℕ, List, ap, arith, length, map, sym}
 use Rattle.std.proofs.lemmas.List.FromFn.{length-map-range_with_len, map-range_with_len_more}
 use Rattle.call_tree.specs.declared.records.Mark.{Mark}
 use Rattle.answer_book.specs.Numbers.{numbers_below}
-use Rattle.dialog_replies.specs.Subject.{calls_recorded}
 use Rattle.dialog_replies.proofs.ColumnsOfCalls.{calls_counted}
 use Rattle.dialog_replies.proofs.marks.marks_now.Goals as goal
+use Rattle.dialog_replies.specs.Subject.{calls_recorded}
 
 -- the mark of one more call
 one_more : (mark : ℕ → Mark) (marks marks' : List Mark) (new : Mark) (call : ℕ) → marks ≡ map mark (numbers_below call)

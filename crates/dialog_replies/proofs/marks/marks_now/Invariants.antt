@@ -1,8 +1,5 @@
-use Rattle.std.proofs.Common.{◌≡◌}
-use Rattle.std.specs.Prelude.{map}
-use Rattle.answer_book.specs.Entries.{standing_answers}
-use Rattle.answer_book.specs.Marks.{mark_of}
-use Rattle.answer_book.specs.Numbers.{numbers_below}
+use Rattle.std.proofs.Common.{◌≡◌, map}
+use Rattle.answer_book.specs.{Entries.standing_answers, Marks.mark_of, Numbers.numbers_below}
 use Rattle.dialog_replies.proofs.marks.marks_now.Given as goal
 
 abbrev pub invariant-loop-call : goal.invariant-loop-call

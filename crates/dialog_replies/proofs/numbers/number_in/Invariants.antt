@@ -1,7 +1,5 @@
-use Rattle.std.proofs.Common.{◌≡◌, ◌<◌, ◌^◌, drop}
-use Rattle.std.specs.Char.{is_ascii_digit}
-use Rattle.std.specs.List.{list_all}
-use Rattle.std.specs.Str.Parse.{digits_value, digits_value_after}
+use Rattle.std.proofs.Common.{◌<◌, ◌^◌, ◌≡◌, drop}
+use Rattle.std.specs.{Char.is_ascii_digit, List.list_all, Str.Parse.digits_value, Str.Parse.digits_value_after}
 use Rattle.dialog_replies.proofs.numbers.number_in.Given as goal
 
 abbrev pub invariant-loop-digit : goal.invariant-loop-digit

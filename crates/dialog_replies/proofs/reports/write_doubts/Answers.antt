@@ -1,13 +1,10 @@
-use Rattle.std.proofs.Common.{◌≡◌, ◌++◌, ℕ, List, ap, sym, ◌∙◌}
-use Rattle.std.specs.Prelude.{Some, None, filter, find}
+use Rattle.std.proofs.Common.{◌++◌, ◌∙◌, ◌≡◌, ℕ, List, None, Some, ap, filter, find, sym}
 use Rattle.std.specs.List.{flat_map}
 use Rattle.optimal_query.specs.Region.{is_after}
-use Rattle.dialog_replies.specs.Subject.{calls_recorded, doubts_after}
-use Rattle.dialog_replies.specs.Texts.{doubt_line, doubt_lines}
-use Rattle.dialog_replies.proofs.LinesInTurn.{all_written, line_written, shorter}
-use Rattle.dialog_replies.proofs.NamedCalls.{all_rise, next_of_doubts}
+use Rattle.dialog_replies.proofs.{LinesInTurn.all_written, LinesInTurn.line_written, LinesInTurn.shorter, NamedCalls.all_rise, NamedCalls.next_of_doubts}
 use Rattle.dialog_replies.proofs.RisingCalls.{all_after_none, found_within, next_is, none_is}
 use Rattle.dialog_replies.proofs.reports.write_doubts.Goals as goal
+use Rattle.dialog_replies.specs.{Subject.calls_recorded, Subject.doubts_after, Texts.doubt_line, Texts.doubt_lines}
 
 pub doubts-init : goal.doubts-init
 doubts-init g c =

@@ -1,10 +1,7 @@
-use Rattle.std.proofs.Common.{◌≡◌, ◌++◌, length}
-use Rattle.std.specs.Prelude.{filter}
-use Rattle.std.specs.List.{flat_map}
+use Rattle.std.{proofs.Common.◌++◌, proofs.Common.◌≡◌, proofs.Common.filter, proofs.Common.length, specs.List.flat_map}
 use Rattle.optimal_query.specs.Region.{is_after}
-use Rattle.dialog_replies.specs.Subject.{doubts_after}
-use Rattle.dialog_replies.specs.Texts.{doubt_line, doubt_lines}
 use Rattle.dialog_replies.proofs.reports.write_doubts.Given as goal
+use Rattle.dialog_replies.specs.{Subject.doubts_after, Texts.doubt_line, Texts.doubt_lines}
 
 abbrev pub invariant-doubts : goal.invariant-doubts
 invariant-doubts g l =

@@ -1,10 +1,8 @@
-use Rattle.std.proofs.Common.{arith, sym, subst}
-use Rattle.std.proofs.lemmas.Result.{IfOk-weaker}
+use Rattle.std.proofs.{Common.arith, Common.subst, Common.sym, lemmas.Result.IfOk-weaker}
 use Rattle.optimal_query.specs.Search.{Search}
-use Rattle.dialog_replies.specs.Kept.{IsSearchOf}
-use Rattle.dialog_replies.proofs.ColumnsOfCalls.{calls_counted}
-use Rattle.dialog_replies.proofs.FitsTheRun.{named_in_run, over_the_run}
+use Rattle.dialog_replies.proofs.{ColumnsOfCalls.calls_counted, FitsTheRun.named_in_run, FitsTheRun.over_the_run}
 use Rattle.dialog_replies.proofs.resuming.resume_with.Goals as goal
+use Rattle.dialog_replies.specs.Kept.{IsSearchOf}
 
 pub with_entries-requires-clause-a_call : goal.with_entries-requires-clause-a_call
 with_entries-requires-clause-a_call g c =

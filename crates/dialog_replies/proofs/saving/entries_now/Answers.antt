@@ -1,7 +1,5 @@
-use Rattle.std.proofs.Common.{◌+◌, ◌∷◌, [], ◌++◌, List, ap, sym, ◌∙◌}
-use Rattle.answer_book.specs.declared.entries.Entry.{Entry}
-use Rattle.answer_book.specs.Answers.{Answers}
-use Rattle.answer_book.specs.Entries.{entry_at}
+use Rattle.std.proofs.Common.{◌++◌, ◌+◌, ◌∙◌, ◌∷◌, [], List, ap, sym}
+use Rattle.answer_book.specs.{Answers.Answers, Entries.entry_at, declared.entries.Entry.Entry}
 use Rattle.dialog_replies.proofs.EntriesInTurn.{at_place, one_more}
 use Rattle.dialog_replies.proofs.saving.entries_now.Goals as goal
 

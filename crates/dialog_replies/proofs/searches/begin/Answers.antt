@@ -1,8 +1,8 @@
-use Rattle.std.proofs.Common.{arith, sym, subst}
+use Rattle.std.proofs.Common.{arith, subst, sym}
 use Rattle.optimal_query.specs.Search.{Search}
-use Rattle.dialog_replies.specs.Kept.{IsSearchOf}
 use Rattle.dialog_replies.proofs.ColumnsOfCalls.{calls_counted, new_is_search}
 use Rattle.dialog_replies.proofs.searches.begin.Goals as goal
+use Rattle.dialog_replies.specs.Kept.{IsSearchOf}
 
 pub new-requires-clause-a_call : goal.new-requires-clause-a_call
 new-requires-clause-a_call g c =

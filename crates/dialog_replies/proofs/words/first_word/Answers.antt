@@ -1,7 +1,7 @@
-use Rattle.std.proofs.Common.{List, ℕ, ◌∷◌, take, drop, not, ◌∙◌, sym, ap}
-use Rattle.dialog_replies.specs.Words.{count_while, is_space_or_tab, words}
+use Rattle.std.proofs.Common.{◌∙◌, ◌∷◌, ℕ, List, ap, drop, not, sym, take}
 use Rattle.dialog_replies.proofs.WordsInTurn.{no_words, rest_is, some_words}
 use Rattle.dialog_replies.proofs.words.first_word.Goals as goal
+use Rattle.dialog_replies.specs.Words.{count_while, is_space_or_tab, words}
 
 pub returns-then-end-eq0-clause-first : goal.returns-then-end-eq0-clause-first
 returns-then-end-eq0-clause-first c =

@@ -1,6 +1,6 @@
-use Rattle.std.proofs.Common.{◌≡◌, ◌+◌, drop, not}
-use Rattle.dialog_replies.specs.Words.{is_space_or_tab, count_while}
+use Rattle.std.proofs.Common.{◌+◌, ◌≡◌, drop, not}
 use Rattle.dialog_replies.proofs.words.solid.Given as goal
+use Rattle.dialog_replies.specs.Words.{count_while, is_space_or_tab}
 
 abbrev pub invariant-loop-c : goal.invariant-loop-c
 invariant-loop-c l = record {

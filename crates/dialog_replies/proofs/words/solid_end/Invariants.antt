@@ -1,6 +1,6 @@
 use Rattle.std.proofs.Common.{◌≡◌, ◌≤◌, length}
-use Rattle.dialog_replies.specs.Words.{solid_end}
 use Rattle.dialog_replies.proofs.words.solid_end.Given as goal
+use Rattle.dialog_replies.specs.Words.{solid_end}
 
 abbrev pub decreases-blanks : goal.decreases-blanks
 decreases-blanks l = l.end

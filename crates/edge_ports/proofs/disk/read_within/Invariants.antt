@@ -1,5 +1,4 @@
-use Rattle.std.proofs.Common.{◌+◌, ◌-◌, ◌≤◌, length}
-use Rattle.std.specs.Io.KnownBytes.{Consumes}
+use Rattle.std.{proofs.Common.◌+◌, proofs.Common.◌-◌, proofs.Common.◌≤◌, proofs.Common.length, specs.Io.KnownBytes.Consumes}
 use Rattle.edge_ports.proofs.disk.read_within.Given as goal
 
 abbrev pub invariant-chunks : goal.invariant-chunks

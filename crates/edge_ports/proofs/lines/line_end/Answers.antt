@@ -1,6 +1,4 @@
-use Rattle.std.proofs.Common.{sym, ◌∙◌, ap, ◌+◌}
-use Rattle.std.specs.Option.{option_map}
-use Rattle.std.proofs.lemmas.List.{take_rest}
+use Rattle.std.{proofs.Common.◌+◌, proofs.Common.◌∙◌, proofs.Common.ap, proofs.Common.sym, proofs.lemmas.List.take_rest, specs.Option.option_map}
 use Rattle.edge_ports.proofs.NextLineIsFirst.{line_end_of-from}
 use Rattle.edge_ports.proofs.lines.line_end.Goals as goal
 

@@ -1,9 +1,7 @@
-use Rattle.std.proofs.Common.{◌≡◌, ◌+◌, ◌-◌, ap, sym, ◌∙◌, inl, arith, get_or}
-use Rattle.std.specs.List.{slice_index}
-use Rattle.std.proofs.lemmas.List.Quantifiers.{position-Some}
-use Rattle.std.proofs.lemmas.Bool.Decides.{Decides-eqb}
-use Rattle.edge_ports.specs.Lines.{is_line_end}
+use Rattle.std.proofs.Common.{◌+◌, ◌-◌, ◌∙◌, ◌≡◌, ap, arith, get_or, inl, sym}
+use Rattle.std.{proofs.lemmas.Bool.Decides.Decides-eqb, proofs.lemmas.List.Quantifiers.position-Some, specs.List.slice_index}
 use Rattle.edge_ports.proofs.lines.line_range.Goals as goal
+use Rattle.edge_ports.specs.Lines.{is_line_end}
 
 pub returns-in-Some-clause-end : goal.returns-in-Some-clause-end
 returns-in-Some-clause-end c =

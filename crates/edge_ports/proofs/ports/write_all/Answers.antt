@@ -1,7 +1,6 @@
-use Rattle.std.proofs.Common.{arith, ℕ, ◌∙◌}
-use Rattle.std.proofs.lemmas.List.{take_rest, length-take, length-drop}
-use Rattle.std.proofs.lemmas.Result.{err_from_is_err_and}
-use Rattle.edge_ports.proofs.PiecesAddUp.{gave_prefix_take, gave_piece}
+use Rattle.std.proofs.Common.{◌∙◌, ℕ, arith}
+use Rattle.std.proofs.lemmas.{List.length-drop, List.length-take, List.take_rest, Result.err_from_is_err_and}
+use Rattle.edge_ports.proofs.PiecesAddUp.{gave_piece, gave_prefix_take}
 use Rattle.edge_ports.proofs.ports.write_all.Goals as goal
 
 pub returns-in_err-at-clause-failed : goal.returns-in_err-at-clause-failed

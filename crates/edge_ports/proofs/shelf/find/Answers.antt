@@ -1,10 +1,7 @@
-use Rattle.std.proofs.Common.{ap, sym, ◌∙◌}
-use Rattle.std.proofs.lemmas.List.{nil_from_length}
-use Rattle.std.specs.VecDeque.Iter.{deque_iter_rest}
-use Rattle.edge_ports.specs.Files.{file_at}
-use Rattle.edge_ports.specs.Entries.{files_of}
+use Rattle.std.{proofs.Common.◌∙◌, proofs.Common.ap, proofs.Common.sym, proofs.lemmas.List.nil_from_length, specs.VecDeque.Iter.deque_iter_rest}
 use Rattle.edge_ports.proofs.NewestFileCounts.{file_at_none}
 use Rattle.edge_ports.proofs.shelf.find.Goals as goal
+use Rattle.edge_ports.specs.{Entries.files_of, Files.file_at}
 
 pub returns : goal.returns
 returns c =

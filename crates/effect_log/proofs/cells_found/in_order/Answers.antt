@@ -1,9 +1,9 @@
-use Rattle.std.proofs.Common.{◌≡◌, ◌≤◌, length, ◌∙◌, refl, arith}
+use Rattle.std.proofs.Common.{◌∙◌, ◌≡◌, ◌≤◌, arith, length, refl}
 use Rattle.std.proofs.lemmas.List.{append-nil}
 use Rattle.cell_value.specs.Effects.{listed}
-use Rattle.effect_log.specs.Passing.{found_at}
-use Rattle.effect_log.proofs.RisingEntriesAreListed.{rising_is_listed, length_listed}
+use Rattle.effect_log.proofs.RisingEntriesAreListed.{length_listed, rising_is_listed}
 use Rattle.effect_log.proofs.cells_found.in_order.Goals as goal
+use Rattle.effect_log.specs.Passing.{found_at}
 
 pub returns-clause-all : goal.returns-clause-all
 returns-clause-all g c =

@@ -1,4 +1,4 @@
-use Rattle.std.proofs.Common.{◌≡◌, ◌++◌}
+use Rattle.std.proofs.Common.{◌++◌, ◌≡◌}
 use Rattle.effect_log.proofs.cells_found.in_order.Given as goal
 
 abbrev pub invariant-loop-addr : goal.invariant-loop-addr

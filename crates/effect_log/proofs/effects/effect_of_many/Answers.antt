@@ -1,4 +1,4 @@
-use Rattle.std.specs.Prelude.{slice_range}
+use Rattle.std.proofs.Common.{slice_range}
 use Rattle.effect_log.proofs.FoundGoesOn.{changes_are, reads_are}
 use Rattle.effect_log.proofs.effects.effect_of_many.Goals as goal
 

@@ -1,8 +1,6 @@
-use Rattle.std.proofs.Common.{◌≡◌, [], ap, arith, take, drop, ◌-◌}
-use Rattle.std.specs.Prelude.{slice_range}
+use Rattle.std.proofs.Common.{◌-◌, ◌≡◌, [], ap, arith, drop, slice_range, take}
 use Rattle.cell_value.specs.Effects.{IsCountable, made_by, taken_by}
-use Rattle.effect_log.proofs.SlicesGoOn.{slice_has, slice_more, slice_sum}
-use Rattle.effect_log.proofs.FoundGoesOn.{one_more_found}
+use Rattle.effect_log.proofs.{FoundGoesOn.one_more_found, SlicesGoOn.slice_has, SlicesGoOn.slice_more, SlicesGoOn.slice_sum}
 use Rattle.effect_log.proofs.effects.found_in.Goals as goal
 
 pub loop-i-init : goal.loop-i-init

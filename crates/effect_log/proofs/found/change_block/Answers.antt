@@ -1,7 +1,7 @@
-use Rattle.std.proofs.Common.{sym, ◌∙◌}
+use Rattle.std.proofs.Common.{◌∙◌, sym}
 use Rattle.effect_log.proofs.BlocksChange.{block_begins, block_goes_on, block_passes_by}
+use Rattle.effect_log.proofs.found.change_block.Goals.{else-is_shared_cell, then-is_shared_cell+in_ok-put}
 use Rattle.effect_log.proofs.found.change_block.Goals as goal
-use Rattle.effect_log.proofs.found.change_block.Goals.{then-is_shared_cell+in_ok-put, else-is_shared_cell}
 
 pub loop-addr-init : goal.loop-addr-init
 loop-addr-init c = block_begins c.args.base c.args.first c.args.first c.args.change c.args.changes.now

@@ -1,4 +1,4 @@
-use Rattle.std.proofs.Common.{◌≡◌, ◌+◌, ◌*◌, arith}
+use Rattle.std.proofs.Common.{◌*◌, ◌+◌, ◌≡◌, arith}
 use Rattle.effect_log.proofs.ListsGoOn.{none_yet, up_to}
 use Rattle.effect_log.proofs.page_lists.lists_of.Goals as goal
 

@@ -1,4 +1,4 @@
-use Rattle.std.proofs.Common.{◌∙◌, ◌+◌, ◌-◌, arith, sym, ap, replicate}
+use Rattle.std.proofs.Common.{◌+◌, ◌-◌, ◌∙◌, ap, arith, replicate, sym}
 use Rattle.cell_value.specs.declared.values.Value.TheVariants.{Undefined}
 use Rattle.core_program.specs.Blocks.{filled}
 use Rattle.eval_ops.proofs.FramesByCell.{block_more}

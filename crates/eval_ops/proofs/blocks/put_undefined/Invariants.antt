@@ -1,4 +1,4 @@
-use Rattle.std.proofs.Common.{◌≡◌, ◌+◌, ◌-◌, replicate}
+use Rattle.std.proofs.Common.{◌+◌, ◌-◌, ◌≡◌, replicate}
 use Rattle.cell_value.specs.declared.values.Value.TheVariants.{Undefined}
 use Rattle.core_program.specs.Blocks.{filled}
 use Rattle.eval_ops.proofs.blocks.put_undefined.Given as goal

@@ -1,6 +1,5 @@
-use Rattle.std.proofs.Common.{◌∙◌, ◌+◌, ap, drop, sym}
-use Rattle.core_program.specs.Blocks.{filled}
-use Rattle.core_program.specs.Run.{frame_cells}
+use Rattle.std.proofs.Common.{◌+◌, ◌∙◌, ap, drop, sym}
+use Rattle.core_program.specs.{Blocks.filled, Run.frame_cells}
 use Rattle.eval_ops.proofs.FramesByCell.{filled_more}
 use Rattle.eval_ops.proofs.calls.put_cells.Goals as goal
 

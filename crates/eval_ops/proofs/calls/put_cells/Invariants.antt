@@ -1,6 +1,5 @@
-use Rattle.std.proofs.Common.{◌≡◌, ◌+◌, drop}
-use Rattle.core_program.specs.Blocks.{filled}
-use Rattle.core_program.specs.Run.{frame_cells}
+use Rattle.std.proofs.Common.{◌+◌, ◌≡◌, drop}
+use Rattle.core_program.specs.{Blocks.filled, Run.frame_cells}
 use Rattle.eval_ops.proofs.calls.put_cells.Given as goal
 
 abbrev pub invariant-cells : goal.invariant-cells

@@ -1,4 +1,4 @@
-use Rattle.std.proofs.Common.{◌∙◌, ◌+◌, ◌-◌, arith, sym, ap}
+use Rattle.std.proofs.Common.{◌+◌, ◌-◌, ◌∙◌, ap, arith, sym}
 use Rattle.core_program.specs.Blocks.{cleared}
 use Rattle.eval_ops.proofs.FramesByCell.{cleared_more}
 use Rattle.eval_ops.proofs.calls.remove_cells.Goals as goal

@@ -1,4 +1,4 @@
-use Rattle.std.proofs.Common.{◌≡◌, ◌+◌, ◌-◌}
+use Rattle.std.proofs.Common.{◌+◌, ◌-◌, ◌≡◌}
 use Rattle.core_program.specs.Blocks.{cleared}
 use Rattle.eval_ops.proofs.calls.remove_cells.Given as goal
 

@@ -1,11 +1,9 @@
-use Rattle.std.proofs.Common.{◌+◌, ◌-◌, ◌++◌, ◌∷◌, [], ◌∙◌, ap, length}
+use Rattle.std.proofs.Common.{◌++◌, ◌+◌, ◌-◌, ◌∙◌, ◌∷◌, [], ap, length}
 use Rattle.std.proofs.lemmas.Result.{err_from_is_err_and}
-use Rattle.core_program.specs.State.{moved}
-use Rattle.core_program.specs.Cells.{read_value, read_values}
-use Rattle.eval_ops.specs.Machines.{moment_of}
-use Rattle.eval_ops.proofs.ActionsCompose.{came_next, came_stop}
-use Rattle.eval_ops.proofs.NextCells.{at_read, length_pushed}
+use Rattle.core_program.specs.{Cells.read_value, Cells.read_values, State.moved}
+use Rattle.eval_ops.proofs.{ActionsCompose.came_next, ActionsCompose.came_stop, NextCells.at_read, NextCells.length_pushed}
 use Rattle.eval_ops.proofs.cells.read_cells.Goals as goal
+use Rattle.eval_ops.specs.Machines.{moment_of}
 
 pub returns-in_err-value-clause-action : goal.returns-in_err-value-clause-action
 returns-in_err-value-clause-action c =

@@ -1,8 +1,8 @@
-use Rattle.std.proofs.Common.{◌≡◌, ◌-◌, [], length}
+use Rattle.std.proofs.Common.{◌-◌, ◌≡◌, [], length}
 use Rattle.core_program.specs.Cells as cells
-use Rattle.eval_ops.specs.Machines.{IsReady, moment_of}
 use Rattle.eval_ops.proofs.ActionsCompose.{CameTo}
 use Rattle.eval_ops.proofs.cells.read_cells.Given as goal
+use Rattle.eval_ops.specs.Machines.{IsReady, moment_of}
 
 abbrev pub invariant-cells : goal.invariant-cells
 invariant-cells l = record {

@@ -1,11 +1,8 @@
-use Rattle.std.proofs.Common.{◌+◌, drop}
-use Rattle.std.proofs.lemmas.Result.{err_from_is_err_and}
-use Rattle.core_program.specs.State.{moved}
-use Rattle.core_program.specs.Cells.{write, writes}
-use Rattle.eval_ops.specs.Machines.{moment_of}
-use Rattle.eval_ops.proofs.ActionsCompose.{came_next, came_stop}
-use Rattle.eval_ops.proofs.NextCells.{at_write}
+use Rattle.std.proofs.{Common.◌+◌, Common.drop, lemmas.Result.err_from_is_err_and}
+use Rattle.core_program.specs.{Cells.write, Cells.writes, State.moved}
+use Rattle.eval_ops.proofs.{ActionsCompose.came_next, ActionsCompose.came_stop, NextCells.at_write}
 use Rattle.eval_ops.proofs.cells.write_cells.Goals as goal
+use Rattle.eval_ops.specs.Machines.{moment_of}
 
 pub returns-in_err-write_cell-clause-action : goal.returns-in_err-write_cell-clause-action
 returns-in_err-write_cell-clause-action c =

@@ -1,11 +1,11 @@
+use Rattle.std.proofs.Common.{◌<◌, ◌∙◌, ℕ, ap, arith, length, subst, sym}
+use Rattle.std.proofs.lemmas.Int.{to_z-of_z}
 use mir.Syntax.{w64}
 use mir.Val.{of_z, to_z}
-use Rattle.std.proofs.Common.{◌∙◌, ℕ, sym, ap, length, subst, arith, ◌<◌}
-use Rattle.std.proofs.lemmas.Int.{to_z-of_z}
 use Rattle.core_program.specs.Statements.{choice_along}
-use Rattle.eval_ops.specs.Choices.{Rises, found_by}
 use Rattle.eval_ops.proofs.ItemsInOrder.{one_choice}
 use Rattle.eval_ops.proofs.choices.choose_from.Goals as goal
+use Rattle.eval_ops.specs.Choices.{Rises, found_by}
 
 pub returns-in-Chosen : goal.returns-in-Chosen
 returns-in-Chosen c =

@@ -1,4 +1,4 @@
-use Rattle.std.proofs.Common.{◌≡◌, ◌-◌, length}
+use Rattle.std.proofs.Common.{◌-◌, ◌≡◌, length}
 use Rattle.core_program.specs.Statements.{choice_along}
 use Rattle.eval_ops.proofs.choices.choose_from.Given as goal
 

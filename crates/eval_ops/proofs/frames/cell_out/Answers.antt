@@ -1,11 +1,8 @@
-use Rattle.std.proofs.Common.{Ok, refl}
-use Rattle.std.proofs.lemmas.Result.{err_from_is_err_and}
-use Rattle.core_program.specs.State.{moved}
-use Rattle.core_program.specs.Actions.{Give}
-use Rattle.core_program.specs.Cells.{frame_out}
-use Rattle.eval_ops.specs.Machines.{moment_of}
+use Rattle.std.proofs.{Common.Ok, Common.refl, lemmas.Result.err_from_is_err_and}
+use Rattle.core_program.specs.{Actions.Give, Cells.frame_out, State.moved}
 use Rattle.eval_ops.proofs.ActionsCompose.{does_bind, does_given, does_stop}
 use Rattle.eval_ops.proofs.frames.cell_out.Goals as goal
+use Rattle.eval_ops.specs.Machines.{moment_of}
 
 pub returns-in_err-frame-clause-action : goal.returns-in_err-frame-clause-action
 returns-in_err-frame-clause-action c =

@@ -1,10 +1,8 @@
-use Rattle.std.proofs.Common.{◌-◌, ◌+◌}
-use Rattle.std.proofs.lemmas.Result.{err_from_is_err_and}
-use Rattle.core_program.specs.Cells.{linked, frame_out}
-use Rattle.eval_ops.specs.Machines.{moment_of}
-use Rattle.eval_ops.proofs.ActionsCompose.{came_next, came_stop}
-use Rattle.eval_ops.proofs.NextCells.{at_link}
+use Rattle.std.proofs.{Common.◌+◌, Common.◌-◌, lemmas.Result.err_from_is_err_and}
+use Rattle.core_program.specs.Cells.{frame_out, linked}
+use Rattle.eval_ops.proofs.{ActionsCompose.came_next, ActionsCompose.came_stop, NextCells.at_link}
 use Rattle.eval_ops.proofs.frames.frame_out.Goals as goal
+use Rattle.eval_ops.specs.Machines.{moment_of}
 
 pub returns-in_err-frame-clause-action : goal.returns-in_err-frame-clause-action
 returns-in_err-frame-clause-action c =

@@ -1,9 +1,8 @@
-use Rattle.std.proofs.Common.{Ok, Err}
-use Rattle.std.proofs.lemmas.Result.{err_from_is_err_and}
+use Rattle.std.proofs.{Common.Err, Common.Ok, lemmas.Result.err_from_is_err_and}
 use Rattle.core_program.specs.Cells.{cell_out, routine_held}
-use Rattle.eval_ops.specs.Machines.{moment_of}
 use Rattle.eval_ops.proofs.ActionsCompose.{does_bind, does_stop}
 use Rattle.eval_ops.proofs.frames.routine_out.Goals as goal
+use Rattle.eval_ops.specs.Machines.{moment_of}
 
 pub returns-in_err-cell-clause-action : goal.returns-in_err-cell-clause-action
 returns-in_err-cell-clause-action c =

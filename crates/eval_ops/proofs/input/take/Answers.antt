@@ -1,5 +1,4 @@
-use Rattle.std.proofs.Common.{arith}
-use Rattle.std.proofs.lemmas.Option.{slice_get_within}
+use Rattle.std.proofs.{Common.arith, lemmas.Option.slice_get_within}
 use Rattle.eval_ops.proofs.input.take.Goals as goal
 
 pub overflow_add-next : goal.overflow_add-next

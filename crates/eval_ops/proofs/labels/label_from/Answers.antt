@@ -1,8 +1,8 @@
-use Rattle.std.proofs.Common.{◌∙◌, ℕ, sym, ap, length, subst, arith, ◌<◌}
+use Rattle.std.proofs.Common.{◌<◌, ◌∙◌, ℕ, ap, arith, length, subst, sym}
 use Rattle.core_program.specs.Statements.{label_along}
-use Rattle.eval_ops.specs.Choices.{Rises, found_by}
 use Rattle.eval_ops.proofs.ItemsInOrder.{one_label}
 use Rattle.eval_ops.proofs.labels.label_from.Goals as goal
+use Rattle.eval_ops.specs.Choices.{Rises, found_by}
 
 pub returns-in-Chosen : goal.returns-in-Chosen
 returns-in-Chosen c =

@@ -1,4 +1,4 @@
-use Rattle.std.proofs.Common.{◌≡◌, ◌-◌, length}
+use Rattle.std.proofs.Common.{◌-◌, ◌≡◌, length}
 use Rattle.core_program.specs.Statements.{label_along}
 use Rattle.eval_ops.proofs.labels.label_from.Given as goal
 

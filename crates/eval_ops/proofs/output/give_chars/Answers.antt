@@ -1,12 +1,9 @@
 use Rattle.std.proofs.Common.{◌+◌, drop, length, map, refl}
-use Rattle.std.proofs.lemmas.Option.{slice_get_read}
-use Rattle.std.proofs.lemmas.Result.{err_from_is_err_and}
+use Rattle.std.proofs.lemmas.{Option.slice_get_read, Result.err_from_is_err_and}
 use Rattle.core_program.specs.Output.{gives}
-use Rattle.eval_ops.specs.Machines.{moment_of}
-use Rattle.eval_ops.specs.Output.{give_one}
-use Rattle.eval_ops.proofs.ActionsCompose.{came_next, came_stop}
-use Rattle.eval_ops.proofs.Texts.{at_char}
+use Rattle.eval_ops.proofs.{ActionsCompose.came_next, ActionsCompose.came_stop, Texts.at_char}
 use Rattle.eval_ops.proofs.output.give_chars.Goals as goal
+use Rattle.eval_ops.specs.{Machines.moment_of, Output.give_one}
 
 pub returns-in_err-give_char-clause-action : goal.returns-in_err-give_char-clause-action
 returns-in_err-give_char-clause-action g c =

@@ -1,8 +1,8 @@
 use Rattle.std.proofs.Common.{drop, map}
 use Rattle.core_program.specs.Output.{gives}
-use Rattle.eval_ops.specs.Machines.{IsReady, moment_of}
 use Rattle.eval_ops.proofs.ActionsCompose.{CameTo}
 use Rattle.eval_ops.proofs.output.give_chars.Given as goal
+use Rattle.eval_ops.specs.Machines.{IsReady, moment_of}
 
 abbrev pub invariant-chars : goal.invariant-chars
 invariant-chars g l = record {

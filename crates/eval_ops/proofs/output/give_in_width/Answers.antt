@@ -1,8 +1,7 @@
-use Rattle.std.proofs.Common.{Ok, Err}
-use Rattle.std.proofs.lemmas.Result.{err_from_is_err_and}
-use Rattle.eval_ops.specs.Machines.{moment_of}
+use Rattle.std.proofs.{Common.Err, Common.Ok, lemmas.Result.err_from_is_err_and}
 use Rattle.eval_ops.proofs.Texts.{wide_goes, wide_stops}
 use Rattle.eval_ops.proofs.output.give_in_width.Goals as goal
+use Rattle.eval_ops.specs.Machines.{moment_of}
 
 pub returns-in_err-give_spaces-clause-action : goal.returns-in_err-give_spaces-clause-action
 returns-in_err-give_spaces-clause-action g c =

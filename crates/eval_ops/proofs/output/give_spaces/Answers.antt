@@ -1,11 +1,8 @@
-use Rattle.std.proofs.Common.{◌+◌, ◌-◌}
-use Rattle.std.proofs.lemmas.Result.{err_from_is_err_and}
-use Rattle.core_program.specs.Input.{space}
-use Rattle.core_program.specs.Output.{give_byte, gives, spaces}
-use Rattle.eval_ops.specs.Machines.{moment_of}
-use Rattle.eval_ops.proofs.ActionsCompose.{came_next, came_stop}
-use Rattle.eval_ops.proofs.Texts.{at_space}
+use Rattle.std.proofs.{Common.◌+◌, Common.◌-◌, lemmas.Result.err_from_is_err_and}
+use Rattle.core_program.specs.{Input.space, Output.give_byte, Output.gives, Output.spaces}
+use Rattle.eval_ops.proofs.{ActionsCompose.came_next, ActionsCompose.came_stop, Texts.at_space}
 use Rattle.eval_ops.proofs.output.give_spaces.Goals as goal
+use Rattle.eval_ops.specs.Machines.{moment_of}
 
 pub returns-in_err-give-clause-action : goal.returns-in_err-give-clause-action
 returns-in_err-give-clause-action c =

@@ -1,8 +1,8 @@
 use Rattle.std.proofs.Common.{◌-◌}
 use Rattle.core_program.specs.Output.{gives, spaces}
-use Rattle.eval_ops.specs.Machines.{IsReady, moment_of}
 use Rattle.eval_ops.proofs.ActionsCompose.{CameTo}
 use Rattle.eval_ops.proofs.output.give_spaces.Given as goal
+use Rattle.eval_ops.specs.Machines.{IsReady, moment_of}
 
 abbrev pub invariant-spaces : goal.invariant-spaces
 invariant-spaces l = record {

@@ -1,12 +1,10 @@
+use Rattle.std.proofs.{Common.rules, Common.subst, lemmas.Int.to_z-of_z}
 use mir.Syntax.{w64}
 use mir.Val.{SFits}
-use Rattle.std.proofs.Common.{rules, subst}
-use Rattle.std.proofs.lemmas.Int.{to_z-of_z}
 use Rattle.cell_value.specs.declared.values.Value.TheVariants.{Number}
-use Rattle.core_program.specs.Actions.{performs}
-use Rattle.core_program.specs.Output.{written, integer_text}
-use Rattle.eval_ops.specs.Machines.{DoesAll, machine_state, moment_of}
+use Rattle.core_program.specs.{Actions.performs, Output.integer_text, Output.written}
 use Rattle.eval_ops.proofs.output.write_integer.Goals as goal
+use Rattle.eval_ops.specs.Machines.{DoesAll, machine_state, moment_of}
 
 pub returns-in-Number-clause-action : goal.returns-in-Number-clause-action
 returns-in-Number-clause-action c = let f : SFits w64 c.in-Number.number = search rules in

@@ -1,9 +1,8 @@
-use Rattle.std.proofs.Common.{[], Ok, Err}
-use Rattle.std.proofs.lemmas.Result.{err_from_is_err_and}
+use Rattle.std.proofs.{Common.[], Common.Err, Common.Ok, lemmas.Result.err_from_is_err_and}
 use Rattle.core_program.specs.Cells.{read_values, writes}
-use Rattle.eval_ops.specs.Machines.{moment_of}
 use Rattle.eval_ops.proofs.ActionsCompose.{does_bind, does_stop}
 use Rattle.eval_ops.proofs.packing.copy_cells.Goals as goal
+use Rattle.eval_ops.specs.Machines.{moment_of}
 
 pub returns-in_err-values-clause-action : goal.returns-in_err-values-clause-action
 returns-in_err-values-clause-action c =

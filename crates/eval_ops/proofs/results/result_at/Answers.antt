@@ -1,11 +1,8 @@
-use Rattle.std.proofs.Common.{Ok, Err}
-use Rattle.std.proofs.lemmas.Result.{err_from_is_err_and}
+use Rattle.std.proofs.{Common.Err, Common.Ok, lemmas.Result.err_from_is_err_and}
 use Rattle.core_program.specs.Cells.{read_value}
-use Rattle.eval_ops.specs.Results.{returned}
-use Rattle.eval_ops.specs.Machines.{moment_of}
-use Rattle.eval_ops.proofs.ActionsCompose.{does_bind, does_given}
-use Rattle.eval_ops.proofs.Bounds.{within_bounds}
+use Rattle.eval_ops.proofs.{ActionsCompose.does_bind, ActionsCompose.does_given, Bounds.within_bounds}
 use Rattle.eval_ops.proofs.results.result_at.Goals as goal
+use Rattle.eval_ops.specs.{Machines.moment_of, Results.returned}
 
 pub returns-in_err-value-clause-action : goal.returns-in_err-value-clause-action
 returns-in_err-value-clause-action c =

@@ -1,4 +1,4 @@
-use Rattle.std.proofs.Common.{◌≡◌, ◌++◌, drop}
+use Rattle.std.proofs.Common.{◌++◌, ◌≡◌, drop}
 use Rattle.core_program.specs.Values as values
 use Rattle.eval_ops.proofs.strings.string_of.Given as goal
 

@@ -1,11 +1,10 @@
-use Rattle.std.proofs.Common.{◌-◌, sym, ap, ◌∙◌, subst, Some, Ok, Err, refl}
+use Rattle.std.proofs.Common.{◌-◌, ◌∙◌, Err, Ok, Some, ap, refl, subst, sym}
 use Rattle.std.proofs.lemmas.Result.{err_from_is_err_and}
-use Rattle.core_program.specs.Actions.{Give, performs}
-use Rattle.core_program.specs.Variants.{variant_entered, all_entered}
-use Rattle.eval_ops.specs.Machines.{DoesAll, machine_state, moment_of}
-use Rattle.eval_ops.proofs.ActionsCompose.{does_bind, does_stop, does_given}
+use Rattle.core_program.specs.{Actions.Give, Actions.performs, Variants.all_entered, Variants.variant_entered}
+use Rattle.eval_ops.proofs.ActionsCompose.{does_bind, does_given, does_stop}
 use Rattle.eval_ops.proofs.VariantsEntered.{entered_next, entered_none}
 use Rattle.eval_ops.proofs.variants.+enter_all.Goals as goal
+use Rattle.eval_ops.specs.Machines.{DoesAll, machine_state, moment_of}
 
 pub returns-in_err-enter_all-in-Some-Some-clause-action : goal.returns-in_err-enter_all-in-Some-Some-clause-action
 returns-in_err-enter_all-in-Some-Some-clause-action t c =

@@ -1,11 +1,9 @@
-use Rattle.std.proofs.Common.{◌≡◌, ◌+◌, Some, sym, subst, ◌∙◌, Ok, Err, refl}
+use Rattle.std.proofs.Common.{◌+◌, ◌∙◌, ◌≡◌, Err, Ok, Some, refl, subst, sym}
 use Rattle.std.proofs.lemmas.Result.{err_from_is_err_and}
-use Rattle.core_program.specs.State.{moved}
-use Rattle.core_program.specs.Actions.{Give, performs}
-use Rattle.core_program.specs.Variants.{field_in, field_held, all_entered}
-use Rattle.eval_ops.specs.Machines.{DoesAll, machine_state, moment_of}
-use Rattle.eval_ops.proofs.ActionsCompose.{does_bind, does_stop, does_given}
+use Rattle.core_program.specs.{Actions.Give, Actions.performs, State.moved, Variants.all_entered, Variants.field_held, Variants.field_in}
+use Rattle.eval_ops.proofs.ActionsCompose.{does_bind, does_given, does_stop}
 use Rattle.eval_ops.proofs.variants.field_at.Goals as goal
+use Rattle.eval_ops.specs.Machines.{DoesAll, machine_state, moment_of}
 
 pub returns-in_err-enter_all-in-Some-clause-action : goal.returns-in_err-enter_all-in-Some-clause-action
 returns-in_err-enter_all-in-Some-clause-action c =

@@ -1,13 +1,9 @@
-use Rattle.std.proofs.Common.{◌-◌, ◌+◌}
-use Rattle.std.proofs.lemmas.Result.{err_from_is_err_and}
+use Rattle.std.proofs.{Common.◌+◌, Common.◌-◌, lemmas.Result.err_from_is_err_and}
 use Rattle.cell_value.specs.declared.values.Value.TheVariants.{Undefined}
-use Rattle.core_program.specs.State.{moved}
-use Rattle.core_program.specs.Cells.{write}
-use Rattle.core_program.specs.Variants.{undefine_cells}
-use Rattle.eval_ops.specs.Machines.{moment_of}
-use Rattle.eval_ops.proofs.ActionsCompose.{came_next, came_stop}
-use Rattle.eval_ops.proofs.NextUndefined.{at_undefined}
+use Rattle.core_program.specs.{Cells.write, State.moved, Variants.undefine_cells}
+use Rattle.eval_ops.proofs.{ActionsCompose.came_next, ActionsCompose.came_stop, NextUndefined.at_undefined}
 use Rattle.eval_ops.proofs.variants.undefine_cells.Goals as goal
+use Rattle.eval_ops.specs.Machines.{moment_of}
 
 pub returns-in_err-write_cell-clause-action : goal.returns-in_err-write_cell-clause-action
 returns-in_err-write_cell-clause-action c =

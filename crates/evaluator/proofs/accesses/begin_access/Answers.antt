@@ -1,11 +1,10 @@
-use Rattle.std.proofs.Common.{refl, ap}
-use Rattle.core_program.specs.Tree.{bind}
-use Rattle.core_program.specs.Accesses.{of_access}
+use Rattle.std.proofs.Common.{ap, refl}
+use Rattle.core_program.specs.{Accesses.of_access, Tree.bind}
 use Rattle.eval_ops.specs.Machines.{moment_of}
-use Rattle.evaluator.specs.Rest.{here, waiting, located, top_list, lists_of}
-use Rattle.evaluator.specs.declared.tasks.Located.TheVariants as locateds
 use Rattle.evaluator.proofs.Turning.{turns_same}
 use Rattle.evaluator.proofs.accesses.begin_access.Goals as goal
+use Rattle.evaluator.specs.Rest.{here, lists_of, located, top_list, waiting}
+use Rattle.evaluator.specs.declared.tasks.Located.{Located}
 
 pub returns-in-Variable-clause-turns : goal.returns-in-Variable-clause-turns
 returns-in-Variable-clause-turns c =
@@ -27,14 +26,14 @@ pub returns-in-Index-clause-turns : goal.returns-in-Index-clause-turns
 returns-in-Index-clause-turns c =
     let p = c.args.program.now in
     rw c.in-Index.is (c.locate_first.ensures.turns p
-    (located p c.args.body.now.home (locateds.Index c.in-Index.index c.in-Index.array c.args.line) (top_list (lists_of c.args.body.now)))
+    (located p c.args.body.now.home (Located.Index c.in-Index.index c.in-Index.array c.args.line) (top_list (lists_of c.args.body.now)))
     (moment_of c.args.machine.now) refl)
 
 pub returns-in-Field-clause-turns : goal.returns-in-Field-clause-turns
 returns-in-Field-clause-turns c =
     let p = c.args.program.now in
     rw c.in-Field.is (c.locate_first-in-Field.ensures.turns p
-    (located p c.args.body.now.home (locateds.Field c.in-Field.field c.args.target c.args.line) (top_list (lists_of c.args.body.now)))
+    (located p c.args.body.now.home (Located.Field c.in-Field.field c.args.target c.args.line) (top_list (lists_of c.args.body.now)))
     (moment_of c.args.machine.now) refl)
 
 pub returns-in-Within-clause-turns : goal.returns-in-Within-clause-turns
@@ -48,5 +47,5 @@ pub returns-in-Dereference-clause-turns : goal.returns-in-Dereference-clause-tur
 returns-in-Dereference-clause-turns c =
     let p = c.args.program.now in
     rw c.in-Dereference.is (c.locate_first-in-Dereference.ensures.turns p
-    (located p c.args.body.now.home (locateds.Pointed c.args.line) (top_list (lists_of c.args.body.now)))
+    (located p c.args.body.now.home (Located.Pointed c.args.line) (top_list (lists_of c.args.body.now)))
     (moment_of c.args.machine.now) refl)

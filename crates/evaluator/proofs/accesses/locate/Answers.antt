@@ -1,18 +1,13 @@
-use Rattle.std.proofs.Common.{◌≡◌, ℕ, Bool, refl, sym, ap, ◌∙◌, arith}
-use Rattle.core_program.specs.declared.rows.Row.{Row}
-use Rattle.core_program.specs.declared.rows.Row.TheVariants as rows
-use Rattle.core_program.specs.declared.rows.AccessRow.{AccessRow}
-use Rattle.core_program.specs.ProgramRows.{ProgramRows, row_at}
-use Rattle.core_program.specs.Tree.{Here, Locate}
-use Rattle.core_program.specs.Accesses.{access_in, no_row}
+use Rattle.std.proofs.Common.{◌∙◌, ◌≡◌, ℕ, Bool, ap, arith, refl, sym}
+use Rattle.core_program.specs.{Accesses.access_in, Accesses.no_row, ProgramRows.ProgramRows, ProgramRows.row_at, Tree.Here, Tree.Locate}
+use Rattle.core_program.specs.declared.rows.{AccessRow.AccessRow, Row.Row}
 use Rattle.eval_ops.specs.Machines.{moment_of}
-use Rattle.evaluator.specs.Rest.{here, waiting}
-use Rattle.evaluator.proofs.StepsFall.{falls_so}
-use Rattle.evaluator.proofs.Turning.{part_comes, turns_after}
+use Rattle.evaluator.proofs.{StepsFall.falls_so, Turning.part_comes, Turning.turns_after}
 use Rattle.evaluator.proofs.accesses.locate.Goals as goal
+use Rattle.evaluator.specs.Rest.{here, waiting}
 
-no_access : (p : ProgramRows) (n : ℕ) (target : Bool) (h : Here) (r : Row) → ((a : AccessRow) → r ≡ rows.Access a → ⊥) → access_in p n target h r ≡ no_row
-no_access p n target h (rows.Access a) f = absurd (f a refl)
+no_access : (p : ProgramRows) (n : ℕ) (target : Bool) (h : Here) (r : Row) → ((a : AccessRow) → r ≡ Row.Access a → ⊥) → access_in p n target h r ≡ no_row
+no_access p n target h (Row.Access a) f = absurd (f a refl)
 no_access p n target h r f = refl
 
 pub returns-in-Access-clause-turns : goal.returns-in-Access-clause-turns
@@ -21,7 +16,7 @@ returns-in-Access-clause-turns c =
     let h = here c.args.body.now.home c.args.line in
     turns_after p _ _ (moment_of c.args.machine.now) (moment_of c.args.machine.now) _ c.begin_access.result c.begin_access.new.body
     (part_comes p (Locate c.args.row c.args.target h) (waiting p c.args.body.now) (moment_of c.args.machine.now) _
-    (let e : row_at p c.args.row ≡ rows.Access c.in-Access.access = cc in ap (access_in p c.args.row c.args.target h) e))
+    (let e : row_at p c.args.row ≡ Row.Access c.in-Access.access = cc in ap (access_in p c.args.row c.args.target h) e))
     c.begin_access.ensures.turns
 
 pub returns-in_default-clause-turns : goal.returns-in_default-clause-turns

@@ -1,20 +1,17 @@
-use Rattle.core_program.specs.declared.rows.TypeRow.TheVariants as kinds
-use Rattle.core_program.specs.ProgramRows.{type_at}
-use Rattle.std.proofs.Common.{◌≡◌, ℤ, ℕ, Some, sym, ap, ◌∙◌}
-use Rattle.core_program.specs.Tree.{ActTree, bind, doing}
-use Rattle.core_program.specs.Accesses.{address, with_components, with_bounds}
+use Rattle.std.proofs.Common.{◌∙◌, ◌≡◌, ℕ, ℤ, Some, ap, sym}
+use Rattle.core_program.specs.{ProgramRows.type_at, Tree.ActTree, Tree.bind, Tree.doing, declared.rows.TypeRow.TypeRow}
+use Rattle.core_program.specs.Accesses.{address, with_bounds, with_components}
 use Rattle.core_program.specs.Cells as action
 use Rattle.eval_ops.specs.Arrays.{size_in}
-use Rattle.evaluator.specs.Rest.{waiting}
-use Rattle.evaluator.proofs.TransfersByRow.{sized_by, with_number}
-use Rattle.evaluator.proofs.Turning.{turns_same}
+use Rattle.evaluator.proofs.{TransfersByRow.sized_by, TransfersByRow.with_number, Turning.turns_same}
 use Rattle.evaluator.proofs.accesses.locate_component.Goals as goal
+use Rattle.evaluator.specs.Rest.{waiting}
 
 pub returns-in-Some-clause-turns : goal.returns-in-Some-clause-turns
 returns-in-Some-clause-turns c m =
     let p = c.args.program.now in
     let n = c.in-Some-Array in
-    let e : c.args.array ≡ Some (kinds.Array n.field-0-0 n.index n.part n.field-0-3) = n.is ∙ ap Some (rw n.is at n.field-0-is) in
+    let e : c.args.array ≡ Some (TypeRow.Array n.field-0-0 n.index n.part n.field-0-3) = n.is ∙ ap Some (rw n.is at n.field-0-is) in
     let s : size_in (type_at p n.part) ≡ Some c.in-Some.size = cc in
     let K = waiting p c.args.body.now in
     let at : ℤ → ℤ → ℕ → ActTree = λ least greatest size. doing c.args.line

@@ -1,19 +1,16 @@
+use Rattle.std.proofs.Common.{◌∙◌, ◌≡◌, ℕ, Some, ap, rules}
 use mir.Syntax.{w32}
 use mir.Val.{of_z, to_z}
-use Rattle.std.proofs.Common.{rules}
-use Rattle.core_program.specs.declared.rows.TypeRow.TheVariants as kinds
-use Rattle.std.proofs.Common.{◌≡◌, ℕ, Some, ap, ◌∙◌}
-use Rattle.core_program.specs.Tree.{bind, doing}
-use Rattle.core_program.specs.Accesses.{address, with_bounds}
+use Rattle.core_program.specs.{Accesses.address, Accesses.with_bounds, Tree.bind, Tree.doing, declared.rows.TypeRow.TypeRow}
 use Rattle.core_program.specs.Cells as action
-use Rattle.evaluator.specs.Rest.{waiting}
-use Rattle.evaluator.proofs.Turning.{turns_same, given}
+use Rattle.evaluator.proofs.Turning.{given, turns_same}
 use Rattle.evaluator.proofs.accesses.locate_component_in.Goals as goal
+use Rattle.evaluator.specs.Rest.{waiting}
 
 pub returns-in-Some-Ordinal-clause-turns : goal.returns-in-Some-Ordinal-clause-turns
 returns-in-Some-Ordinal-clause-turns c m =
     let p = c.args.program.now in
-    let e : c.args.index ≡ Some (kinds.Ordinal c.in-Some-Ordinal.least c.in-Some-Ordinal.greatest) = c.in-Some-Ordinal.is ∙ ap Some
+    let e : c.args.index ≡ Some (TypeRow.Ordinal c.in-Some-Ordinal.least c.in-Some-Ordinal.greatest) = c.in-Some-Ordinal.is ∙ ap Some
     (rw c.in-Some-Ordinal.is at c.in-Some-Ordinal.field-0-is) in
     let l : to_z w32 (of_z w32 c.in-Some-Ordinal.least) ≡ c.in-Some-Ordinal.least = search rules in
     let g : to_z w32 (of_z w32 c.in-Some-Ordinal.greatest) ≡ c.in-Some-Ordinal.greatest = search rules in
@@ -33,7 +30,7 @@ returns-in-Some-Ordinal-clause-turns c m =
 pub returns-in-Some-Subrange-clause-turns : goal.returns-in-Some-Subrange-clause-turns
 returns-in-Some-Subrange-clause-turns c m =
     let p = c.args.program.now in
-    let e : c.args.index ≡ Some (kinds.Subrange c.in-Some-Subrange.field-0-0 c.in-Some-Subrange.least c.in-Some-Subrange.greatest) =
+    let e : c.args.index ≡ Some (TypeRow.Subrange c.in-Some-Subrange.field-0-0 c.in-Some-Subrange.least c.in-Some-Subrange.greatest) =
     c.in-Some-Subrange.is ∙ ap Some (rw c.in-Some-Subrange.is at c.in-Some-Subrange.field-0-is) in
     let l : to_z w32 (of_z w32 c.in-Some-Subrange.least) ≡ c.in-Some-Subrange.least = search rules in
     let g : to_z w32 (of_z w32 c.in-Some-Subrange.greatest) ≡ c.in-Some-Subrange.greatest = search rules in

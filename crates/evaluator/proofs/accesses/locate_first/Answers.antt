@@ -1,9 +1,7 @@
-use Rattle.std.proofs.Common.{sym, ◌∙◌, arith}
-use Rattle.evaluator.specs.Rest.{here, waiting}
-use Rattle.evaluator.proofs.StepsFall.{falls_so}
-use Rattle.evaluator.proofs.Turning.{turns_same, before_it}
-use Rattle.evaluator.proofs.LocatedWeighs.{located_light}
+use Rattle.std.proofs.Common.{◌∙◌, arith, sym}
+use Rattle.evaluator.proofs.{LocatedWeighs.located_light, StepsFall.falls_so, Turning.before_it, Turning.turns_same}
 use Rattle.evaluator.proofs.accesses.locate_first.Goals as goal
+use Rattle.evaluator.specs.Rest.{here, waiting}
 
 pub returns-then-access-row-clause-turns : goal.returns-then-access-row-clause-turns
 returns-then-access-row-clause-turns c p go m e = turns_same p _ _ m m c.wait.result c.wait.new.self

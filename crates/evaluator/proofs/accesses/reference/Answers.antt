@@ -1,12 +1,9 @@
 use Rattle.std.proofs.Common.{arith}
-use Rattle.core_program.specs.Cells.{reference_out}
-use Rattle.core_program.specs.Tree.{doing}
-use Rattle.core_program.specs.Accesses.{address}
+use Rattle.core_program.specs.{Accesses.address, Cells.reference_out, Tree.doing}
 use Rattle.eval_ops.specs.Machines.{moment_of}
-use Rattle.evaluator.specs.Rest.{here, waiting}
-use Rattle.evaluator.proofs.StepsFall.{falls_so}
-use Rattle.evaluator.proofs.Turning.{spent, turns_after, spent_less}
+use Rattle.evaluator.proofs.{StepsFall.falls_so, Turning.spent, Turning.spent_less, Turning.turns_after}
 use Rattle.evaluator.proofs.accesses.reference.Goals as goal
+use Rattle.evaluator.specs.Rest.{here, waiting}
 
 pub returns-in-Ok-clause-turns : goal.returns-in-Ok-clause-turns
 returns-in-Ok-clause-turns c = turns_after c.args.program.now _ _ _ _ _ c.address.result c.address.new.self

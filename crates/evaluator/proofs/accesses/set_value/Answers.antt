@@ -1,21 +1,17 @@
+use Rattle.std.proofs.Common.{◌∙◌, ◌≡◌, Some, ap, arith, rules}
 use mir.Syntax.{w32}
 use mir.Val.{of_z, to_z}
-use Rattle.std.proofs.Common.{rules}
-use Rattle.core_program.specs.declared.rows.TypeRow.TheVariants as kinds
-use Rattle.std.proofs.Common.{◌≡◌, Some, ap, ◌∙◌, arith}
-use Rattle.core_program.specs.Tree.{bind, doing}
-use Rattle.core_program.specs.Accesses.{scalar, with_bounds}
+use Rattle.core_program.specs.{Accesses.scalar, Accesses.with_bounds, Tree.bind, Tree.doing, declared.rows.TypeRow.TypeRow}
 use Rattle.core_program.specs.Cells as action
 use Rattle.eval_ops.specs.Machines.{moment_of}
-use Rattle.evaluator.specs.Rest.{waiting}
-use Rattle.evaluator.proofs.StepsFall.{falls_so}
-use Rattle.evaluator.proofs.Turning.{turns_same}
+use Rattle.evaluator.proofs.{StepsFall.falls_so, Turning.turns_same}
 use Rattle.evaluator.proofs.accesses.set_value.Goals as goal
+use Rattle.evaluator.specs.Rest.{waiting}
 
 pub returns-in-Some-Ordinal-clause-turns : goal.returns-in-Some-Ordinal-clause-turns
 returns-in-Some-Ordinal-clause-turns c p =
     let n = c.in-Some-Ordinal in
-    let e : c.args.base ≡ Some (kinds.Ordinal n.least n.greatest) = n.is ∙ ap Some (rw n.is at n.field-0-is) in
+    let e : c.args.base ≡ Some (TypeRow.Ordinal n.least n.greatest) = n.is ∙ ap Some (rw n.is at n.field-0-is) in
     let l : to_z w32 (of_z w32 n.least) ≡ n.least = search rules in
     let g : to_z w32 (of_z w32 n.greatest) ≡ n.greatest = search rules in
     turns_same p _ _ _ _ c.scalar.result c.scalar.new.self
@@ -33,7 +29,7 @@ returns-in-Some-Ordinal-clause-falls c =
 pub returns-in-Some-Subrange-clause-turns : goal.returns-in-Some-Subrange-clause-turns
 returns-in-Some-Subrange-clause-turns c p =
     let n = c.in-Some-Subrange in
-    let e : c.args.base ≡ Some (kinds.Subrange n.field-0-0 n.least n.greatest) = n.is ∙ ap Some (rw n.is at n.field-0-is) in
+    let e : c.args.base ≡ Some (TypeRow.Subrange n.field-0-0 n.least n.greatest) = n.is ∙ ap Some (rw n.is at n.field-0-is) in
     let l : to_z w32 (of_z w32 n.least) ≡ n.least = search rules in
     let g : to_z w32 (of_z w32 n.greatest) ≡ n.greatest = search rules in
     turns_same p _ _ _ _ c.scalar-in-Some-Subrange.result c.scalar-in-Some-Subrange.new.self

@@ -1,14 +1,10 @@
-use Rattle.std.proofs.Common.{List}
-use Rattle.core_program.specs.Cells.{read_values}
+use Rattle.std.proofs.Common.{[], List, arith}
 use Rattle.cell_value.specs.declared.values.Value.{Value}
-use Rattle.core_program.specs.Tree.{Cells}
-use Rattle.std.proofs.Common.{[], arith}
-use Rattle.core_program.specs.Tree.{Ret}
+use Rattle.core_program.specs.{Cells.read_values, Tree.Cells, Tree.Ret}
 use Rattle.eval_ops.specs.Machines.{moment_of}
-use Rattle.evaluator.specs.Rest.{waiting}
-use Rattle.evaluator.proofs.StepsFall.{steps_fall, falls_so}
-use Rattle.evaluator.proofs.Turning.{turns_after, turns_failed, did, fails}
+use Rattle.evaluator.proofs.{StepsFall.falls_so, StepsFall.steps_fall, Turning.did, Turning.fails, Turning.turns_after, Turning.turns_failed}
 use Rattle.evaluator.proofs.accesses.variable_cells.Goals as goal
+use Rattle.evaluator.specs.Rest.{waiting}
 
 pub returns-in-Ok-clause-turns : goal.returns-in-Ok-clause-turns
 returns-in-Ok-clause-turns c =

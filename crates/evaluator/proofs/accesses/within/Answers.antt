@@ -1,12 +1,9 @@
-use Rattle.std.proofs.Common.{◌≡◌, Some, None, ap}
-use Rattle.std.specs.Prelude.{slice_get}
-use Rattle.core_program.specs.Tree.{bind}
-use Rattle.core_program.specs.Accesses.{locate_field, with_record}
+use Rattle.std.proofs.Common.{◌≡◌, None, Some, ap, slice_get}
+use Rattle.core_program.specs.{Accesses.locate_field, Accesses.with_record, Tree.bind}
 use Rattle.eval_ops.specs.Machines.{moment_of}
-use Rattle.evaluator.specs.Rest.{here, waiting}
-use Rattle.evaluator.proofs.Moves.{comes_then, comes_same}
-use Rattle.evaluator.proofs.Turning.{spent, turns_after}
+use Rattle.evaluator.proofs.{Moves.comes_same, Moves.comes_then, Turning.spent, Turning.turns_after}
 use Rattle.evaluator.proofs.accesses.within.Goals as goal
+use Rattle.evaluator.specs.Rest.{here, waiting}
 
 pub returns-in-Some-clause-turns : goal.returns-in-Some-clause-turns
 returns-in-Some-clause-turns c =

@@ -1,11 +1,10 @@
+use Rattle.std.proofs.Common.{◌++◌, ◌∙◌, ◌∷◌, [], Err, Ok, ap, sym}
 use Rattle.cell_value.specs.declared.values.Value.{Value}
-use Rattle.std.proofs.Common.{[], ◌∷◌, ◌++◌, Ok, Err, sym, ap, ◌∙◌}
-use Rattle.core_program.specs.Tree.{bind, doing}
-use Rattle.core_program.specs.Values.{as_tested, test_of}
-use Rattle.evaluator.specs.Rest.{resume, top_list, below_top, tasks_of, values_of, lists_of, pass}
-use Rattle.evaluator.proofs.Moves.{comes_then, comes_same}
-use Rattle.evaluator.proofs.Turning.{turns_after, turns_failed, fails_after, did, fails, given}
+use Rattle.core_program.specs.{Tree.bind, Tree.doing, Values.as_tested, Values.test_of}
+use Rattle.evaluator.proofs.Moves.{comes_same, comes_then}
+use Rattle.evaluator.proofs.Turning.{did, fails, fails_after, given, turns_after, turns_failed}
 use Rattle.evaluator.proofs.actuals.add_actual.Goals as goal
+use Rattle.evaluator.specs.Rest.{below_top, lists_of, pass, resume, tasks_of, top_list, values_of}
 
 pub returns-in-Ok-clause-turns : goal.returns-in-Ok-clause-turns
 returns-in-Ok-clause-turns c m =

@@ -1,16 +1,12 @@
-use Rattle.std.proofs.Common.{reverse}
-use Rattle.evaluator.specs.declared.tasks.Part.TheVariants as part
-use Rattle.std.proofs.Common.{[], ◌∷◌, ◌++◌, sym, ap, ◌∙◌}
-use Rattle.evaluator.specs.Rest.{left_now}
-use Rattle.evaluator.specs.declared.tasks.Now.TheVariants.{Begin}
-use Rattle.evaluator.proofs.Moves.{comes_same}
-use Rattle.evaluator.proofs.Turning.{reverse_pushed}
+use Rattle.std.proofs.Common.{◌++◌, ◌∙◌, ◌∷◌, [], ap, reverse, sym}
+use Rattle.evaluator.proofs.{Moves.comes_same, Turning.reverse_pushed}
 use Rattle.evaluator.proofs.actuals.add_cell.Goals as goal
+use Rattle.evaluator.specs.{Rest.left_now, declared.tasks.Now.TheVariants.Begin, declared.tasks.Part.Part}
 
 pub returns-clause-turns : goal.returns-clause-turns
 returns-clause-turns c m =
     let p = c.args.program.now in
     let k = c.take_list-list.ensures in
-    comes_same (sym (λ i. left_now p (k.home i) (Begin (part.Pass c.args.next c.args.line)) (reverse (k.tasks i)) (reverse (k.values i))
+    comes_same (sym (λ i. left_now p (k.home i) (Begin (Part.Pass c.args.next c.args.line)) (reverse (k.tasks i)) (reverse (k.values i))
     ((reverse_pushed c.take_list-list.new.self.lists.items _ _ c.in_ok-push.ensures.items
     ∙ (λ j. (c.in_ok-append.ensures.added ∙ ap (λ l. l ++ c.args.value ∷ []) k.result) j ∷ k.lists j)) i)))

@@ -1,4 +1,4 @@
-use Rattle.std.proofs.Common.{◌≡◌, ◌+◌, suc, [], ◌∷◌, ◌++◌, drop, sym, ap, ◌∙◌, append_assoc, arith}
+use Rattle.std.proofs.Common.{◌++◌, ◌+◌, ◌∙◌, ◌∷◌, ◌≡◌, [], ap, append_assoc, arith, drop, suc, sym}
 use Rattle.eval_ops.proofs.Lists.{drop_get}
 use Rattle.evaluator.proofs.actuals.append_all.Goals as goal
 

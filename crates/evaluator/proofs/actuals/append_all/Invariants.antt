@@ -1,4 +1,4 @@
-use Rattle.std.proofs.Common.{◌≡◌, ◌++◌, drop}
+use Rattle.std.proofs.Common.{◌++◌, ◌≡◌, drop}
 use Rattle.evaluator.proofs.actuals.append_all.Given as goal
 
 abbrev pub invariant-cells : goal.invariant-cells

@@ -1,21 +1,15 @@
-use Rattle.std.proofs.Common.{◌≡◌, ◌==◌, true, false, List, refl, sym, ap, ◌∙◌, arith}
+use Rattle.std.proofs.Common.{◌==◌, ◌∙◌, ◌≡◌, List, ap, arith, false, refl, sym, true}
 use Rattle.std.proofs.lemmas.Bool.Decides.{nat_tests}
 use Rattle.cell_value.specs.declared.values.Value.{Value}
-use Rattle.core_program.specs.declared.rows.ItemRow.{ItemRow}
-use Rattle.core_program.specs.declared.rows.Row.{Row}
-use Rattle.core_program.specs.declared.rows.Row.TheVariants as rows
-use Rattle.core_program.specs.ProgramRows.{ProgramRows, row_at}
-use Rattle.core_program.specs.Tree.{Here, Pass, Ret, Cells}
-use Rattle.core_program.specs.Accesses.{no_row}
-use Rattle.core_program.specs.Expressions.{of_actual}
+use Rattle.core_program.specs.{Accesses.no_row, Expressions.of_actual, ProgramRows.ProgramRows, ProgramRows.row_at, Tree.Cells, Tree.Here, Tree.Pass, Tree.Ret}
+use Rattle.core_program.specs.declared.rows.{ItemRow.ItemRow, Row.Row}
 use Rattle.eval_ops.specs.Machines.{moment_of}
-use Rattle.evaluator.specs.Rest.{here, resume, top_list, below_top, tasks_of, values_of, lists_of}
-use Rattle.evaluator.proofs.StepsFall.{falls_so}
-use Rattle.evaluator.proofs.Turning.{part_comes, turns_after, goes_on, ends_list}
+use Rattle.evaluator.proofs.{StepsFall.falls_so, Turning.ends_list, Turning.goes_on, Turning.part_comes, Turning.turns_after}
 use Rattle.evaluator.proofs.actuals.pass_actuals.Goals as goal
+use Rattle.evaluator.specs.Rest.{below_top, here, lists_of, resume, tasks_of, top_list, values_of}
 
-no_actual : (p : ProgramRows) (passed : List Value) (h : Here) (r : Row) → ((i : ItemRow) → r ≡ rows.Item i → ⊥) → of_actual p passed h r ≡ no_row
-no_actual p passed h (rows.Item i) f = absurd (f i refl)
+no_actual : (p : ProgramRows) (passed : List Value) (h : Here) (r : Row) → ((i : ItemRow) → r ≡ Row.Item i → ⊥) → of_actual p passed h r ≡ no_row
+no_actual p passed h (Row.Item i) f = absurd (f i refl)
 no_actual p passed h r f = refl
 
 pub returns-then-at-eq-LIST_END-clause-turns : goal.returns-then-at-eq-LIST_END-clause-turns
@@ -40,7 +34,7 @@ returns-in-Item-clause-turns c =
     let h = here a.home c.args.line in
     let ls = lists_of a in
     let on : (c.args.at == 0) ≡ false = grind (arith, nat_tests, c.if-at-eq-LIST_END.false) in
-    let e : row_at p c.args.at ≡ rows.Item c.in-Item.item = cc in
+    let e : row_at p c.args.at ≡ Row.Item c.in-Item.item = cc in
     turns_after p _ _ _ _ _ c.pass_actual.result c.pass_actual.new.body
     (part_comes p (Pass c.args.at (top_list ls) h) (resume p a.home (tasks_of a) (values_of a) (below_top ls)) (moment_of c.args.machine.now) _
     (goes_on c.args.at (Ret (Cells (top_list ls))) (of_actual p (top_list ls) h (row_at p c.args.at)) on ∙ ap (of_actual p (top_list ls) h) e))

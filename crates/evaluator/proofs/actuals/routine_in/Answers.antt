@@ -1,9 +1,6 @@
-use Rattle.std.proofs.Common.{Ok, refl}
-use Rattle.std.proofs.lemmas.Result.{err_from_is_err_and}
-use Rattle.core_program.specs.Actions.{Give}
-use Rattle.core_program.specs.Cells.{frame_out}
-use Rattle.eval_ops.specs.Machines.{moment_of}
-use Rattle.eval_ops.proofs.ActionsCompose.{does_bind, does_given, does_stop}
+use Rattle.std.proofs.{Common.Ok, Common.refl, lemmas.Result.err_from_is_err_and}
+use Rattle.core_program.specs.{Actions.Give, Cells.frame_out}
+use Rattle.eval_ops.{proofs.ActionsCompose.does_bind, proofs.ActionsCompose.does_given, proofs.ActionsCompose.does_stop, specs.Machines.moment_of}
 use Rattle.evaluator.proofs.actuals.routine_in.Goals as goal
 
 pub returns-in_err-frame-clause-action : goal.returns-in_err-frame-clause-action

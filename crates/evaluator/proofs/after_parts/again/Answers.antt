@@ -1,20 +1,14 @@
-use Rattle.std.proofs.Common.{ap, if◌then◌else◌, arith}
-use Rattle.evaluator.specs.Rest.{from}
-use Rattle.evaluator.specs.declared.tasks.Now.TheVariants.{Begin, Came}
-use Rattle.evaluator.specs.declared.tasks.Part.TheVariants as part
-use Rattle.evaluator.specs.declared.tasks.Way.TheVariants as way
-use Rattle.evaluator.specs.declared.tasks.Task.TheVariants as tasks
-use Rattle.evaluator.specs.declared.tasks.Next.TheVariants as nexts
-use Rattle.evaluator.specs.Rest.{from_under}
-use Rattle.evaluator.proofs.StepsFall.{falls_so}
-use Rattle.evaluator.proofs.Turning.{turns_same}
+use Rattle.std.proofs.Common.{if◌then◌else◌, ap, arith}
+use Rattle.evaluator.proofs.{StepsFall.falls_so, Turning.turns_same}
 use Rattle.evaluator.proofs.after_parts.again.Goals as goal
+use Rattle.evaluator.specs.Rest.{from, from_under}
+use Rattle.evaluator.specs.declared.tasks.{Next.Next, Now.TheVariants.Begin, Now.TheVariants.Came, Part.Part, Task.Task, Way.Way}
 
 pub returns-then-taken-clause-turns : goal.returns-then-taken-clause-turns
 returns-then-taken-clause-turns c p m =
     turns_same p _ _ m m c.wait.result c.wait.new.self
-    (ap (λ b. if b then from_under p c.args.body.now (Begin (part.Exec c.args.inner c.args.line)) (tasks.Next (nexts.Again c.args.row c.args.line)) else from p
-    c.args.body.now (Came way.Nothing)) c.if-taken.true)
+    (ap (λ b. if b then from_under p c.args.body.now (Begin (Part.Exec c.args.inner c.args.line)) (Task.Next (Next.Again c.args.row c.args.line)) else from p
+    c.args.body.now (Came Way.Nothing)) c.if-taken.true)
     (c.wait.ensures.turns p m)
 
 pub returns-then-taken-clause-falls : goal.returns-then-taken-clause-falls
@@ -24,8 +18,8 @@ returns-then-taken-clause-falls c =
 pub returns-else-taken-clause-turns : goal.returns-else-taken-clause-turns
 returns-else-taken-clause-turns c p m =
     turns_same p _ _ m m c.go.result c.go.new.self
-    (ap (λ b. if b then from_under p c.args.body.now (Begin (part.Exec c.args.inner c.args.line)) (tasks.Next (nexts.Again c.args.row c.args.line)) else from p
-    c.args.body.now (Came way.Nothing)) c.if-taken.false)
+    (ap (λ b. if b then from_under p c.args.body.now (Begin (Part.Exec c.args.inner c.args.line)) (Task.Next (Next.Again c.args.row c.args.line)) else from p
+    c.args.body.now (Came Way.Nothing)) c.if-taken.false)
     (c.go.ensures.turns p m)
 
 pub returns-else-taken-clause-falls : goal.returns-else-taken-clause-falls

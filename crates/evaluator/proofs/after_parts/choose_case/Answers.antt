@@ -1,12 +1,10 @@
-use Rattle.std.proofs.Common.{ap, ◌∙◌, refl, arith}
+use Rattle.std.proofs.Common.{◌∙◌, ap, arith, refl}
+use Rattle.cell_value.specs.declared.ways_out.Kind.{Kind}
 use Rattle.core_program.specs.Tree.{bind}
-use Rattle.eval_ops.specs.Choices.{case_tree}
-use Rattle.evaluator.specs.Rest.{here, waiting}
-use Rattle.cell_value.specs.declared.ways_out.Kind.TheVariants as kinds
-use Rattle.eval_ops.specs.declared.halt.Halt.TheVariants as halts
-use Rattle.evaluator.proofs.StepsFall.{falls_so}
-use Rattle.evaluator.proofs.Turning.{turns_same, turns_failed}
+use Rattle.eval_ops.specs.{Choices.case_tree, declared.halt.Halt.Halt}
+use Rattle.evaluator.proofs.{StepsFall.falls_so, Turning.turns_failed, Turning.turns_same}
 use Rattle.evaluator.proofs.after_parts.choose_case.Goals as goal
+use Rattle.evaluator.specs.Rest.{here, waiting}
 
 pub returns-in-Statement-clause-turns : goal.returns-in-Statement-clause-turns
 returns-in-Statement-clause-turns c m =
@@ -28,7 +26,7 @@ returns-in-NoCase-clause-turns c m =
     let rest = waiting p c.args.body.now in
     turns_same p _ _ m m c.fail.result c.fail.new.self
     (ap (λ t. bind t rest) (c.case_of.ensures h ∙ ap (case_tree h) c.in-NoCase.is))
-    (turns_failed p _ m m c.args.line (halts.Fault kinds.NoCase) c.fail.new.self c.fail.result c.fail.ensures.line c.fail.ensures.fails
+    (turns_failed p _ m m c.args.line (Halt.Fault Kind.NoCase) c.fail.new.self c.fail.result c.fail.ensures.line c.fail.ensures.fails
     (record { moves = 1; is = refl }))
 
 pub returns-in-NoCase-clause-falls : goal.returns-in-NoCase-clause-falls
@@ -42,7 +40,7 @@ returns-in-NoNumber-clause-turns c m =
     let rest = waiting p c.args.body.now in
     turns_same p _ _ m m c.fail-in-NoNumber.result c.fail-in-NoNumber.new.self
     (ap (λ t. bind t rest) (c.case_of.ensures h ∙ ap (case_tree h) c.in-NoNumber.is))
-    (turns_failed p _ m m c.args.line (halts.Fault kinds.Undefined) c.fail-in-NoNumber.new.self c.fail-in-NoNumber.result c.fail-in-NoNumber.ensures.line
+    (turns_failed p _ m m c.args.line (Halt.Fault Kind.Undefined) c.fail-in-NoNumber.new.self c.fail-in-NoNumber.result c.fail-in-NoNumber.ensures.line
     c.fail-in-NoNumber.ensures.fails (record { moves = 1; is = refl }))
 
 pub returns-in-NoNumber-clause-falls : goal.returns-in-NoNumber-clause-falls

@@ -1,13 +1,10 @@
-use Rattle.std.proofs.Common.{sym, ap, sum_by, arith}
-use Rattle.core_program.specs.Tree.{bind, doing}
-use Rattle.core_program.specs.Cells.{writes}
+use Rattle.std.proofs.Common.{ap, arith, sum_by, sym}
+use Rattle.core_program.specs.{Cells.writes, Tree.bind, Tree.doing}
 use Rattle.core_program.specs.Statements as meaning
 use Rattle.eval_ops.specs.Machines.{moment_of}
-use Rattle.evaluator.specs.Rest.{top_list, lists_of}
-use Rattle.evaluator.specs.Weight.{task_weight}
-use Rattle.evaluator.proofs.StepsFall.{falls_so}
-use Rattle.evaluator.proofs.Turning.{turns_same}
+use Rattle.evaluator.proofs.{StepsFall.falls_so, Turning.turns_same}
 use Rattle.evaluator.proofs.assignments.put_cells.Goals as goal
+use Rattle.evaluator.specs.{Rest.lists_of, Rest.top_list, Weight.task_weight}
 
 pub returns-clause-turns : goal.returns-clause-turns
 returns-clause-turns c =

@@ -1,15 +1,12 @@
-use Rattle.std.proofs.Common.{◌∷◌, sym, ap, ◌∙◌}
-use Rattle.evaluator.specs.Rest.{tasks_of, values_of, lists_of, left_now}
-use Rattle.evaluator.specs.declared.tasks.Now.TheVariants.{Begin}
-use Rattle.evaluator.specs.declared.tasks.Part.TheVariants as part
-use Rattle.evaluator.proofs.Moves.{comes_same}
-use Rattle.evaluator.proofs.Turning.{reverse_pushed}
+use Rattle.std.proofs.Common.{◌∙◌, ◌∷◌, ap, sym}
+use Rattle.evaluator.proofs.{Moves.comes_same, Turning.reverse_pushed}
 use Rattle.evaluator.proofs.calls.begin_call.Goals as goal
+use Rattle.evaluator.specs.{Rest.left_now, Rest.lists_of, Rest.tasks_of, Rest.values_of, declared.tasks.Now.TheVariants.Begin, declared.tasks.Part.Part}
 
 pub returns-clause-turns : goal.returns-clause-turns
 returns-clause-turns c p m =
     let a = c.args.body.now in
-    let now = Begin (part.Pass c.args.actuals c.args.line) in
+    let now = Begin (Part.Pass c.args.actuals c.args.line) in
     comes_same (sym (
     ap (λ ts. left_now p a.home now ts (values_of a) (lists_of (record a { lists = c.push.new.self })))
     (reverse_pushed a.tasks.items _ c.args.task c.in_ok-push-2.ensures.items)

@@ -1,14 +1,11 @@
-use Rattle.std.proofs.Common.{◌≡◌, ℕ, ◌∷◌, Some, None, refl, sym, ap, ◌∙◌}
-use Rattle.cell_value.specs.declared.values.Value.TheVariants as value
-use Rattle.core_program.specs.ProgramRows.{routine_at}
-use Rattle.core_program.specs.Cells.{frame_out}
-use Rattle.core_program.specs.Expressions.{with_frame_size}
-use Rattle.core_program.specs.Tree.{Enter, bind, doing}
+use Rattle.std.proofs.Common.{◌∙◌, ◌∷◌, ◌≡◌, ℕ, None, Some, ap, refl, sym}
+use Rattle.cell_value.specs.declared.values.Value.{Value}
+use Rattle.core_program.specs.{Cells.frame_out, Expressions.with_frame_size, ProgramRows.routine_at, Tree.Enter, Tree.bind, Tree.doing}
 use Rattle.eval_ops.specs.Machines.{moment_of}
-use Rattle.evaluator.specs.Rest.{after_call, resume, top_list, below_top, tasks_of, values_of, lists_of}
-use Rattle.evaluator.proofs.Moves.{comes_then, comes_same}
-use Rattle.evaluator.proofs.Turning.{turns_after, turns_same, turns_failed, fails_after, did, fails}
+use Rattle.evaluator.proofs.Moves.{comes_same, comes_then}
+use Rattle.evaluator.proofs.Turning.{did, fails, fails_after, turns_after, turns_failed, turns_same}
 use Rattle.evaluator.proofs.calls.call.Goals as goal
+use Rattle.evaluator.specs.Rest.{after_call, below_top, lists_of, resume, tasks_of, top_list, values_of}
 
 pub returns-in-Ok-clause-turns : goal.returns-in-Ok-clause-turns
 returns-in-Ok-clause-turns c =
@@ -20,8 +17,8 @@ returns-in-Ok-clause-turns c =
     let h : routine_at p c.args.routine ≡ Some r = sym c.routine.ensures ∙ c.in-Some.is in
     turns_after p _ _ _ _ _ c.enter.result c.enter.new.body
     (comes_then (comes_same (ap (λ x. bind (with_frame_size x (λ cells. doing c.args.line (frame_out c.args.levels a.home.base) (λ frame.
-    Enter c.args.routine cells (value.Frame frame ∷ args) (after_call c.args.procedure)))) K) h))
-    (did {X = ℕ} p c.args.line (frame_out c.args.levels a.home.base) (λ frame. Enter c.args.routine r.cells (value.Frame frame ∷ args)
+    Enter c.args.routine cells (Value.Frame frame ∷ args) (after_call c.args.procedure)))) K) h))
+    (did {X = ℕ} p c.args.line (frame_out c.args.levels a.home.base) (λ frame. Enter c.args.routine r.cells (Value.Frame frame ∷ args)
     (after_call c.args.procedure)) K (λ b. b) c.in-Ok.frame (moment_of c.args.machine.now) (moment_of c.frame_out.new.machine) c.in-Ok.ensures.action))
     (c.enter.ensures.turns p r h refl)
 
@@ -39,8 +36,8 @@ returns-in-Err-clause-turns c =
     turns_failed p _ _ _ c.args.line c.in-Err.halt c.fail.new.self c.fail.result c.fail.ensures.line c.fail.ensures.fails
     (fails_after p _ _ _ _ _ c.args.line c.in-Err.halt
     (comes_same (ap (λ x. bind (with_frame_size x (λ cells. doing c.args.line (frame_out c.args.levels a.home.base) (λ frame.
-    Enter c.args.routine cells (value.Frame frame ∷ args) (after_call c.args.procedure)))) K) h))
-    (fails {X = ℕ} p c.args.line (frame_out c.args.levels a.home.base) (λ frame. Enter c.args.routine r.cells (value.Frame frame ∷ args)
+    Enter c.args.routine cells (Value.Frame frame ∷ args) (after_call c.args.procedure)))) K) h))
+    (fails {X = ℕ} p c.args.line (frame_out c.args.levels a.home.base) (λ frame. Enter c.args.routine r.cells (Value.Frame frame ∷ args)
     (after_call c.args.procedure)) K (λ b. b)
     c.in-Err.halt (moment_of c.args.machine.now) (moment_of c.frame_out.new.machine) c.in-Err.ensures.action))
 
@@ -53,5 +50,5 @@ returns-in-None-clause-turns c =
     let h : routine_at p c.args.routine ≡ None = sym c.routine.ensures ∙ c.in-None.is in
     turns_same p _ _ _ _ c.no_row.result c.no_row.new.self
     (ap (λ x. bind (with_frame_size x (λ cells. doing c.args.line (frame_out c.args.levels a.home.base) (λ frame.
-    Enter c.args.routine cells (value.Frame frame ∷ args) (after_call c.args.procedure)))) K) h)
+    Enter c.args.routine cells (Value.Frame frame ∷ args) (after_call c.args.procedure)))) K) h)
     (c.no_row.ensures.turns p _)

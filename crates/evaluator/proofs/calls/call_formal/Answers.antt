@@ -1,15 +1,10 @@
-use Rattle.std.proofs.Common.{◌≡◌, sym, ap, ◌∙◌}
-use Rattle.core_program.specs.declared.rows.Row.TheVariants as rows
-use Rattle.core_program.specs.declared.rows.NameRow.TheVariants as named
-use Rattle.core_program.specs.ProgramRows.{row_at}
-use Rattle.core_program.specs.Accesses.{with_formal}
-use Rattle.core_program.specs.Cells.{routine_out}
-use Rattle.core_program.specs.Expressions.{enter}
-use Rattle.core_program.specs.Tree.{bind, doing}
+use Rattle.std.proofs.Common.{◌∙◌, ◌≡◌, ap, sym}
+use Rattle.core_program.specs.{Accesses.with_formal, Cells.routine_out, Expressions.enter, ProgramRows.row_at, Tree.bind, Tree.doing}
+use Rattle.core_program.specs.declared.rows.{NameRow.NameRow, Row.Row}
 use Rattle.eval_ops.specs.Machines.{moment_of}
-use Rattle.evaluator.specs.Rest.{after_call, resume, top_list, below_top, tasks_of, values_of, lists_of}
 use Rattle.evaluator.proofs.Turning.{turns_same}
 use Rattle.evaluator.proofs.calls.call_formal.Goals as goal
+use Rattle.evaluator.specs.Rest.{after_call, below_top, lists_of, resume, tasks_of, top_list, values_of}
 
 pub returns-in-Name-RoutineFormal-clause-turns : goal.returns-in-Name-RoutineFormal-clause-turns
 returns-in-Name-RoutineFormal-clause-turns c =
@@ -18,8 +13,8 @@ returns-in-Name-RoutineFormal-clause-turns c =
     let K = resume p a.home (tasks_of a) (values_of a) (below_top (lists_of a)) in
     let args = top_list (lists_of a) in
     let n = c.in-Name-RoutineFormal in
-    let e : row_at p c.args.formal ≡ rows.Name (named.RoutineFormal n.place n.field-0-1 n.heading) =
-    sym c.row.ensures ∙ n.is ∙ ap rows.Name n.field-0-is in
+    let e : row_at p c.args.formal ≡ Row.Name (NameRow.RoutineFormal n.place n.field-0-1 n.heading) =
+    sym c.row.ensures ∙ n.is ∙ ap Row.Name n.field-0-is in
     turns_same p _ _ (moment_of c.args.machine.now) _ c.enter_found.result c.enter_found.new.body
     (ap (λ r. bind (with_formal r (λ place heading. doing c.args.line (routine_out p heading c.args.levels a.home.base place)
     (λ x. enter p x.0 x.1 args (after_call c.args.procedure)))) K) e)

@@ -1,13 +1,11 @@
-use Rattle.std.proofs.Common.{◌≡◌, ℕ, ◌∷◌, Some, None, refl, sym, ap, ◌∙◌}
-use Rattle.cell_value.specs.declared.values.Value.TheVariants as value
-use Rattle.core_program.specs.ProgramRows.{routine_at}
-use Rattle.core_program.specs.Expressions.{with_frame_size, enter}
-use Rattle.core_program.specs.Tree.{Enter, bind}
+use Rattle.std.proofs.Common.{◌∙◌, ◌∷◌, ◌≡◌, ℕ, None, Some, ap, refl, sym}
+use Rattle.cell_value.specs.declared.values.Value.{Value}
+use Rattle.core_program.specs.{Expressions.enter, Expressions.with_frame_size, ProgramRows.routine_at, Tree.Enter, Tree.bind}
 use Rattle.eval_ops.specs.Machines.{moment_of}
-use Rattle.evaluator.specs.Rest.{after_call, resume, top_list, below_top, tasks_of, values_of, lists_of}
-use Rattle.evaluator.proofs.Moves.{comes_then, comes_same}
-use Rattle.evaluator.proofs.Turning.{turns_after, turns_failed, did, fails, falls_failed}
+use Rattle.evaluator.proofs.Moves.{comes_same, comes_then}
+use Rattle.evaluator.proofs.Turning.{did, fails, falls_failed, turns_after, turns_failed}
 use Rattle.evaluator.proofs.calls.enter_found.Goals as goal
+use Rattle.evaluator.specs.Rest.{after_call, below_top, lists_of, resume, tasks_of, top_list, values_of}
 
 pub returns-in-Some-clause-turns : goal.returns-in-Some-clause-turns
 returns-in-Some-clause-turns c does m d =
@@ -20,7 +18,7 @@ returns-in-Some-clause-turns c does m d =
     turns_after p _ _ _ _ _ c.enter.result c.enter.new.body
     (comes_then (did {X = ℕ × ℕ} p c.args.line does (λ x. enter p x.0 x.1 args (after_call c.args.procedure))
     K (λ x. x) (c.in-Ok.routine, c.in-Ok.frame) m (moment_of c.args.machine.now) (rw c.in-Ok.is at d))
-    (comes_same (ap (λ x. bind (with_frame_size x (λ cells. Enter c.in-Ok.routine cells (value.Frame c.in-Ok.frame ∷ args)
+    (comes_same (ap (λ x. bind (with_frame_size x (λ cells. Enter c.in-Ok.routine cells (Value.Frame c.in-Ok.frame ∷ args)
     (after_call c.args.procedure))) K) h)))
     (c.enter.ensures.turns p r h refl)
 

@@ -1,12 +1,12 @@
-use Rattle.std.proofs.Common.{◌≡◌, true, false, Ok, Err, sym, ap, ◌∙◌, subst, if◌then◌else◌, arith}
+use Rattle.std.proofs.Common.{if◌then◌else◌, ◌∙◌, ◌≡◌, Err, Ok, ap, arith, false, subst, sym, true}
 use Rattle.core_program.specs.ProgramRows.{type_at}
-use Rattle.core_program.specs.Tree.{Count, Ret, Sub, bind, doing}
 use Rattle.core_program.specs.Statements as meaning
+use Rattle.core_program.specs.Tree.{Count, Ret, Sub, bind, doing}
 use Rattle.eval_ops.specs.Machines.{Gives, moment_of}
-use Rattle.evaluator.specs.Rest.{here, waiting}
 use Rattle.evaluator.proofs.StepsFall.{falls_so}
-use Rattle.evaluator.proofs.Turning.{turns_after, turns_same, turns_failed, did, fails, given}
+use Rattle.evaluator.proofs.Turning.{did, fails, given, turns_after, turns_failed, turns_same}
 use Rattle.evaluator.proofs.counting.begin_turns.Goals as goal
+use Rattle.evaluator.specs.Rest.{here, waiting}
 
 pub returns-then-not-has_turn-clause-turns : goal.returns-then-not-has_turn-clause-turns
 returns-then-not-has_turn-clause-turns c =

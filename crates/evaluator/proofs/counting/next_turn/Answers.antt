@@ -1,13 +1,11 @@
+use Rattle.std.proofs.Common.{if◌then◌else◌, ◌∙◌, ◌≡◌, ap, arith, false, sym, true}
 use Rattle.std.specs.Ordering.{int_eq}
-use Rattle.std.proofs.Common.{◌≡◌, true, false, sym, ap, ◌∙◌, if◌then◌else◌, arith}
-use Rattle.core_program.specs.Tree.{Count, Ret, Sub, bind}
-use Rattle.core_program.specs.Accesses.{no_row}
+use Rattle.core_program.specs.{Accesses.no_row, Tree.Count, Tree.Ret, Tree.Sub, Tree.bind}
 use Rattle.core_program.specs.Statements as meaning
 use Rattle.eval_ops.specs.Machines.{moment_of}
-use Rattle.evaluator.specs.Rest.{here, waiting}
-use Rattle.evaluator.proofs.StepsFall.{falls_so}
-use Rattle.evaluator.proofs.Turning.{turns_same}
+use Rattle.evaluator.proofs.{StepsFall.falls_so, Turning.turns_same}
 use Rattle.evaluator.proofs.counting.next_turn.Goals as goal
+use Rattle.evaluator.specs.Rest.{here, waiting}
 
 pub returns-then-not-has_turn-clause-turns : goal.returns-then-not-has_turn-clause-turns
 returns-then-not-has_turn-clause-turns c p q =

@@ -1,14 +1,9 @@
-use Rattle.std.proofs.Common.{◌≡◌, Some, None, ap, ◌∙◌, arith}
-use Rattle.core_program.specs.ProgramRows.{row_at}
-use Rattle.core_program.specs.Tree.{bind}
-use Rattle.core_program.specs.Accesses.{no_row}
-use Rattle.eval_ops.specs.Machines.{moment_of}
-use Rattle.evaluator.specs.Rest.{waiting, after_turn}
-use Rattle.eval_ops.specs.Counting.{turns_row, turns_in, span_in, both_there}
-use Rattle.evaluator.proofs.StatementsByRow.{counted_both, row_of_both, with_both}
-use Rattle.evaluator.proofs.StepsFall.{falls_so}
-use Rattle.evaluator.proofs.Turning.{turns_same}
+use Rattle.std.proofs.Common.{◌∙◌, ◌≡◌, None, Some, ap, arith}
+use Rattle.core_program.specs.{Accesses.no_row, ProgramRows.row_at, Tree.bind}
+use Rattle.eval_ops.specs.{Counting.both_there, Counting.span_in, Counting.turns_in, Counting.turns_row, Machines.moment_of}
+use Rattle.evaluator.proofs.{StatementsByRow.counted_both, StatementsByRow.row_of_both, StatementsByRow.with_both, StepsFall.falls_so, Turning.turns_same}
 use Rattle.evaluator.proofs.counting.turn_ended.Goals as goal
+use Rattle.evaluator.specs.Rest.{after_turn, waiting}
 
 pub returns-in-Some-clause-turns : goal.returns-in-Some-clause-turns
 returns-in-Some-clause-turns c =

@@ -1,10 +1,9 @@
-use Rattle.std.proofs.Common.{◌≡◌, Some, None, ap, ◌∙◌}
+use Rattle.std.proofs.Common.{◌∙◌, ◌≡◌, None, Some, ap}
 use Rattle.core_program.specs.Tree.{bind}
 use Rattle.eval_ops.specs.Operators.{dyadic_in}
-use Rattle.evaluator.specs.Rest.{here, waiting}
-use Rattle.evaluator.proofs.ExpressionsByRow.{by_dyadic, expression_by}
-use Rattle.evaluator.proofs.Turning.{turns_same}
+use Rattle.evaluator.proofs.{ExpressionsByRow.by_dyadic, ExpressionsByRow.expression_by, Turning.turns_same}
 use Rattle.evaluator.proofs.expressions.begin_expression.Goals as goal
+use Rattle.evaluator.specs.Rest.{here, waiting}
 
 pub returns-in-Some-clause-turns : goal.returns-in-Some-clause-turns
 returns-in-Some-clause-turns c m =

@@ -1,12 +1,9 @@
 use Rattle.std.proofs.Common.{ap, arith}
-use Rattle.core_program.specs.Input.{at_end, at_line_end}
-use Rattle.core_program.specs.Tree.{bind}
+use Rattle.core_program.specs.{Input.at_end, Input.at_line_end, Tree.bind}
 use Rattle.eval_ops.specs.Machines.{moment_of}
-use Rattle.evaluator.specs.Rest.{here, waiting}
-use Rattle.evaluator.proofs.StepsFall.{falls_so}
-use Rattle.evaluator.proofs.Turning.{turns_same}
-use Rattle.evaluator.proofs.ExpressionsByRow.{other_operation}
+use Rattle.evaluator.proofs.{ExpressionsByRow.other_operation, StepsFall.falls_so, Turning.turns_same}
 use Rattle.evaluator.proofs.expressions.begin_stepped.Goals as goal
+use Rattle.evaluator.specs.Rest.{here, waiting}
 
 pub returns-in-Eof-clause-turns : goal.returns-in-Eof-clause-turns
 returns-in-Eof-clause-turns c =

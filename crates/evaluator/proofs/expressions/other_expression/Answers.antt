@@ -1,17 +1,14 @@
-use Rattle.std.proofs.Common.{rules}
-use Rattle.cell_value.specs.declared.values.Value.TheVariants as value
-use Rattle.std.proofs.Common.{◌≡◌, sym, ap, ◌∙◌}
-use Rattle.core_program.specs.Tree.{bind}
-use Rattle.core_program.specs.Accesses.{scalar}
-use Rattle.evaluator.specs.ExpressionFamilies.{of_other}
-use Rattle.evaluator.specs.Rest.{here, waiting}
+use Rattle.std.proofs.Common.{◌∙◌, ◌≡◌, ap, rules, sym}
+use Rattle.cell_value.specs.declared.values.Value.{Value}
+use Rattle.core_program.specs.{Accesses.scalar, Tree.bind}
 use Rattle.evaluator.proofs.Turning.{turns_same}
 use Rattle.evaluator.proofs.expressions.other_expression.Goals as goal
+use Rattle.evaluator.specs.{ExpressionFamilies.of_other, Rest.here, Rest.waiting}
 
 pub returns-in-Constant-clause-turns : goal.returns-in-Constant-clause-turns
 returns-in-Constant-clause-turns c m = turns_same c.args.program.now _ _ m m c.go.result c.go.new.self
     (ap (λ e. bind (of_other c.args.program.now (here c.args.body.now.home c.args.line) e) (waiting c.args.program.now c.args.body.now)) c.in-Constant.is
-    ∙ ap (λ v. bind (scalar v) (waiting c.args.program.now c.args.body.now)) (let e : value.Number c.in-Constant.value ≡ c.constant.result = search rules in e))
+    ∙ ap (λ v. bind (scalar v) (waiting c.args.program.now c.args.body.now)) (let e : Value.Number c.in-Constant.value ≡ c.constant.result = search rules in e))
     (c.go.ensures.turns c.args.program.now m)
 
 pub returns-in-CompareTexts-clause-turns : goal.returns-in-CompareTexts-clause-turns

@@ -1,15 +1,9 @@
-use Rattle.std.proofs.Common.{◌≡◌, ℕ, Some, ap, ◌∙◌, arith}
-use Rattle.core_program.specs.ProgramRows.{type_at}
-use Rattle.core_program.specs.Heap.{dispose}
-use Rattle.core_program.specs.Statements.{finally}
-use Rattle.core_program.specs.Tree.{ActTree, bind}
-use Rattle.eval_ops.specs.Arrays.{size_in}
-use Rattle.eval_ops.specs.Machines.{moment_of}
-use Rattle.evaluator.specs.Rest.{here, waiting}
-use Rattle.evaluator.proofs.StepsFall.{falls_so}
-use Rattle.evaluator.proofs.TransfersByRow.{sized_by, with_number}
-use Rattle.evaluator.proofs.Turning.{turns_same}
+use Rattle.std.proofs.Common.{◌∙◌, ◌≡◌, ℕ, Some, ap, arith}
+use Rattle.core_program.specs.{Heap.dispose, ProgramRows.type_at, Statements.finally, Tree.ActTree, Tree.bind}
+use Rattle.eval_ops.specs.{Arrays.size_in, Machines.moment_of}
+use Rattle.evaluator.proofs.{StepsFall.falls_so, TransfersByRow.sized_by, TransfersByRow.with_number, Turning.turns_same}
 use Rattle.evaluator.proofs.heap.dispose_of.Goals as goal
+use Rattle.evaluator.specs.Rest.{here, waiting}
 
 pub returns-in-Some-clause-turns : goal.returns-in-Some-clause-turns
 returns-in-Some-clause-turns c =

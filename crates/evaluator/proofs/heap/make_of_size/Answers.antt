@@ -1,12 +1,11 @@
-use Rattle.std.proofs.Common.{Ok, Err, arith}
+use Rattle.std.proofs.Common.{Err, Ok, arith}
 use Rattle.cell_value.specs.declared.values.Value.{Value}
-use Rattle.core_program.specs.Heap.{made_variable}
-use Rattle.core_program.specs.Statements.{point}
+use Rattle.core_program.specs.{Heap.made_variable, Statements.point}
 use Rattle.eval_ops.specs.Machines.{moment_of}
-use Rattle.evaluator.specs.Rest.{here, waiting}
-use Rattle.evaluator.proofs.StepsFall.{steps_fall, falls_so}
+use Rattle.evaluator.proofs.StepsFall.{falls_so, steps_fall}
 use Rattle.evaluator.proofs.Turning.{did, fails, falls_failed, turns_after, turns_failed}
 use Rattle.evaluator.proofs.heap.make_of_size.Goals as goal
+use Rattle.evaluator.specs.Rest.{here, waiting}
 
 pub returns-in-Ok-clause-turns : goal.returns-in-Ok-clause-turns
 returns-in-Ok-clause-turns c p =

@@ -1,12 +1,9 @@
-use Rattle.std.proofs.Common.{ap, arith, if◌then◌else◌}
-use Rattle.core_program.specs.Packing.{copies}
-use Rattle.core_program.specs.Statements.{finally}
-use Rattle.core_program.specs.Tree.{bind}
+use Rattle.std.proofs.Common.{if◌then◌else◌, ap, arith}
+use Rattle.core_program.specs.{Packing.copies, Statements.finally, Tree.bind}
 use Rattle.eval_ops.specs.Machines.{moment_of}
-use Rattle.evaluator.specs.Rest.{here, waiting}
-use Rattle.evaluator.proofs.StepsFall.{falls_so}
-use Rattle.evaluator.proofs.Turning.{turns_same}
+use Rattle.evaluator.proofs.{StepsFall.falls_so, Turning.turns_same}
 use Rattle.evaluator.proofs.packing.copy.Goals as goal
+use Rattle.evaluator.specs.Rest.{here, waiting}
 
 pub returns-then-packing-clause-turns : goal.returns-then-packing-clause-turns
 returns-then-packing-clause-turns c p =

@@ -1,15 +1,10 @@
-use Rattle.std.proofs.Common.{◌≡◌, ℕ, Some, None, ap, ◌∙◌, if◌then◌else◌}
-use Rattle.core_program.specs.ProgramRows.{row_at}
+use Rattle.std.proofs.Common.{if◌then◌else◌, ◌∙◌, ◌≡◌, ℕ, None, Some, ap}
+use Rattle.core_program.specs.{Packing.copies, Packing.first_moved, ProgramRows.row_at, Statements.finally, Tree.ActTree, Tree.bind, Tree.doing}
 use Rattle.core_program.specs.declared.components.Components.{Components}
-use Rattle.core_program.specs.Packing.{copies, first_moved}
-use Rattle.core_program.specs.Statements.{finally}
-use Rattle.core_program.specs.Tree.{ActTree, bind, doing}
-use Rattle.eval_ops.specs.Machines.{moment_of}
-use Rattle.eval_ops.specs.Arrays.{array_in}
-use Rattle.evaluator.specs.Rest.{here, waiting}
-use Rattle.evaluator.proofs.Turning.{turns_same}
-use Rattle.evaluator.proofs.TransfersByRow.{array_by, with_found}
+use Rattle.eval_ops.specs.{Arrays.array_in, Machines.moment_of}
+use Rattle.evaluator.proofs.{TransfersByRow.array_by, TransfersByRow.with_found, Turning.turns_same}
 use Rattle.evaluator.proofs.packing.move_by.Goals as goal
+use Rattle.evaluator.specs.Rest.{here, waiting}
 
 pub returns-in-Some-clause-turns : goal.returns-in-Some-clause-turns
 returns-in-Some-clause-turns c =

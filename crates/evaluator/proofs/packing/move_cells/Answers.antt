@@ -1,10 +1,9 @@
-use Rattle.std.proofs.Common.{ℕ, Ok, Err, if◌then◌else◌}
-use Rattle.core_program.specs.Packing.{copies, first_moved}
-use Rattle.core_program.specs.Statements.{finally}
+use Rattle.std.proofs.Common.{if◌then◌else◌, ℕ, Err, Ok}
+use Rattle.core_program.specs.{Packing.copies, Packing.first_moved, Statements.finally}
 use Rattle.eval_ops.specs.Machines.{moment_of}
-use Rattle.evaluator.specs.Rest.{here, waiting}
 use Rattle.evaluator.proofs.Turning.{did, fails, given, turns_after, turns_failed}
 use Rattle.evaluator.proofs.packing.move_cells.Goals as goal
+use Rattle.evaluator.specs.Rest.{here, waiting}
 
 pub returns-in-Ok-clause-turns : goal.returns-in-Ok-clause-turns
 returns-in-Ok-clause-turns c p =

@@ -1,9 +1,8 @@
 use Rattle.std.proofs.Common.{ap, arith}
 use Rattle.core_program.specs.Tree.{bind}
-use Rattle.evaluator.specs.Rest.{both_located, here, waiting}
-use Rattle.evaluator.proofs.StepsFall.{falls_so}
-use Rattle.evaluator.proofs.Turning.{turns_same}
+use Rattle.evaluator.proofs.{StepsFall.falls_so, Turning.turns_same}
 use Rattle.evaluator.proofs.packing.pack_by_index.Goals as goal
+use Rattle.evaluator.specs.Rest.{both_located, here, waiting}
 
 pub returns-then-packing-clause-turns : goal.returns-then-packing-clause-turns
 returns-then-packing-clause-turns c p m =

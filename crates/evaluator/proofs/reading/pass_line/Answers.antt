@@ -1,14 +1,10 @@
-use Rattle.std.proofs.Common.{Bool, arith, if◌then◌else◌}
-use Rattle.core_program.specs.Acts.{TakeIf}
-use Rattle.core_program.specs.Input.{any_item, tells_line_end, past_item}
-use Rattle.core_program.specs.Statements.{nothing}
-use Rattle.core_program.specs.Tree.{RestOfLine, Ret, Sub}
+use Rattle.std.proofs.Common.{if◌then◌else◌, Bool, arith}
+use Rattle.core_program.specs.{Acts.TakeIf, Input.any_item, Input.past_item, Input.tells_line_end, Statements.nothing, Tree.RestOfLine, Tree.Ret, Tree.Sub}
 use Rattle.eval_ops.specs.Machines.{moment_of}
-use Rattle.evaluator.specs.Rest.{here, waiting}
-use Rattle.evaluator.proofs.Moves.{begins, bind_if, comes_then, comes_same}
-use Rattle.evaluator.proofs.StepsFall.{first_falls, falls_so}
+use Rattle.evaluator.proofs.{Moves.begins, Moves.bind_if, Moves.comes_same, Moves.comes_then, StepsFall.falls_so, StepsFall.first_falls}
 use Rattle.evaluator.proofs.Turning.{did, fails, fails_after, falls_failed, turns_after, turns_failed}
 use Rattle.evaluator.proofs.reading.pass_line.Goals as goal
+use Rattle.evaluator.specs.Rest.{here, waiting}
 
 pub returns-in-Ok-clause-turns : goal.returns-in-Ok-clause-turns
 returns-in-Ok-clause-turns c p =

@@ -1,14 +1,10 @@
-use Rattle.std.proofs.Common.{sym, ap, ◌∙◌, arith, if◌then◌else◌}
-use Rattle.core_program.specs.declared.scan.Scan.TheVariants.{Blanks}
-use Rattle.core_program.specs.Accesses.{on_scalar}
-use Rattle.core_program.specs.Input.{next_char}
-use Rattle.core_program.specs.Transfers.{into}
+use Rattle.std.proofs.Common.{if◌then◌else◌, ◌∙◌, ap, arith, sym}
+use Rattle.core_program.specs.{Accesses.on_scalar, Input.next_char, Transfers.into, declared.scan.Scan.TheVariants.Blanks}
 use Rattle.core_program.specs.Tree.{Scanning, Sub, bind, doing}
 use Rattle.eval_ops.specs.Machines.{moment_of}
-use Rattle.evaluator.specs.Rest.{here, waiting}
-use Rattle.evaluator.proofs.StepsFall.{falls_so}
-use Rattle.evaluator.proofs.Turning.{turns_same}
+use Rattle.evaluator.proofs.{StepsFall.falls_so, Turning.turns_same}
 use Rattle.evaluator.proofs.reading.read_for.Goals as goal
+use Rattle.evaluator.specs.Rest.{here, waiting}
 
 pub returns-then-is_char-clause-turns : goal.returns-then-is_char-clause-turns
 returns-then-is_char-clause-turns c p =

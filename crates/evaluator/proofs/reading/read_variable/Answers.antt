@@ -1,13 +1,9 @@
-use Rattle.std.proofs.Common.{◌≡◌, ℕ, Some, ap, ◌∙◌}
-use Rattle.core_program.specs.ProgramRows.{type_at}
-use Rattle.core_program.specs.Transfers.{into, read_for}
-use Rattle.core_program.specs.Tree.{ActTree, bind}
+use Rattle.std.proofs.Common.{◌∙◌, ◌≡◌, ℕ, Some, ap}
+use Rattle.core_program.specs.{ProgramRows.type_at, Transfers.into, Transfers.read_for, Tree.ActTree, Tree.bind}
 use Rattle.eval_ops.specs.Machines.{moment_of}
-use Rattle.evaluator.specs.Rest.{here, waiting}
-use Rattle.evaluator.specs.TransferFamilies.{host_in}
-use Rattle.evaluator.proofs.TransfersByRow.{host_by, with_number}
-use Rattle.evaluator.proofs.Turning.{turns_same}
+use Rattle.evaluator.proofs.{TransfersByRow.host_by, TransfersByRow.with_number, Turning.turns_same}
 use Rattle.evaluator.proofs.reading.read_variable.Goals as goal
+use Rattle.evaluator.specs.{Rest.here, Rest.waiting, TransferFamilies.host_in}
 
 pub returns-in-Some-clause-turns : goal.returns-in-Some-clause-turns
 returns-in-Some-clause-turns c =

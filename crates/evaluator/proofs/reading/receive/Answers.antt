@@ -1,15 +1,11 @@
-use Rattle.std.proofs.Common.{◌≡◌, ◌==◌, true, false, Some, None, ap, ◌∙◌, arith}
+use Rattle.std.proofs.Common.{◌==◌, ◌∙◌, ◌≡◌, None, Some, ap, arith, false, true}
 use Rattle.std.proofs.lemmas.Bool.Decides.{nat_tests}
-use Rattle.core_program.specs.ProgramRows.{row_at}
-use Rattle.core_program.specs.Tree.{Receive}
-use Rattle.core_program.specs.Statements.{nothing}
-use Rattle.core_program.specs.Transfers.{of_received}
-use Rattle.eval_ops.specs.Machines.{moment_of}
-use Rattle.eval_ops.specs.Items.{element_in}
-use Rattle.evaluator.specs.Rest.{here, waiting}
-use Rattle.evaluator.proofs.Turning.{part_comes, turns_after, goes_on, ends_list}
+use Rattle.core_program.specs.{ProgramRows.row_at, Statements.nothing, Transfers.of_received, Tree.Receive}
+use Rattle.eval_ops.specs.{Items.element_in, Machines.moment_of}
 use Rattle.evaluator.proofs.TransfersByRow.{received_by, with_element}
+use Rattle.evaluator.proofs.Turning.{ends_list, goes_on, part_comes, turns_after}
 use Rattle.evaluator.proofs.reading.receive.Goals as goal
+use Rattle.evaluator.specs.Rest.{here, waiting}
 
 pub returns-then-at-eq-LIST_END-clause-turns : goal.returns-then-at-eq-LIST_END-clause-turns
 returns-then-at-eq-LIST_END-clause-turns c =

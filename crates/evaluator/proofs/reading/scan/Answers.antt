@@ -1,15 +1,10 @@
 use Rattle.std.proofs.Common.{arith}
-use Rattle.core_program.specs.declared.scan.Scanned.{Scanned}
-use Rattle.core_program.specs.Input.{scan_on}
-use Rattle.core_program.specs.Transfers.{on_scanned}
-use Rattle.core_program.specs.Tree.{Scanning}
+use Rattle.core_program.specs.{Input.scan_on, Transfers.on_scanned, Tree.Scanning, declared.scan.Scanned.Scanned}
 use Rattle.eval_ops.specs.Machines.{moment_of}
-use Rattle.evaluator.specs.Rest.{here, waiting}
-use Rattle.evaluator.proofs.Moves.{begins, comes_then}
-use Rattle.evaluator.proofs.StepsFall.{falls_so}
+use Rattle.evaluator.proofs.{Moves.begins, Moves.comes_then, StepsFall.falls_so, TransfersByRow.scan_falls}
 use Rattle.evaluator.proofs.Turning.{did, fails, fails_after, falls_failed, turns_after, turns_failed}
-use Rattle.evaluator.proofs.TransfersByRow.{scan_falls}
 use Rattle.evaluator.proofs.reading.scan.Goals as goal
+use Rattle.evaluator.specs.Rest.{here, waiting}
 
 pub returns-in-Ok-clause-turns : goal.returns-in-Ok-clause-turns
 returns-in-Ok-clause-turns c p =

@@ -1,13 +1,10 @@
-use Rattle.std.proofs.Common.{refl, sym, ap, ◌∙◌, sum_by, arith}
-use Rattle.core_program.specs.ProgramRows.{row_at, type_at}
-use Rattle.core_program.specs.Variants.{assign_to, tag_accessed}
+use Rattle.std.proofs.Common.{◌∙◌, ap, arith, refl, sum_by, sym}
+use Rattle.core_program.specs.{ProgramRows.row_at, ProgramRows.type_at, Variants.assign_to, Variants.tag_accessed}
 use Rattle.core_program.specs.Tree.{Receive, Ret, Sub, bind, doing}
 use Rattle.eval_ops.specs.Machines.{moment_of}
-use Rattle.evaluator.specs.Rest.{here, waiting, top, values_of}
-use Rattle.evaluator.specs.Weight.{task_weight}
-use Rattle.evaluator.proofs.StepsFall.{falls_so}
-use Rattle.evaluator.proofs.Turning.{turns_same}
+use Rattle.evaluator.proofs.{StepsFall.falls_so, Turning.turns_same}
 use Rattle.evaluator.proofs.reading.store.Goals as goal
+use Rattle.evaluator.specs.{Rest.here, Rest.top, Rest.values_of, Rest.waiting, Weight.task_weight}
 
 pub returns-clause-turns : goal.returns-clause-turns
 returns-clause-turns c =

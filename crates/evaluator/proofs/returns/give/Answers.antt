@@ -1,11 +1,8 @@
-use Rattle.evaluator.proofs.Moves.{end_here, bind_ret, finished, stops_then}
-use Rattle.cell_value.specs.declared.values.Value.{Value}
-use Rattle.core_program.specs.Tree.{Scalar}
 use Rattle.std.proofs.Common.{sym}
-use Rattle.core_program.specs.Tree.{Ret, doing}
-use Rattle.core_program.specs.Accesses.{scalar}
-use Rattle.evaluator.proofs.Moves.{comes_same}
-use Rattle.evaluator.proofs.Turning.{turns_failed, fails_after, fails}
+use Rattle.cell_value.specs.declared.values.Value.{Value}
+use Rattle.core_program.specs.{Accesses.scalar, Tree.Ret, Tree.Scalar, Tree.doing}
+use Rattle.evaluator.proofs.Moves.{bind_ret, comes_same, end_here, finished, stops_then}
+use Rattle.evaluator.proofs.Turning.{fails, fails_after, turns_failed}
 use Rattle.evaluator.proofs.returns.give.Goals as goal
 
 pub returns-in-Ok-clause-turns : goal.returns-in-Ok-clause-turns

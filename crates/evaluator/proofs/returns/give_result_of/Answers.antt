@@ -1,11 +1,8 @@
-use Rattle.core_program.specs.Run.{result_read, result_of_type}
-use Rattle.core_program.specs.Heap.{pointer_result_at}
-use Rattle.core_program.specs.State as state
+use Rattle.std.proofs.Common.{◌∙◌, ◌≡◌, Some, ap, rules}
 use mir.Syntax.{w32}
 use mir.Val.{of_z, to_z}
-use Rattle.std.proofs.Common.{rules}
-use Rattle.core_program.specs.declared.rows.TypeRow.TheVariants as kinds
-use Rattle.std.proofs.Common.{◌≡◌, Some, ap, ◌∙◌}
+use Rattle.core_program.specs.{Heap.pointer_result_at, Run.result_of_type, Run.result_read, declared.rows.TypeRow.TypeRow}
+use Rattle.core_program.specs.State as state
 use Rattle.eval_ops.specs.Machines.{moment_of}
 use Rattle.evaluator.proofs.Turning.{turns_same}
 use Rattle.evaluator.proofs.returns.give_result_of.Goals as goal
@@ -13,7 +10,7 @@ use Rattle.evaluator.proofs.returns.give_result_of.Goals as goal
 pub returns-in-Some-Ordinal-clause-turns : goal.returns-in-Some-Ordinal-clause-turns
 returns-in-Some-Ordinal-clause-turns c =
     let p = c.args.program.now in
-    let e : c.args.kind ≡ Some (kinds.Ordinal c.in-Some-Ordinal.least c.in-Some-Ordinal.greatest) = c.in-Some-Ordinal.is ∙ ap Some
+    let e : c.args.kind ≡ Some (TypeRow.Ordinal c.in-Some-Ordinal.least c.in-Some-Ordinal.greatest) = c.in-Some-Ordinal.is ∙ ap Some
     (rw c.in-Some-Ordinal.is at c.in-Some-Ordinal.field-0-is) in
     let l : to_z w32 (of_z w32 c.in-Some-Ordinal.least) ≡ c.in-Some-Ordinal.least = search rules in
     let g : to_z w32 (of_z w32 c.in-Some-Ordinal.greatest) ≡ c.in-Some-Ordinal.greatest = search rules in
@@ -26,7 +23,7 @@ returns-in-Some-Ordinal-clause-turns c =
 pub returns-in-Some-Subrange-clause-turns : goal.returns-in-Some-Subrange-clause-turns
 returns-in-Some-Subrange-clause-turns c =
     let p = c.args.program.now in
-    let e : c.args.kind ≡ Some (kinds.Subrange c.in-Some-Subrange.field-0-0 c.in-Some-Subrange.least c.in-Some-Subrange.greatest) =
+    let e : c.args.kind ≡ Some (TypeRow.Subrange c.in-Some-Subrange.field-0-0 c.in-Some-Subrange.least c.in-Some-Subrange.greatest) =
     c.in-Some-Subrange.is ∙ ap Some (rw c.in-Some-Subrange.is at c.in-Some-Subrange.field-0-is) in
     let l : to_z w32 (of_z w32 c.in-Some-Subrange.least) ≡ c.in-Some-Subrange.least = search rules in
     let g : to_z w32 (of_z w32 c.in-Some-Subrange.greatest) ≡ c.in-Some-Subrange.greatest = search rules in
@@ -40,7 +37,7 @@ pub returns-in-Some-Pointer-clause-turns : goal.returns-in-Some-Pointer-clause-t
 returns-in-Some-Pointer-clause-turns c =
     let p = c.args.program.now in
     let n = c.in-Some-Pointer in
-    let e : c.args.kind ≡ Some (kinds.Pointer n.field-0-0) = n.is ∙ ap Some (rw n.is at n.field-0-is) in
+    let e : c.args.kind ≡ Some (TypeRow.Pointer n.field-0-0) = n.is ∙ ap Some (rw n.is at n.field-0-is) in
     turns_same p _ _ _ _ c.give-in-Some-Pointer.result c.give-in-Some-Pointer.new.body
     (ap (result_of_type c.args.line (state.moved c.args.body.now.home.base c.args.place)) e)
     (c.give-in-Some-Pointer.ensures.turns p (pointer_result_at (state.moved c.args.body.now.home.base c.args.place))

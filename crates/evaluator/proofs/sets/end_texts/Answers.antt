@@ -1,13 +1,10 @@
-use Rattle.std.proofs.Common.{◌≡◌, reverse, sym, ap, ◌∙◌, sum_by, arith}
+use Rattle.std.proofs.Common.{◌∙◌, ◌≡◌, ap, arith, reverse, sum_by, sym}
 use Rattle.cell_value.specs.declared.values.Value.{Value}
-use Rattle.core_program.specs.Tree.{bind}
-use Rattle.core_program.specs.Expressions.{operation_result}
-use Rattle.core_program.specs.Values.{or_fault, texts_compared}
-use Rattle.evaluator.specs.Rest.{here, resume, waiting, top_list, below_top, tasks_of, values_of, lists_of}
-use Rattle.evaluator.specs.Weight.{task_weight}
-use Rattle.evaluator.proofs.StepsFall.{falls_so}
-use Rattle.evaluator.proofs.Turning.{turns_same, given}
+use Rattle.core_program.specs.{Expressions.operation_result, Tree.bind, Values.or_fault, Values.texts_compared}
+use Rattle.evaluator.proofs.{StepsFall.falls_so, Turning.given, Turning.turns_same}
 use Rattle.evaluator.proofs.sets.end_texts.Goals as goal
+use Rattle.evaluator.specs.Rest.{below_top, here, lists_of, resume, tasks_of, top_list, values_of, waiting}
+use Rattle.evaluator.specs.Weight.{task_weight}
 
 pub returns-clause-turns : goal.returns-clause-turns
 returns-clause-turns c p m =

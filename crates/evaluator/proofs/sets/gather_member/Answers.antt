@@ -1,10 +1,8 @@
-use Rattle.std.proofs.Common.{◌≡◌, sym, ap, ◌∙◌}
-use Rattle.core_program.specs.Tree.{bind}
-use Rattle.core_program.specs.Expressions.{gather}
-use Rattle.core_program.specs.Values.{members_added}
-use Rattle.evaluator.specs.Rest.{here, waiting, resume, below_top, tasks_of, values_of, lists_of}
+use Rattle.std.proofs.Common.{◌∙◌, ◌≡◌, ap, sym}
+use Rattle.core_program.specs.{Expressions.gather, Tree.bind, Values.members_added}
 use Rattle.evaluator.proofs.Turning.{turns_same}
 use Rattle.evaluator.proofs.sets.gather_member.Goals as goal
+use Rattle.evaluator.specs.Rest.{below_top, here, lists_of, resume, tasks_of, values_of, waiting}
 
 pub returns-clause-turns : goal.returns-clause-turns
 returns-clause-turns c p m =

@@ -1,12 +1,9 @@
-use Rattle.std.proofs.Common.{◌≡◌, reverse, sym, ap, ◌∙◌, sum_by, arith}
-use Rattle.core_program.specs.Tree.{bind}
-use Rattle.core_program.specs.Expressions.{gather}
-use Rattle.core_program.specs.Values.{members_added}
-use Rattle.evaluator.specs.Rest.{here, resume, waiting, top, below_top, tasks_of, values_of, lists_of}
-use Rattle.evaluator.specs.Weight.{task_weight}
-use Rattle.evaluator.proofs.StepsFall.{falls_so}
-use Rattle.evaluator.proofs.Turning.{turns_same}
+use Rattle.std.proofs.Common.{◌∙◌, ◌≡◌, ap, arith, reverse, sum_by, sym}
+use Rattle.core_program.specs.{Expressions.gather, Tree.bind, Values.members_added}
+use Rattle.evaluator.proofs.{StepsFall.falls_so, Turning.turns_same}
 use Rattle.evaluator.proofs.sets.gather_range.Goals as goal
+use Rattle.evaluator.specs.Rest.{below_top, here, lists_of, resume, tasks_of, top, values_of, waiting}
+use Rattle.evaluator.specs.Weight.{task_weight}
 
 pub returns-clause-turns : goal.returns-clause-turns
 returns-clause-turns c p m =

@@ -1,10 +1,9 @@
-use Rattle.std.proofs.Common.{Ok, Err}
+use Rattle.std.proofs.Common.{Err, Ok}
 use Rattle.cell_value.specs.declared.values.Value.{Value}
-use Rattle.core_program.specs.Tree.{Gather, Ret, Sub}
-use Rattle.core_program.specs.Values.{or_fault}
-use Rattle.evaluator.specs.Rest.{here, waiting}
-use Rattle.evaluator.proofs.Turning.{turns_after, turns_failed, did, fails, given}
+use Rattle.core_program.specs.{Tree.Gather, Tree.Ret, Tree.Sub, Values.or_fault}
+use Rattle.evaluator.proofs.Turning.{did, fails, given, turns_after, turns_failed}
 use Rattle.evaluator.proofs.sets.gathered.Goals as goal
+use Rattle.evaluator.specs.Rest.{here, waiting}
 
 pub returns-in-Ok-clause-turns : goal.returns-in-Ok-clause-turns
 returns-in-Ok-clause-turns c p m =

@@ -1,9 +1,8 @@
-use Rattle.std.proofs.Common.{sym, ap, sum_by, arith}
+use Rattle.std.proofs.Common.{ap, arith, sum_by, sym}
 use Rattle.core_program.specs.Tree.{Scalar}
-use Rattle.evaluator.specs.Weight.{task_weight}
-use Rattle.evaluator.proofs.StepsFall.{falls_so}
-use Rattle.evaluator.proofs.Turning.{turns_same}
+use Rattle.evaluator.proofs.{StepsFall.falls_so, Turning.turns_same}
 use Rattle.evaluator.proofs.sets.give_set.Goals as goal
+use Rattle.evaluator.specs.Weight.{task_weight}
 
 pub returns-clause-turns : goal.returns-clause-turns
 returns-clause-turns c p m =

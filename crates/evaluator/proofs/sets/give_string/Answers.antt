@@ -1,11 +1,10 @@
-use Rattle.std.proofs.Common.{◌≡◌, ◌==◌, false, ℕ, List, [], length, Option, Some, None, sym, ap, ◌∙◌}
-use Rattle.std.specs.Prelude.{slice_get, unwrap_or}
-use Rattle.core_program.specs.Tree.{Cells, Ret, bind}
+use Rattle.std.proofs.Common.{◌==◌, ◌∙◌, ◌≡◌, [], ℕ, List, None, Option, Some, ap, false, length, slice_get, sym}
+use Rattle.std.specs.Prelude.{unwrap_or}
+use Rattle.core_program.specs.{Expressions.string_in, Tree.Cells, Tree.Ret, Tree.bind}
 use Rattle.core_program.specs.Values as values
-use Rattle.core_program.specs.Expressions.{string_in}
-use Rattle.evaluator.specs.Rest.{waiting}
 use Rattle.evaluator.proofs.Turning.{turns_same}
 use Rattle.evaluator.proofs.sets.give_string.Goals as goal
+use Rattle.evaluator.specs.Rest.{waiting}
 
 -- a token with a text that is not empty has a text
 text_there : (o : Option (List ℕ)) (text : List ℕ) → text ≡ unwrap_or o [] → (length text == 0) ≡ false

@@ -1,14 +1,10 @@
-use Rattle.std.proofs.Common.{◌≡◌, Some, None, ap, ◌∙◌, arith}
-use Rattle.core_program.specs.ProgramRows.{row_at}
-use Rattle.core_program.specs.Tree.{bind}
-use Rattle.core_program.specs.Accesses.{eval}
+use Rattle.std.proofs.Common.{◌∙◌, ◌≡◌, None, Some, ap, arith}
+use Rattle.core_program.specs.{Accesses.eval, ProgramRows.row_at, Tree.bind}
 use Rattle.core_program.specs.Statements as meaning
-use Rattle.evaluator.specs.Rest.{here, waiting}
 use Rattle.eval_ops.specs.Counting.{turns_in}
-use Rattle.evaluator.proofs.StatementsByRow.{with_turns, bounds_by}
-use Rattle.evaluator.proofs.StepsFall.{falls_so}
-use Rattle.evaluator.proofs.Turning.{turns_same}
+use Rattle.evaluator.proofs.{StatementsByRow.bounds_by, StatementsByRow.with_turns, StepsFall.falls_so, Turning.turns_same}
 use Rattle.evaluator.proofs.statements.begin_for.Goals as goal
+use Rattle.evaluator.specs.Rest.{here, waiting}
 
 pub returns-in-Some-clause-turns : goal.returns-in-Some-clause-turns
 returns-in-Some-clause-turns c m =

@@ -1,12 +1,10 @@
-use Rattle.std.proofs.Common.{◌≡◌, Some, None, sym, ap, ◌∙◌, arith}
-use Rattle.core_program.specs.Tree.{Exec, Sub, Line, bind}
+use Rattle.std.proofs.Common.{◌∙◌, ◌≡◌, None, Some, ap, arith, sym}
 use Rattle.core_program.specs.Statements as meaning
+use Rattle.core_program.specs.Tree.{Exec, Line, Sub, bind}
 use Rattle.eval_ops.specs.Machines.{moment_of}
-use Rattle.evaluator.specs.Rest.{here, waiting, carried, carry_with}
-use Rattle.evaluator.proofs.StatementsByRow.{told, untold}
-use Rattle.evaluator.proofs.StepsFall.{falls_so}
-use Rattle.evaluator.proofs.Turning.{turns_same, after_it, not_after_it}
+use Rattle.evaluator.proofs.{StatementsByRow.told, StatementsByRow.untold, StepsFall.falls_so, Turning.after_it, Turning.not_after_it, Turning.turns_same}
 use Rattle.evaluator.proofs.statements.begin_statement.Goals as goal
+use Rattle.evaluator.specs.Rest.{carried, carry_with, here, waiting}
 
 pub returns-in-Empty-clause-turns : goal.returns-in-Empty-clause-turns
 returns-in-Empty-clause-turns c p e =

@@ -1,20 +1,16 @@
-use Rattle.std.proofs.Common.{◌≡◌, sym, ap, ◌∙◌, arith}
-use Rattle.core_program.specs.declared.rows.Row.TheVariants as rows
-use Rattle.core_program.specs.ProgramRows.{row_at}
-use Rattle.core_program.specs.Tree.{bind}
+use Rattle.std.proofs.Common.{◌∙◌, ◌≡◌, ap, arith, sym}
+use Rattle.core_program.specs.{ProgramRows.row_at, Tree.bind, declared.rows.Row.Row}
 use Rattle.eval_ops.specs.Machines.{moment_of}
-use Rattle.evaluator.specs.Rest.{waiting, carried}
-use Rattle.evaluator.proofs.StatementsByRow.{no_carried}
-use Rattle.evaluator.proofs.StepsFall.{falls_so}
-use Rattle.evaluator.proofs.Turning.{turns_same}
+use Rattle.evaluator.proofs.{StatementsByRow.no_carried, StepsFall.falls_so, Turning.turns_same}
 use Rattle.evaluator.proofs.statements.carry.Goals as goal
+use Rattle.evaluator.specs.Rest.{carried, waiting}
 
 pub returns-in-Statement-clause-turns : goal.returns-in-Statement-clause-turns
 returns-in-Statement-clause-turns c =
     let p = c.args.program.now in
     let rest = waiting p c.args.body.now in
     turns_same p _ _ (moment_of c.args.machine.now) _ c.carry_on.result c.carry_on.new.body
-    (ap (λ r. bind (carried p c.args.body.now.home c.args.row r) rest) (let e : row_at p c.args.row ≡ rows.Statement c.in-Statement.statement = cc in e))
+    (ap (λ r. bind (carried p c.args.body.now.home c.args.row r) rest) (let e : row_at p c.args.row ≡ Row.Statement c.in-Statement.statement = cc in e))
     c.carry_on.ensures.turns
 
 pub returns-in-Statement-clause-falls : goal.returns-in-Statement-clause-falls

@@ -1,11 +1,9 @@
 use Rattle.std.proofs.Common.{ap, arith}
 use Rattle.core_program.specs.Tree.{bind}
 use Rattle.eval_ops.specs.Machines.{moment_of}
-use Rattle.evaluator.specs.Rest.{waiting}
-use Rattle.evaluator.proofs.StatementsByRow.{other_carried}
-use Rattle.evaluator.proofs.StepsFall.{falls_so}
-use Rattle.evaluator.proofs.Turning.{turns_same}
+use Rattle.evaluator.proofs.{StatementsByRow.other_carried, StepsFall.falls_so, Turning.turns_same}
 use Rattle.evaluator.proofs.statements.carry_on.Goals as goal
+use Rattle.evaluator.specs.Rest.{waiting}
 
 pub returns-in-Assign-clause-turns : goal.returns-in-Assign-clause-turns
 returns-in-Assign-clause-turns c = rw c.in-Assign.is (c.wait.ensures.turns c.args.program.now (moment_of c.args.machine.now))

@@ -1,14 +1,10 @@
-use Rattle.std.proofs.Common.{◌≡◌, sym, ap, ◌∙◌, arith}
-use Rattle.core_program.specs.declared.rows.Row.TheVariants as rows
-use Rattle.core_program.specs.ProgramRows.{row_at}
-use Rattle.core_program.specs.Tree.{Exec}
+use Rattle.std.proofs.Common.{◌∙◌, ◌≡◌, ap, arith, sym}
+use Rattle.core_program.specs.{ProgramRows.row_at, Tree.Exec, declared.rows.Row.Row}
 use Rattle.core_program.specs.Statements as meaning
 use Rattle.eval_ops.specs.Machines.{moment_of}
-use Rattle.evaluator.specs.Rest.{here, waiting}
-use Rattle.evaluator.proofs.StatementsByRow.{no_statement}
-use Rattle.evaluator.proofs.StepsFall.{falls_so}
-use Rattle.evaluator.proofs.Turning.{part_comes, turns_after}
+use Rattle.evaluator.proofs.{StatementsByRow.no_statement, StepsFall.falls_so, Turning.part_comes, Turning.turns_after}
 use Rattle.evaluator.proofs.statements.execute.Goals as goal
+use Rattle.evaluator.specs.Rest.{here, waiting}
 
 pub returns-in-Statement-clause-turns : goal.returns-in-Statement-clause-turns
 returns-in-Statement-clause-turns c =
@@ -17,8 +13,8 @@ returns-in-Statement-clause-turns c =
     let rest = waiting p c.args.body.now in
     turns_after p _ _ (moment_of c.args.machine.now) (moment_of c.args.machine.now) _ c.begin_statement.result c.begin_statement.new.body
     (part_comes p (Exec c.args.row h) rest (moment_of c.args.machine.now) _
-    (let e : row_at p c.args.row ≡ rows.Statement c.in-Statement.statement = cc in ap (meaning.statement_in p c.args.row h) e))
-    (c.begin_statement.ensures.turns p (let e : row_at p c.args.row ≡ rows.Statement c.in-Statement.statement = cc in e))
+    (let e : row_at p c.args.row ≡ Row.Statement c.in-Statement.statement = cc in ap (meaning.statement_in p c.args.row h) e))
+    (c.begin_statement.ensures.turns p (let e : row_at p c.args.row ≡ Row.Statement c.in-Statement.statement = cc in e))
 
 pub returns-in-Statement-clause-falls : goal.returns-in-Statement-clause-falls
 returns-in-Statement-clause-falls c =

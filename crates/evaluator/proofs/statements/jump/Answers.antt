@@ -1,11 +1,10 @@
 use Rattle.std.proofs.Common.{ℕ, arith}
-use Rattle.core_program.specs.Cells.{frame_out}
-use Rattle.core_program.specs.Tree.{Ret, Jump}
+use Rattle.core_program.specs.{Cells.frame_out, Tree.Jump, Tree.Ret}
 use Rattle.eval_ops.specs.Machines.{moment_of}
-use Rattle.evaluator.specs.Rest.{waiting}
-use Rattle.evaluator.proofs.StepsFall.{steps_fall, falls_so}
+use Rattle.evaluator.proofs.StepsFall.{falls_so, steps_fall}
 use Rattle.evaluator.proofs.Turning.{did, fails, falls_failed, turns_after, turns_failed}
 use Rattle.evaluator.proofs.statements.jump.Goals as goal
+use Rattle.evaluator.specs.Rest.{waiting}
 
 pub returns-in-Ok-clause-turns : goal.returns-in-Ok-clause-turns
 returns-in-Ok-clause-turns c p =

@@ -1,14 +1,11 @@
-use Rattle.std.proofs.Common.{◌≡◌, ◌==◌, true, false, Some, None, ap, ◌∙◌, arith}
+use Rattle.std.proofs.Common.{◌==◌, ◌∙◌, ◌≡◌, None, Some, ap, arith, false, true}
 use Rattle.std.proofs.lemmas.Bool.Decides.{nat_tests}
-use Rattle.core_program.specs.ProgramRows.{row_at}
-use Rattle.core_program.specs.Tree.{Sequence}
-use Rattle.core_program.specs.Statements.{nothing, of_sequence}
-use Rattle.evaluator.specs.Rest.{here, waiting}
+use Rattle.core_program.specs.{ProgramRows.row_at, Statements.nothing, Statements.of_sequence, Tree.Sequence}
 use Rattle.eval_ops.specs.Items.{element_in}
-use Rattle.evaluator.proofs.StatementsByRow.{in_sequence, sequence_by}
-use Rattle.evaluator.proofs.StepsFall.{falls_so}
-use Rattle.evaluator.proofs.Turning.{part_comes, turns_after, goes_on, ends_list}
+use Rattle.evaluator.proofs.{StatementsByRow.in_sequence, StatementsByRow.sequence_by, StepsFall.falls_so}
+use Rattle.evaluator.proofs.Turning.{ends_list, goes_on, part_comes, turns_after}
 use Rattle.evaluator.proofs.statements.sequence.Goals as goal
+use Rattle.evaluator.specs.Rest.{here, waiting}
 
 pub returns-then-at-eq-LIST_END-clause-turns : goal.returns-then-at-eq-LIST_END-clause-turns
 returns-then-at-eq-LIST_END-clause-turns c m =

@@ -1,10 +1,10 @@
-use Rattle.std.proofs.Common.{arith, []}
+use Rattle.std.proofs.Common.{[], arith}
 use Rattle.core_program.specs.Statements as meaning
 use Rattle.eval_ops.specs.Machines.{moment_of}
-use Rattle.evaluator.specs.Rest.{from}
 use Rattle.evaluator.proofs.StepsFall.{falls_so}
-use Rattle.evaluator.proofs.Turning.{spent, not_spent, spent_less, turns_after, turns_failed}
+use Rattle.evaluator.proofs.Turning.{not_spent, spent, spent_less, turns_after, turns_failed}
 use Rattle.evaluator.proofs.statements.step.Goals as goal
+use Rattle.evaluator.specs.Rest.{from}
 
 pub returns-in-Ok-clause-turns : goal.returns-in-Ok-clause-turns
 returns-in-Ok-clause-turns c p =

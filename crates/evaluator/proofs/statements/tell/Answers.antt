@@ -1,9 +1,7 @@
 use Rattle.eval_ops.specs.Machines.{moment_of}
-use Rattle.evaluator.specs.declared.tasks.Now.TheVariants.{Carry}
-use Rattle.evaluator.specs.Rest.{from}
-use Rattle.evaluator.proofs.Moves.{line_here}
-use Rattle.evaluator.proofs.Turning.{line_fails, turns_failed}
+use Rattle.evaluator.proofs.{Moves.line_here, Turning.line_fails, Turning.turns_failed}
 use Rattle.evaluator.proofs.statements.tell.Goals as goal
+use Rattle.evaluator.specs.{Rest.from, declared.tasks.Now.TheVariants.Carry}
 
 pub returns-in-Ok-clause-turns : goal.returns-in-Ok-clause-turns
 returns-in-Ok-clause-turns c p = (line_here c.args.line (from p c.args.body.now (Carry c.args.row)) _ _ c.in-Ok.ensures.act, tt)

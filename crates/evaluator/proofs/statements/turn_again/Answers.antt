@@ -1,13 +1,9 @@
-use Rattle.std.proofs.Common.{◌≡◌, sym, ap, ◌∙◌, arith}
-use Rattle.core_program.specs.declared.rows.Row.TheVariants as rows
-use Rattle.core_program.specs.ProgramRows.{row_at}
-use Rattle.core_program.specs.Tree.{Turn}
+use Rattle.std.proofs.Common.{◌∙◌, ◌≡◌, ap, arith, sym}
+use Rattle.core_program.specs.{ProgramRows.row_at, Tree.Turn, declared.rows.Row.Row}
 use Rattle.core_program.specs.Statements as meaning
-use Rattle.evaluator.specs.Rest.{here, waiting}
-use Rattle.evaluator.proofs.StatementsByRow.{no_turn}
-use Rattle.evaluator.proofs.StepsFall.{falls_so}
-use Rattle.evaluator.proofs.Turning.{part_comes, turns_after}
+use Rattle.evaluator.proofs.{StatementsByRow.no_turn, StepsFall.falls_so, Turning.part_comes, Turning.turns_after}
 use Rattle.evaluator.proofs.statements.turn_again.Goals as goal
+use Rattle.evaluator.specs.Rest.{here, waiting}
 
 pub returns-in-Statement-clause-turns : goal.returns-in-Statement-clause-turns
 returns-in-Statement-clause-turns c m =
@@ -15,7 +11,7 @@ returns-in-Statement-clause-turns c m =
     let h = here c.args.body.now.home c.args.line in
     let rest = waiting p c.args.body.now in
     turns_after p _ _ m m m c.turn_of.result c.turn_of.new.body
-    (part_comes p (Turn c.args.row h) rest m _ (let e : row_at p c.args.row ≡ rows.Statement c.in-Statement.statement = cc in
+    (part_comes p (Turn c.args.row h) rest m _ (let e : row_at p c.args.row ≡ Row.Statement c.in-Statement.statement = cc in
     ap (meaning.of_turn c.args.row h) e))
     (c.turn_of.ensures.turns p m)
 

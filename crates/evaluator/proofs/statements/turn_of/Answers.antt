@@ -1,10 +1,8 @@
 use Rattle.std.proofs.Common.{ap, arith}
 use Rattle.core_program.specs.Tree.{bind}
-use Rattle.evaluator.specs.Rest.{here, waiting}
-use Rattle.evaluator.proofs.StatementsByRow.{other_turn}
-use Rattle.evaluator.proofs.StepsFall.{falls_so}
-use Rattle.evaluator.proofs.Turning.{turns_same}
+use Rattle.evaluator.proofs.{StatementsByRow.other_turn, StepsFall.falls_so, Turning.turns_same}
 use Rattle.evaluator.proofs.statements.turn_of.Goals as goal
+use Rattle.evaluator.specs.Rest.{here, waiting}
 
 pub returns-in-While-clause-turns : goal.returns-in-While-clause-turns
 returns-in-While-clause-turns c p m = rw c.in-While.is (c.by_value.ensures.turns p m)

@@ -1,10 +1,9 @@
-use Rattle.std.proofs.Common.{ap, arith, if◌then◌else◌}
+use Rattle.std.proofs.Common.{if◌then◌else◌, ap, arith}
 use Rattle.core_program.specs.Statements.{nothing, on_normal}
 use Rattle.core_program.specs.Tree.{Receive, RestOfLine, Ret, Sub, bind}
-use Rattle.evaluator.specs.Rest.{here, waiting}
-use Rattle.evaluator.proofs.StepsFall.{falls_so}
-use Rattle.evaluator.proofs.Turning.{turns_same}
+use Rattle.evaluator.proofs.{StepsFall.falls_so, Turning.turns_same}
 use Rattle.evaluator.proofs.transfers.begin_read.Goals as goal
+use Rattle.evaluator.specs.Rest.{here, waiting}
 
 pub returns-then-ends_line-clause-turns : goal.returns-then-ends_line-clause-turns
 returns-then-ends_line-clause-turns c p m =

@@ -1,11 +1,8 @@
-use Rattle.std.proofs.Common.{ap, arith, if◌then◌else◌}
-use Rattle.core_program.specs.Output.{end_line}
-use Rattle.core_program.specs.Statements.{finally, nothing, on_normal}
-use Rattle.core_program.specs.Tree.{Print, Sub, bind}
-use Rattle.evaluator.specs.Rest.{here, waiting}
-use Rattle.evaluator.proofs.StepsFall.{falls_so}
-use Rattle.evaluator.proofs.Turning.{turns_same}
+use Rattle.std.proofs.Common.{if◌then◌else◌, ap, arith}
+use Rattle.core_program.specs.{Output.end_line, Statements.finally, Statements.nothing, Statements.on_normal, Tree.Print, Tree.Sub, Tree.bind}
+use Rattle.evaluator.proofs.{StepsFall.falls_so, Turning.turns_same}
 use Rattle.evaluator.proofs.transfers.begin_write.Goals as goal
+use Rattle.evaluator.specs.Rest.{here, waiting}
 
 pub returns-then-ends_line-clause-turns : goal.returns-then-ends_line-clause-turns
 returns-then-ends_line-clause-turns c p m =

@@ -1,22 +1,17 @@
-use Rattle.std.proofs.Common.{ap, ◌∙◌, arith}
+use Rattle.std.proofs.Common.{◌∙◌, ap, arith}
 use Rattle.core_program.specs.Tree.{bind}
-use Rattle.evaluator.specs.declared.tasks.Way.TheVariants as way
-use Rattle.evaluator.specs.Rest.{from_under, resume, tasks_of, values_of, lists_of, values_below, lists_below}
-use Rattle.evaluator.specs.Weight.{task_weight}
-use Rattle.evaluator.specs.declared.tasks.Task.TheVariants as tasks
-use Rattle.evaluator.specs.declared.tasks.Now.TheVariants.{Came}
-use Rattle.evaluator.proofs.AfterStatements.{statement_ended}
-use Rattle.evaluator.proofs.StepsFall.{falls_so}
-use Rattle.evaluator.proofs.Turning.{turns_same}
+use Rattle.evaluator.proofs.{AfterStatements.statement_ended, StepsFall.falls_so, Turning.turns_same}
 use Rattle.evaluator.proofs.turns.after_address.Goals as goal
+use Rattle.evaluator.specs.{Weight.task_weight, declared.tasks.Now.TheVariants.Came, declared.tasks.Task.Task, declared.tasks.Way.Way}
+use Rattle.evaluator.specs.Rest.{from_under, lists_below, lists_of, resume, tasks_of, values_below, values_of}
 
 pub returns-in-Next-clause-turns : goal.returns-in-Next-clause-turns
 returns-in-Next-clause-turns c =
     let p = c.args.program.now in
     let a = c.args.body.now in
-    let t = tasks.Next c.in-Next.next in
+    let t = Task.Next c.in-Next.next in
     turns_same p _ _ _ _ c.follow_statement.result c.follow_statement.new.body
-    (ap (from_under p a (Came (way.Address c.args.addr))) c.in-Next.is
+    (ap (from_under p a (Came (Way.Address c.args.addr))) c.in-Next.is
     ∙ ap (λ x. bind x (resume p a.home (tasks_of a) (values_below t (values_of a)) (lists_below t (lists_of a))))
     ((statement_ended p a.home c.in-Next.next (values_of a)).address c.args.addr))
     c.follow_statement.ensures.turns
@@ -28,16 +23,16 @@ returns-in-Next-clause-falls c =
 
 pub returns-in-Record-clause-turns : goal.returns-in-Record-clause-turns
 returns-in-Record-clause-turns c = turns_same c.args.program.now _ _ _ _ c.establish.result c.establish.new.body
-    (ap (from_under c.args.program.now c.args.body.now (Came (way.Address c.args.addr))) c.in-Record.is)
+    (ap (from_under c.args.program.now c.args.body.now (Came (Way.Address c.args.addr))) c.in-Record.is)
     (c.establish.ensures.turns c.args.program.now _)
 
 pub returns-in-Point-clause-turns : goal.returns-in-Point-clause-turns
 returns-in-Point-clause-turns c = turns_same c.args.program.now _ _ _ _ c.put_pointer.result c.put_pointer.new.body
-    (ap (from_under c.args.program.now c.args.body.now (Came (way.Address c.args.addr))) c.in-Point.is) c.put_pointer.ensures.turns
+    (ap (from_under c.args.program.now c.args.body.now (Came (Way.Address c.args.addr))) c.in-Point.is) c.put_pointer.ensures.turns
 
 pub returns-in-Transfer-clause-turns : goal.returns-in-Transfer-clause-turns
 returns-in-Transfer-clause-turns c = turns_same c.args.program.now _ _ _ _ c.store_read.result c.store_read.new.body
-    (ap (from_under c.args.program.now c.args.body.now (Came (way.Address c.args.addr))) c.in-Transfer.is) c.store_read.ensures.turns
+    (ap (from_under c.args.program.now c.args.body.now (Came (Way.Address c.args.addr))) c.in-Transfer.is) c.store_read.ensures.turns
 
 pub returns-in-Transfer-clause-falls : goal.returns-in-Transfer-clause-falls
 returns-in-Transfer-clause-falls c =
@@ -46,7 +41,7 @@ returns-in-Transfer-clause-falls c =
 
 pub returns-in-PackFirst-clause-turns : goal.returns-in-PackFirst-clause-turns
 returns-in-PackFirst-clause-turns c = turns_same c.args.program.now _ _ _ _ c.locate_second.result c.locate_second.new.body
-    (ap (from_under c.args.program.now c.args.body.now (Came (way.Address c.args.addr))) c.in-PackFirst.is)
+    (ap (from_under c.args.program.now c.args.body.now (Came (Way.Address c.args.addr))) c.in-PackFirst.is)
     (c.locate_second.ensures.turns c.args.program.now _)
 
 pub returns-in-PackFirst-clause-falls : goal.returns-in-PackFirst-clause-falls
@@ -56,7 +51,7 @@ returns-in-PackFirst-clause-falls c =
 
 pub returns-in-PackSecond-clause-turns : goal.returns-in-PackSecond-clause-turns
 returns-in-PackSecond-clause-turns c = turns_same c.args.program.now _ _ _ _ c.pack_by_index.result c.pack_by_index.new.body
-    (ap (from_under c.args.program.now c.args.body.now (Came (way.Address c.args.addr))) c.in-PackSecond.is)
+    (ap (from_under c.args.program.now c.args.body.now (Came (Way.Address c.args.addr))) c.in-PackSecond.is)
     (c.pack_by_index.ensures.turns c.args.program.now _)
 
 pub returns-in-PackSecond-clause-falls : goal.returns-in-PackSecond-clause-falls

@@ -1,10 +1,9 @@
 use Rattle.std.proofs.Common.{ap}
 use Rattle.core_program.specs.Tree.{bind}
 use Rattle.eval_ops.specs.Machines.{moment_of}
-use Rattle.evaluator.specs.Rest.{home_below, resume, tasks_of, values_of, lists_of, values_below, lists_below}
-use Rattle.evaluator.proofs.Turning.{turns_same}
-use Rattle.evaluator.proofs.AfterStatements.{other_nothing}
+use Rattle.evaluator.proofs.{AfterStatements.other_nothing, Turning.turns_same}
 use Rattle.evaluator.proofs.turns.after_nothing.Goals as goal
+use Rattle.evaluator.specs.Rest.{home_below, lists_below, lists_of, resume, tasks_of, values_below, values_of}
 
 pub returns-in_default-clause-turns : goal.returns-in_default-clause-turns
 returns-in_default-clause-turns c =

@@ -1,8 +1,7 @@
-use Rattle.evaluator.specs.Rest.{from}
 use Rattle.std.proofs.Common.{ap}
-use Rattle.evaluator.specs.declared.tasks.Now.TheVariants.{Begin}
 use Rattle.evaluator.proofs.Turning.{turns_same}
 use Rattle.evaluator.proofs.turns.begin.Goals as goal
+use Rattle.evaluator.specs.{Rest.from, declared.tasks.Now.TheVariants.Begin}
 
 pub returns-in-Pass-clause-turns : goal.returns-in-Pass-clause-turns
 returns-in-Pass-clause-turns c = turns_same c.args.program.now _ _ _ _ c.pass_actuals.result c.pass_actuals.new.body

@@ -1,13 +1,11 @@
-use Rattle.std.proofs.Common.{◌≡◌, ℕ, List, Some, None, ap, sym}
-use Rattle.core_program.specs.ProgramRows.{routine_at}
-use Rattle.core_program.specs.Tree.{Body, ActTree, Sub, Sequence, Ret}
-use Rattle.core_program.specs.Accesses.{no_row}
-use Rattle.core_program.specs.Layer.{of_body}
+use Rattle.std.proofs.Common.{◌≡◌, ℕ, List, None, Some, ap, sym}
+use Rattle.core_program.specs.{Accesses.no_row, Layer.of_body, ProgramRows.routine_at}
+use Rattle.core_program.specs.Tree.{ActTree, Body, Ret, Sequence, Sub}
 use Rattle.eval_ops.specs.Machines.{moment_of}
-use Rattle.evaluator.specs.Rest.{bare, here, resume, lists_of, tasks_of, values_of}
-use Rattle.evaluator.proofs.Moves.{comes_then, comes_same}
-use Rattle.evaluator.proofs.Turning.{part_comes, spent, not_spent, turns_after, turns_failed, fails_after}
+use Rattle.evaluator.proofs.Moves.{comes_same, comes_then}
+use Rattle.evaluator.proofs.Turning.{fails_after, not_spent, part_comes, spent, turns_after, turns_failed}
 use Rattle.evaluator.proofs.turns.block.Goals as goal
+use Rattle.evaluator.specs.Rest.{bare, here, lists_of, resume, tasks_of, values_of}
 
 pub returns-in-None-clause-turns : goal.returns-in-None-clause-turns
 returns-in-None-clause-turns c =

@@ -1,9 +1,8 @@
-use Rattle.std.proofs.Common.{refl, sym, subst, ◌∙◌}
+use Rattle.std.proofs.Common.{◌∙◌, refl, subst, sym}
 use Rattle.eval_ops.specs.Machines.{machine_state, moment_of}
-use Rattle.evaluator.specs.Rest.{rest_of}
-use Rattle.evaluator.specs.Stops.{NextStopIs}
 use Rattle.evaluator.proofs.Moves.{comes_same, comes_then, stops_then}
 use Rattle.evaluator.proofs.turns.go_on.Goals as goal
+use Rattle.evaluator.specs.{Rest.rest_of, Stops.NextStopIs}
 
 pub turns-init : goal.turns-init
 turns-init c = record { came = comes_same refl; frame = record { routine = refl; base = refl }; ready = c.requires.ready }

@@ -1,9 +1,6 @@
-use Rattle.evaluator.specs.Records.{SameFrame}
 use Rattle.eval_ops.specs.Machines.{IsReady, moment_of}
-use Rattle.evaluator.specs.Rest.{rest_of}
-use Rattle.evaluator.specs.Stops.{Comes}
-use Rattle.evaluator.specs.Weight.{measure_of}
 use Rattle.evaluator.proofs.turns.go_on.Given as goal
+use Rattle.evaluator.specs.{Records.SameFrame, Rest.rest_of, Stops.Comes, Weight.measure_of}
 
 abbrev pub invariant-turns : goal.invariant-turns
 invariant-turns l = record {

@@ -1,14 +1,11 @@
-use Rattle.std.proofs.Common.{◌≡◌, ◌==◌, true, false, Some, None, ap, ◌∙◌, arith}
+use Rattle.std.proofs.Common.{◌==◌, ◌∙◌, ◌≡◌, None, Some, ap, arith, false, true}
 use Rattle.std.proofs.lemmas.Bool.Decides.{nat_tests}
-use Rattle.core_program.specs.ProgramRows.{row_at}
-use Rattle.core_program.specs.Tree.{Establish, Exec, Ret, Sub}
-use Rattle.core_program.specs.Statements.{of_records}
-use Rattle.evaluator.specs.Rest.{here, waiting}
+use Rattle.core_program.specs.{ProgramRows.row_at, Statements.of_records, Tree.Establish, Tree.Exec, Tree.Ret, Tree.Sub}
 use Rattle.eval_ops.specs.Items.{element_in}
-use Rattle.evaluator.proofs.StatementsByRow.{from_record, records_by}
-use Rattle.evaluator.proofs.StepsFall.{falls_so}
-use Rattle.evaluator.proofs.Turning.{part_comes, turns_after, goes_on, ends_list}
+use Rattle.evaluator.proofs.{StatementsByRow.from_record, StatementsByRow.records_by, StepsFall.falls_so}
+use Rattle.evaluator.proofs.Turning.{ends_list, goes_on, part_comes, turns_after}
 use Rattle.evaluator.proofs.with_records.begin_record.Goals as goal
+use Rattle.evaluator.specs.Rest.{here, waiting}
 
 pub returns-then-at-eq-LIST_END-clause-turns : goal.returns-then-at-eq-LIST_END-clause-turns
 returns-then-at-eq-LIST_END-clause-turns c m =

@@ -1,10 +1,9 @@
-use Rattle.std.proofs.Common.{ℕ, List, [], ◌∷◌, ◌++◌, ap, sym, ◌∙◌}
-use Rattle.core_program.specs.Tree.{ActTree, Sub, Establish}
-use Rattle.evaluator.specs.Rest.{here, resume, lists_of, tasks_of, values_of}
-use Rattle.evaluator.specs.Records.{without_last}
-use Rattle.evaluator.proofs.Turning.{turns_same}
-use Rattle.evaluator.proofs.RecordsLeft.{added_left}
+use Rattle.std.proofs.Common.{◌++◌, ◌∙◌, ◌∷◌, [], ℕ, List, ap, sym}
+use Rattle.core_program.specs.Tree.{ActTree, Establish, Sub}
+use Rattle.evaluator.proofs.{RecordsLeft.added_left, Turning.turns_same}
 use Rattle.evaluator.proofs.with_records.establish.Goals as goal
+use Rattle.evaluator.specs.Records.{without_last}
+use Rattle.evaluator.specs.Rest.{here, lists_of, resume, tasks_of, values_of}
 
 pub returns-clause-turns : goal.returns-clause-turns
 returns-clause-turns c p m =

@@ -1,7 +1,6 @@
-use Rattle.evaluator.specs.Rest.{lists_of, tasks_of, values_of}
-use Rattle.evaluator.proofs.Turning.{turns_same}
-use Rattle.evaluator.proofs.RecordsLeft.{way_left}
+use Rattle.evaluator.proofs.{RecordsLeft.way_left, Turning.turns_same}
 use Rattle.evaluator.proofs.with_records.leave.Goals as goal
+use Rattle.evaluator.specs.Rest.{lists_of, tasks_of, values_of}
 
 pub returns-clause-turns : goal.returns-clause-turns
 returns-clause-turns c p m =

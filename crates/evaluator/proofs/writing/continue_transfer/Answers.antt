@@ -1,16 +1,15 @@
 use Rattle.std.proofs.Common.{◌≡◌, ap, arith}
 use Rattle.eval_ops.specs.Machines.{moment_of}
-use Rattle.evaluator.specs.declared.tasks.Task.TheVariants as tasks
-use Rattle.evaluator.specs.Weight.{task_weight}
 use Rattle.evaluator.proofs.StepsFall.{falls_so}
 use Rattle.evaluator.proofs.writing.continue_transfer.Goals as goal
+use Rattle.evaluator.specs.{Weight.task_weight, declared.tasks.Task.Task}
 
 pub returns-in-Integer-clause-turns : goal.returns-in-Integer-clause-turns
 returns-in-Integer-clause-turns c = rw c.in-Integer.is (c.locate_read.ensures.turns c.args.program.now (moment_of c.args.machine.now))
 
 pub returns-in-Integer-clause-falls : goal.returns-in-Integer-clause-falls
 returns-in-Integer-clause-falls c =
-    let e : task_weight (tasks.Transfer c.args.transfer) ≡ 2 = ap (λ t. task_weight (tasks.Transfer t)) c.in-Integer.is in
+    let e : task_weight (Task.Transfer c.args.transfer) ≡ 2 = ap (λ t. task_weight (Task.Transfer t)) c.in-Integer.is in
     falls_so c.locate_read.result _ _ _ _ (λ h. omega (arith, h, e)) c.locate_read.ensures.falls
 
 pub returns-in-Into-clause-turns : goal.returns-in-Into-clause-turns
@@ -18,7 +17,7 @@ returns-in-Into-clause-turns c = rw c.in-Into.is (c.no_row.ensures.turns c.args.
 
 pub returns-in-Into-clause-falls : goal.returns-in-Into-clause-falls
 returns-in-Into-clause-falls c =
-    let e : task_weight (tasks.Transfer c.args.transfer) ≡ 2 = ap (λ t. task_weight (tasks.Transfer t)) c.in-Into.is in
+    let e : task_weight (Task.Transfer c.args.transfer) ≡ 2 = ap (λ t. task_weight (Task.Transfer t)) c.in-Into.is in
     falls_so c.no_row.result _ _ _ _ (λ h. omega (arith, h, e)) c.no_row.ensures.falls
 
 pub returns-in-Wide-clause-turns : goal.returns-in-Wide-clause-turns
@@ -26,7 +25,7 @@ returns-in-Wide-clause-turns c = rw c.in-Wide.is (c.begin_width.ensures.turns (m
 
 pub returns-in-Wide-clause-falls : goal.returns-in-Wide-clause-falls
 returns-in-Wide-clause-falls c =
-    let e : task_weight (tasks.Transfer c.args.transfer) ≡ 2 = ap (λ t. task_weight (tasks.Transfer t)) c.in-Wide.is in
+    let e : task_weight (Task.Transfer c.args.transfer) ≡ 2 = ap (λ t. task_weight (Task.Transfer t)) c.in-Wide.is in
     falls_so c.begin_width.result _ _ _ _ (λ h. omega (arith, h, e)) c.begin_width.ensures.falls
 
 pub returns-in-Written-clause-turns : goal.returns-in-Written-clause-turns
@@ -34,7 +33,7 @@ returns-in-Written-clause-turns c = rw c.in-Written.is c.write_plain.ensures.tur
 
 pub returns-in-Written-clause-falls : goal.returns-in-Written-clause-falls
 returns-in-Written-clause-falls c =
-    let e : task_weight (tasks.Transfer c.args.transfer) ≡ 2 = ap (λ t. task_weight (tasks.Transfer t)) c.in-Written.is in
+    let e : task_weight (Task.Transfer c.args.transfer) ≡ 2 = ap (λ t. task_weight (Task.Transfer t)) c.in-Written.is in
     falls_so c.write_plain.result _ _ _ _ (λ h. omega (arith, h, e)) c.write_plain.ensures.falls
 
 pub returns-in-Width-clause-turns : goal.returns-in-Width-clause-turns
@@ -42,7 +41,7 @@ returns-in-Width-clause-turns c = rw c.in-Width.is (c.write_waiting.ensures.turn
 
 pub returns-in-Width-clause-falls : goal.returns-in-Width-clause-falls
 returns-in-Width-clause-falls c =
-    let e : task_weight (tasks.Transfer c.args.transfer) ≡ 2 = ap (λ t. task_weight (tasks.Transfer t)) c.in-Width.is in
+    let e : task_weight (Task.Transfer c.args.transfer) ≡ 2 = ap (λ t. task_weight (Task.Transfer t)) c.in-Width.is in
     falls_so c.write_waiting.result _ _ _ _ (λ h. omega (arith, h, e)) c.write_waiting.ensures.falls
 
 pub returns-in-TextWidth-clause-turns : goal.returns-in-TextWidth-clause-turns
@@ -50,5 +49,5 @@ returns-in-TextWidth-clause-turns c = rw c.in-TextWidth.is (c.write_text.ensures
 
 pub returns-in-TextWidth-clause-falls : goal.returns-in-TextWidth-clause-falls
 returns-in-TextWidth-clause-falls c =
-    let e : task_weight (tasks.Transfer c.args.transfer) ≡ 2 = ap (λ t. task_weight (tasks.Transfer t)) c.in-TextWidth.is in
+    let e : task_weight (Task.Transfer c.args.transfer) ≡ 2 = ap (λ t. task_weight (Task.Transfer t)) c.in-TextWidth.is in
     falls_so c.write_text.result _ _ _ _ (λ h. omega (arith, h, e)) c.write_text.ensures.falls

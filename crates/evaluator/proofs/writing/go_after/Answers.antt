@@ -1,8 +1,8 @@
 use Rattle.std.proofs.Common.{arith}
-use Rattle.evaluator.specs.Rest.{waiting}
-use Rattle.evaluator.proofs.StepsFall.{steps_fall, falls_so}
+use Rattle.evaluator.proofs.StepsFall.{falls_so, steps_fall}
 use Rattle.evaluator.proofs.Turning.{did, fails, falls_failed, turns_after, turns_failed, turns_same}
 use Rattle.evaluator.proofs.writing.go_after.Goals as goal
+use Rattle.evaluator.specs.Rest.{waiting}
 
 pub returns-in-Ok-clause-turns : goal.returns-in-Ok-clause-turns
 returns-in-Ok-clause-turns c p a t m m' e h = turns_after p _ _ m m' m' c.go.result c.go.new.self

@@ -1,14 +1,9 @@
-use Rattle.std.proofs.Common.{◌≡◌, ◌==◌, true, false, sym, ap, ◌∙◌, arith}
+use Rattle.std.proofs.Common.{◌==◌, ◌∙◌, ◌≡◌, ap, arith, false, sym, true}
 use Rattle.std.proofs.lemmas.Bool.Decides.{nat_tests}
-use Rattle.core_program.specs.declared.rows.Row.TheVariants as rows
-use Rattle.core_program.specs.ProgramRows.{row_at}
-use Rattle.core_program.specs.Tree.{Print}
-use Rattle.core_program.specs.Statements.{nothing}
-use Rattle.core_program.specs.Transfers.{of_printed}
-use Rattle.evaluator.specs.Rest.{here, waiting}
-use Rattle.evaluator.proofs.Turning.{part_comes, turns_after, goes_on, ends_list}
-use Rattle.evaluator.proofs.TransfersByRow.{no_printed}
+use Rattle.core_program.specs.{ProgramRows.row_at, Statements.nothing, Transfers.of_printed, Tree.Print, declared.rows.Row.Row}
+use Rattle.evaluator.proofs.{TransfersByRow.no_printed, Turning.ends_list, Turning.goes_on, Turning.part_comes, Turning.turns_after}
 use Rattle.evaluator.proofs.writing.print.Goals as goal
+use Rattle.evaluator.specs.Rest.{here, waiting}
 
 pub returns-then-at-eq-LIST_END-clause-turns : goal.returns-then-at-eq-LIST_END-clause-turns
 returns-then-at-eq-LIST_END-clause-turns c m =
@@ -24,7 +19,7 @@ returns-in-Item-clause-turns c m =
     let p = c.args.program.now in
     let h = here c.args.body.now.home c.args.line in
     let on : (c.args.at == 0) ≡ false = grind (arith, nat_tests, c.if-at-eq-LIST_END.false) in
-    let e : row_at p c.args.at ≡ rows.Item c.in-Item.item = cc in
+    let e : row_at p c.args.at ≡ Row.Item c.in-Item.item = cc in
     turns_after p _ _ _ _ _ c.print_item.result c.print_item.new.body
     (part_comes p (Print c.args.at h) (waiting p c.args.body.now) m _ (goes_on c.args.at nothing (of_printed p h (row_at p c.args.at)) on
     ∙ ap (of_printed p h) e))

@@ -1,10 +1,9 @@
-use Rattle.std.proofs.Common.{refl, arith}
-use Rattle.core_program.specs.Output.{scalar_text, written}
-use Rattle.core_program.specs.Tree.{Print, Ret, Sub}
+use Rattle.std.proofs.Common.{arith, refl}
+use Rattle.core_program.specs.{Output.scalar_text, Output.written, Tree.Print, Tree.Ret, Tree.Sub}
 use Rattle.eval_ops.specs.Machines.{moment_of}
-use Rattle.evaluator.specs.Rest.{here}
 use Rattle.evaluator.proofs.StepsFall.{falls_so}
 use Rattle.evaluator.proofs.writing.write.Goals as goal
+use Rattle.evaluator.specs.Rest.{here}
 
 pub returns-clause-turns : goal.returns-clause-turns
 returns-clause-turns c p =

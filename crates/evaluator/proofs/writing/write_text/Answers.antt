@@ -1,13 +1,9 @@
-use Rattle.std.proofs.Common.{refl, sym, ap, ◌∙◌, sum_by, arith}
-use Rattle.core_program.specs.Output.{string_text, written}
-use Rattle.core_program.specs.Transfers.{print}
-use Rattle.core_program.specs.Tree.{Print, Ret, Sub, bind}
+use Rattle.std.proofs.Common.{◌∙◌, ap, arith, refl, sum_by, sym}
+use Rattle.core_program.specs.{Output.string_text, Output.written, Transfers.print, Tree.Print, Tree.Ret, Tree.Sub, Tree.bind}
 use Rattle.eval_ops.specs.Machines.{moment_of}
-use Rattle.evaluator.specs.Rest.{here, waiting, top_list, lists_of}
-use Rattle.evaluator.specs.Weight.{task_weight}
-use Rattle.evaluator.proofs.StepsFall.{falls_so}
-use Rattle.evaluator.proofs.Turning.{turns_same}
+use Rattle.evaluator.proofs.{StepsFall.falls_so, Turning.turns_same}
 use Rattle.evaluator.proofs.writing.write_text.Goals as goal
+use Rattle.evaluator.specs.{Rest.here, Rest.lists_of, Rest.top_list, Rest.waiting, Weight.task_weight}
 
 pub returns-clause-turns : goal.returns-clause-turns
 returns-clause-turns c p =

@@ -1,13 +1,10 @@
-use Rattle.std.proofs.Common.{Some, sym, ap, ◌∙◌, sum_by, arith}
-use Rattle.core_program.specs.Output.{scalar_text}
-use Rattle.core_program.specs.Transfers.{print}
-use Rattle.core_program.specs.Tree.{bind}
+use Rattle.std.proofs.Common.{◌∙◌, Some, ap, arith, sum_by, sym}
+use Rattle.core_program.specs.{Output.scalar_text, Transfers.print, Tree.bind}
 use Rattle.eval_ops.specs.Machines.{moment_of}
-use Rattle.evaluator.specs.Rest.{here, waiting, resume, below_top, tasks_of, values_of, lists_of}
-use Rattle.evaluator.specs.Weight.{task_weight}
-use Rattle.evaluator.proofs.StepsFall.{falls_so}
-use Rattle.evaluator.proofs.Turning.{turns_same}
+use Rattle.evaluator.proofs.{StepsFall.falls_so, Turning.turns_same}
 use Rattle.evaluator.proofs.writing.write_waiting.Goals as goal
+use Rattle.evaluator.specs.Rest.{below_top, here, lists_of, resume, tasks_of, values_of, waiting}
+use Rattle.evaluator.specs.Weight.{task_weight}
 
 pub returns-clause-turns : goal.returns-clause-turns
 returns-clause-turns c p =

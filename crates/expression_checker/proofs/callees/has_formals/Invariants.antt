@@ -1,6 +1,6 @@
-use Rattle.std.proofs.Common.{◌≡◌, ◌-◌, length}
-use Rattle.expression_checker.specs.Callees.{has_formals, takes_from}
+use Rattle.std.proofs.Common.{◌-◌, ◌≡◌, length}
 use Rattle.expression_checker.proofs.callees.has_formals.Given as goal
+use Rattle.expression_checker.specs.Callees.{has_formals, takes_from}
 
 abbrev pub invariant-sections : goal.invariant-sections
 invariant-sections l =

@@ -1,15 +1,9 @@
 use Rattle.std.proofs.Common.{◌≡◌, drop}
-use Rattle.pas_tree.specs.declared.expressions.Arguments.{out-Arguments}
-use Rattle.pas_tree.specs.declared.expressions.Index.{out-Index}
-use Rattle.pas_tree.specs.declared.expressions.Simple.{out-Simple}
-use Rattle.pas_tree.specs.declared.expressions.SomeMembers.{out-SomeMembers}
-use Rattle.pas_tree.specs.declared.expressions.Term.{out-Term}
-use Rattle.check_steps.specs.Steps.{◌>>=◌, run_step, each}
-use Rattle.expression_checker.specs.Members.{set_constructor}
-use Rattle.expression_checker.specs.Callees.{applied}
-use Rattle.expression_checker.specs.Expressions.{call, constructor, index_at, simple, term}
-use Rattle.expression_checker.specs.Expressions.{next_argument, next_factor, next_index, next_member, next_term, selector}
+use Rattle.pas_tree.specs.declared.expressions.{Arguments.out-Arguments, Index.out-Index, Simple.out-Simple, SomeMembers.out-SomeMembers, Term.out-Term}
+use Rattle.check_steps.specs.Steps.{◌>>=◌, each, run_step}
 use Rattle.expression_checker.proofs.expressions.+expressions.Given as goal
+use Rattle.expression_checker.specs.{Callees.applied, Expressions.term, Members.set_constructor}
+use Rattle.expression_checker.specs.Expressions.{call, constructor, index_at, next_argument, next_factor, next_index, next_member, next_term, selector, simple}
 
 abbrev pub invariant-check_simple-others : goal.invariant-check_simple-others
 invariant-check_simple-others l =

@@ -1,4 +1,4 @@
-use Rattle.grammar.proofs.Texts.{found, formed_found, one_tree}
+use Rattle.grammar.proofs.Texts.{formed_found, found, one_tree}
 use Rattle.grammar.proofs.laws.reading_is_exact.Goals as goal
 
 pub returns-clause-found : goal.returns-clause-found

@@ -1,5 +1,4 @@
-use Rattle.grammar.proofs.Deepest.{deep_shaped}
-use Rattle.grammar.proofs.Formed.{formed_not_deep, formed_or_deep}
+use Rattle.grammar.proofs.{Deepest.deep_shaped, Formed.formed_not_deep, Formed.formed_or_deep}
 use Rattle.grammar.proofs.refusals.nesting_is_depth.Goals as goal
 
 pub returns-clause-formed : goal.returns-clause-formed

@@ -1,6 +1,4 @@
-use Rattle.grammar.proofs.Complete.{whole_completed}
-use Rattle.grammar.proofs.Deepest.{deep_shaped}
-use Rattle.grammar.proofs.DeepIsBegun.{whole_reached}
+use Rattle.grammar.proofs.{Complete.whole_completed, DeepIsBegun.whole_reached, Deepest.deep_shaped}
 use Rattle.grammar.proofs.refusals.refused_is_begun.Goals as goal
 
 pub returns-clause-any : goal.returns-clause-any

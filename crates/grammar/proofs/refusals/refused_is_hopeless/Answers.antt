@@ -1,4 +1,4 @@
-use Rattle.grammar.proofs.Hopeless.{unfit_hopeless, surplus_hopeless}
+use Rattle.grammar.proofs.Hopeless.{surplus_hopeless, unfit_hopeless}
 use Rattle.grammar.proofs.refusals.refused_is_hopeless.Goals as goal
 
 pub returns-clause-unfit : goal.returns-clause-unfit

@@ -1,5 +1,5 @@
 use Rattle.std.proofs.Common.{[]}
-use Rattle.grammar.proofs.FirstRefusals.{stop_first, first_stop, read_none_deep, read_none_hopeless}
+use Rattle.grammar.proofs.FirstRefusals.{first_stop, read_none_deep, read_none_hopeless, stop_first}
 use Rattle.grammar.proofs.refusals.stop_is_first.Goals as goal
 
 pub returns-clause-stops : goal.returns-clause-stops

@@ -1,7 +1,7 @@
 use Rattle.std.proofs.Common.{◌≡◌, drop}
-use Rattle.check_steps.specs.Steps.{run_step, each}
-use Rattle.kind_checker.specs.Constants.{constant_part}
+use Rattle.check_steps.specs.Steps.{each, run_step}
 use Rattle.kind_checker.proofs.constants.check_more_constants.Given as goal
+use Rattle.kind_checker.specs.Constants.{constant_part}
 
 abbrev pub invariant-parts : goal.invariant-parts
 invariant-parts l =

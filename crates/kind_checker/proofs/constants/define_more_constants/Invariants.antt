@@ -1,7 +1,7 @@
 use Rattle.std.proofs.Common.{◌≡◌, drop}
-use Rattle.check_steps.specs.Steps.{run_step, each}
-use Rattle.kind_checker.specs.Constants.{define_constant}
+use Rattle.check_steps.specs.Steps.{each, run_step}
 use Rattle.kind_checker.proofs.constants.define_more_constants.Given as goal
+use Rattle.kind_checker.specs.Constants.{define_constant}
 
 abbrev pub invariant-parts : goal.invariant-parts
 invariant-parts l =

@@ -1,6 +1,6 @@
-use Rattle.std.proofs.Common.{◌≡◌, ◌+◌, ◌-◌, ◌*◌}
-use Rattle.kind_checker.specs.Headings.{lists_match}
+use Rattle.std.proofs.Common.{◌*◌, ◌+◌, ◌-◌, ◌≡◌}
 use Rattle.kind_checker.proofs.headings.+congruous.Given as goal
+use Rattle.kind_checker.specs.Headings.{lists_match}
 
 abbrev pub decreases-signatures_match : goal.decreases-signatures_match
 decreases-signatures_match l = 3 * l.most + 1

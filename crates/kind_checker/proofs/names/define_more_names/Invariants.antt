@@ -1,7 +1,7 @@
 use Rattle.std.proofs.Common.{◌≡◌, drop}
-use Rattle.check_steps.specs.Steps.{run_step, each}
-use Rattle.kind_checker.specs.Names.{define_name, on_name}
+use Rattle.check_steps.specs.Steps.{each, run_step}
 use Rattle.kind_checker.proofs.names.define_more_names.Given as goal
+use Rattle.kind_checker.specs.Names.{define_name, on_name}
 
 abbrev pub invariant-names : goal.invariant-names
 invariant-names l =

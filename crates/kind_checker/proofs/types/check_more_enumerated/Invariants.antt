@@ -1,8 +1,7 @@
 use Rattle.std.proofs.Common.{◌≡◌, drop}
-use Rattle.check_steps.specs.Steps.{run_step, each}
-use Rattle.kind_checker.specs.Names.{on_name}
-use Rattle.kind_checker.specs.Types.{enumerated}
+use Rattle.check_steps.specs.Steps.{each, run_step}
 use Rattle.kind_checker.proofs.types.check_more_enumerated.Given as goal
+use Rattle.kind_checker.specs.{Names.on_name, Types.enumerated}
 
 abbrev pub invariant-names : goal.invariant-names
 invariant-names l =

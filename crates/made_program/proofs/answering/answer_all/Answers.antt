@@ -1,9 +1,9 @@
-use Rattle.std.proofs.Common.{◌≡◌, ◌+◌, ◌-◌, List, false, length, ap, sym, ◌∙◌, arith}
+use Rattle.std.proofs.Common.{◌+◌, ◌-◌, ◌∙◌, ◌≡◌, List, ap, arith, false, length, sym}
 use Rattle.answer_book.specs.declared.entries.Entry.{Entry}
 use Rattle.dialog_replies.specs.Subject.{state_after}
-use Rattle.made_program.specs.Asked.{asks}
 use Rattle.made_program.proofs.Answered.{all_answered, as_they_were, at_first, counted_by, one_longer, one_more, stopped}
 use Rattle.made_program.proofs.answering.answer_all.Goals as goal
+use Rattle.made_program.specs.Asked.{asks}
 
 pub loop-questions-init : goal.loop-questions-init
 loop-questions-init g c =

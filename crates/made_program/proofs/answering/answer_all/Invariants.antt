@@ -1,7 +1,7 @@
-use Rattle.std.proofs.Common.{◌≡◌, ◌+◌, length}
+use Rattle.std.proofs.Common.{◌+◌, ◌≡◌, length}
 use Rattle.dialog_replies.specs.Kept.{IsSearchOf}
-use Rattle.made_program.specs.Answering.{entries_answered}
 use Rattle.made_program.proofs.answering.answer_all.Given as goal
+use Rattle.made_program.specs.Answering.{entries_answered}
 
 abbrev pub invariant-loop-questions : goal.invariant-loop-questions
 invariant-loop-questions g l =

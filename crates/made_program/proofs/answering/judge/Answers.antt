@@ -1,5 +1,4 @@
-use Rattle.std.proofs.Common.{◌≡◌, ◌+◌, ℕ, length, refl, sym, subst, ◌∙◌}
-use Rattle.std.specs.Prelude.{Result, Ok}
+use Rattle.std.proofs.Common.{◌+◌, ◌∙◌, ◌≡◌, ℕ, Ok, Result, length, refl, subst, sym}
 use Rattle.std.specs.Result.{IsOk}
 use Rattle.answer_book.specs.declared.entries.BookFault.{BookFault}
 use Rattle.made_program.proofs.Answered.{in_book, taken}

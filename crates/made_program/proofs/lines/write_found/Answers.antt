@@ -1,4 +1,4 @@
-use Rattle.std.proofs.Common.{sym, ◌∙◌}
+use Rattle.std.proofs.Common.{◌∙◌, sym}
 use Rattle.dialog_replies.proofs.NamedCalls.{named_below}
 use Rattle.made_program.proofs.lines.write_found.Goals as goal
 

@@ -1,4 +1,4 @@
-use Rattle.std.specs.Prelude.{codes}
+use Rattle.std.proofs.Common.{codes}
 use Rattle.made_program.proofs.Appended.{then_more}
 use Rattle.made_program.proofs.source.write_heading.Goals as goal
 

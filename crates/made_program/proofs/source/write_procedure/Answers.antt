@@ -1,5 +1,4 @@
-use Rattle.std.proofs.Common.{◌++◌}
-use Rattle.std.specs.Prelude.{codes}
+use Rattle.std.proofs.Common.{◌++◌, codes}
 use Rattle.made_program.proofs.Appended.{then_more}
 use Rattle.made_program.proofs.source.write_procedure.Goals as goal
 

@@ -1,5 +1,4 @@
-use Rattle.std.proofs.Common.{◌++◌}
-use Rattle.std.specs.Prelude.{codes, decimal}
+use Rattle.std.proofs.Common.{◌++◌, codes, decimal}
 use Rattle.made_program.proofs.Appended.{then_more}
 use Rattle.made_program.proofs.source.write_statements.Goals as goal
 

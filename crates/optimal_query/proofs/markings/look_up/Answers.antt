@@ -1,8 +1,8 @@
-use Rattle.std.proofs.Common.{map, set, sym, ap, ◌∙◌, arith}
+use Rattle.std.proofs.Common.{◌∙◌, ap, arith, map, set, sym}
 use Rattle.std.proofs.lemmas.List.{map-set}
-use Rattle.optimal_query.specs.Markings.{askable_flag}
 use Rattle.optimal_query.proofs.CallsOfRoutine.{up_to_all, up_to_next, up_to_none}
 use Rattle.optimal_query.proofs.markings.look_up.Goals as goal
+use Rattle.optimal_query.specs.Markings.{askable_flag}
 
 pub calls-init : goal.calls-init
 calls-init g c = record {

@@ -1,8 +1,8 @@
-use Rattle.std.proofs.Common.{◌<◌, ◌≤◌, length, map, set, sym, ap, ◌∙◌, arith}
+use Rattle.std.proofs.Common.{◌<◌, ◌∙◌, ◌≤◌, ap, arith, length, map, set, sym}
 use Rattle.std.proofs.lemmas.List.{map-set}
-use Rattle.optimal_query.specs.Markings.{askable_flag}
 use Rattle.optimal_query.proofs.CallsOfRoutine.{before_all, before_next}
 use Rattle.optimal_query.proofs.markings.look_up_each.Goals as goal
+use Rattle.optimal_query.specs.Markings.{askable_flag}
 
 pub calls-preserved : goal.calls-preserved
 calls-preserved g c =

@@ -1,4 +1,4 @@
-use Rattle.std.proofs.Common.{refl, sym, ◌∙◌, arith}
+use Rattle.std.proofs.Common.{◌∙◌, arith, refl, sym}
 use Rattle.call_tree.specs.Clear.{is_clear}
 use Rattle.subtree_weights.specs.Searched.{mark_at}
 use Rattle.optimal_query.proofs.NextDoubt.{end_inside, found_next, looked_more, none_next}

@@ -1,11 +1,9 @@
-use Rattle.std.proofs.Common.{◌≡◌, ℕ, ◌+◌, ◌*◌, ◌<◌, ◌≤◌, List, length, sym, ap, ◌∙◌, arith}
-use Rattle.std.proofs.lemmas.Bool.{le-leb, lt-leb}
-use Rattle.std.proofs.lemmas.List.{length-map}
-use Rattle.call_tree.specs.Recording.{depths_of, routines_of}
-use Rattle.call_tree.specs.declared.records.Call.{Call}
-use Rattle.optimal_query.specs.Changed.{ways_up}
+use Rattle.std.proofs.Common.{◌*◌, ◌+◌, ◌<◌, ◌∙◌, ◌≡◌, ◌≤◌, ℕ, List, ap, arith, length, sym}
+use Rattle.std.proofs.lemmas.{Bool.le-leb, Bool.lt-leb, List.length-map}
+use Rattle.call_tree.specs.{Recording.depths_of, Recording.routines_of, declared.records.Call.Call}
 use Rattle.optimal_query.proofs.CallsOfRoutine.{no_ways, ways_rise, ways_to_end, ways_to_next}
 use Rattle.optimal_query.proofs.routine_calls.has_few.Goals as goal
+use Rattle.optimal_query.specs.Changed.{ways_up}
 
 -- the columns of calls are of one length
 as_long : (calls : List Call) (depths : List ℕ) → depths ≡ depths_of calls → length depths ≡ length (routines_of calls)

@@ -1,7 +1,7 @@
-use Rattle.std.proofs.Common.{◌≡◌, ◌-◌, ◌≤◌, length}
+use Rattle.std.proofs.Common.{◌-◌, ◌≡◌, ◌≤◌, length}
 use Rattle.call_tree.specs.Recording.{routines_of}
-use Rattle.optimal_query.specs.Changed.{ways_up}
 use Rattle.optimal_query.proofs.routine_calls.has_few.Given as goal
+use Rattle.optimal_query.specs.Changed.{ways_up}
 
 abbrev pub invariant-calls : goal.invariant-calls
 invariant-calls l = record {

@@ -1,8 +1,7 @@
-use Rattle.std.proofs.Common.{refl}
-use Rattle.std.specs.Prelude.{nat_lt}
-use Rattle.optimal_query.specs.Runs.{field_of}
+use Rattle.std.proofs.Common.{nat_lt, refl}
 use Rattle.optimal_query.proofs.BestOfRuns.{next_seen}
 use Rattle.optimal_query.proofs.runs.best_of_runs.Goals as goal
+use Rattle.optimal_query.specs.Runs.{field_of}
 
 pub runs-preserved : goal.runs-preserved
 runs-preserved c =

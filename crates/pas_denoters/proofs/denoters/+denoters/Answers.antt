@@ -1,9 +1,8 @@
-use Rattle.std.proofs.Common.{refl, arith}
+use Rattle.std.proofs.Common.{arith, refl}
 use Rattle.pas_tree.proofs.Parts.{parts}
-use Rattle.pas_phrases.proofs.Failures.{handed_on}
-use Rattle.pas_phrases.proofs.ReadLists.{list_read}
-use Rattle.pas_phrases.proofs.ReadSeries.{series_pair_more, series_pair_fails, series_end_fails, series_read}
-use Rattle.pas_denoters.proofs.FieldSeries.{sections, arms}
+use Rattle.pas_phrases.proofs.{Failures.handed_on, ReadLists.list_read}
+use Rattle.pas_phrases.proofs.ReadSeries.{series_end_fails, series_pair_fails, series_pair_more, series_read}
+use Rattle.pas_denoters.proofs.FieldSeries.{arms, sections}
 use Rattle.pas_denoters.proofs.denoters.+denoters.Goals as goal
 
 pub read_next_denoters-returns-clause-gives : goal.read_next_denoters-returns-clause-gives

@@ -1,20 +1,15 @@
-use Rattle.std.proofs.Common.{◌≤◌, ◌+◌, ◌∷◌, [], length, ◌-◌, ◌*◌}
-use Rattle.grammar.specs.declared.terminals.Terminal.TheVariants as k
-use Rattle.grammar.specs.Grammars.{many, nothing, series}
-use Rattle.grammar.specs.Reading.{read}
-use Rattle.pas_tree.specs.FirstFollow.{pascal}
-use Rattle.pas_tree.specs.Denoters.{next_denoter_node, section_step, arm_step}
-use Rattle.pas_tree.specs.Rules.{constant_starts, next_denoter_rule, section_rule, variants_rule, arm_rule}
-use Rattle.pas_phrases.specs.Items.{items_from}
-use Rattle.pas_phrases.proofs.ReadLists.{ListSoFar}
-use Rattle.pas_phrases.proofs.ReadSeries.{SeriesSoFar}
-use Rattle.pas_denoters.proofs.FieldSeries.{sections, arms}
+use Rattle.std.proofs.Common.{◌*◌, ◌+◌, ◌-◌, ◌∷◌, ◌≤◌, [], length}
+use Rattle.grammar.specs.{Grammars.many, Grammars.nothing, Grammars.series, Reading.read, declared.terminals.Terminal.Terminal}
+use Rattle.pas_tree.specs.{Denoters.arm_step, Denoters.next_denoter_node, Denoters.section_step, FirstFollow.pascal}
+use Rattle.pas_tree.specs.Rules.{arm_rule, constant_starts, next_denoter_rule, section_rule, variants_rule}
+use Rattle.pas_phrases.{proofs.ReadLists.ListSoFar, proofs.ReadSeries.SeriesSoFar, specs.Items.items_from}
+use Rattle.pas_denoters.proofs.FieldSeries.{arms, sections}
 use Rattle.pas_denoters.proofs.denoters.+denoters.Given as goal
 
 abbrev pub invariant-read_next_denoters-denoters : goal.invariant-read_next_denoters-denoters
 invariant-read_next_denoters-denoters l = record {
-  so_far : ListSoFar next_denoter_node l.depth (k.Comma ∷ []) next_denoter_rule l.others.items (items_from l.tokens l.next)
-      (read pascal l.depth (many (k.Comma ∷ []) next_denoter_rule) (items_from l.tokens l.at));
+  so_far : ListSoFar next_denoter_node l.depth (Terminal.Comma ∷ []) next_denoter_rule l.others.items (items_from l.tokens l.next)
+      (read pascal l.depth (many (Terminal.Comma ∷ []) next_denoter_rule) (items_from l.tokens l.at));
   forward : l.at ≤ l.next;
 }
 
@@ -24,7 +19,7 @@ decreases-read_next_denoters-denoters l = length l.tokens - l.next
 abbrev pub invariant-read_sections-sections : goal.invariant-read_sections-sections
 invariant-read_sections-sections l = record {
   so_far : SeriesSoFar section_step l.depth sections l.others.items (items_from l.tokens l.next)
-      (read pascal l.depth (series k.Semicolon (k.Name ∷ []) section_rule variants_rule) (items_from l.tokens l.at));
+      (read pascal l.depth (series Terminal.Semicolon (Terminal.Name ∷ []) section_rule variants_rule) (items_from l.tokens l.at));
   forward : l.at ≤ l.next;
 }
 
@@ -34,7 +29,7 @@ decreases-read_sections-sections l = length l.tokens - l.next
 abbrev pub invariant-read_arms-arms : goal.invariant-read_arms-arms
 invariant-read_arms-arms l = record {
   so_far : SeriesSoFar arm_step l.depth arms l.others.items (items_from l.tokens l.next)
-      (read pascal l.depth (series k.Semicolon constant_starts arm_rule nothing) (items_from l.tokens l.at));
+      (read pascal l.depth (series Terminal.Semicolon constant_starts arm_rule nothing) (items_from l.tokens l.at));
   forward : l.at ≤ l.next;
 }
 

@@ -1,18 +1,13 @@
-use Rattle.std.proofs.Common.{◌≤◌, ◌+◌, ◌∷◌, [], length, ◌-◌, ◌*◌}
-use Rattle.grammar.specs.declared.terminals.Terminal.TheVariants as k
-use Rattle.grammar.specs.Grammars.{many}
-use Rattle.grammar.specs.Reading.{read}
-use Rattle.pas_tree.specs.FirstFollow.{pascal}
-use Rattle.pas_tree.specs.Headings.{next_formal_node}
-use Rattle.pas_tree.specs.Rules.{next_formal_rule}
-use Rattle.pas_phrases.specs.Items.{items_from}
-use Rattle.pas_phrases.proofs.ReadLists.{ListSoFar}
+use Rattle.std.proofs.Common.{◌*◌, ◌+◌, ◌-◌, ◌∷◌, ◌≤◌, [], length}
+use Rattle.grammar.specs.{Grammars.many, Reading.read, declared.terminals.Terminal.Terminal}
+use Rattle.pas_tree.specs.{FirstFollow.pascal, Headings.next_formal_node, Rules.next_formal_rule}
+use Rattle.pas_phrases.{proofs.ReadLists.ListSoFar, specs.Items.items_from}
 use Rattle.pas_denoters.proofs.headings.+headings.Given as goal
 
 abbrev pub invariant-read_next_formals-formals : goal.invariant-read_next_formals-formals
 invariant-read_next_formals-formals l = record {
-  so_far : ListSoFar next_formal_node l.depth (k.Semicolon ∷ []) next_formal_rule l.others.items (items_from l.tokens l.next)
-      (read pascal l.depth (many (k.Semicolon ∷ []) next_formal_rule) (items_from l.tokens l.at));
+  so_far : ListSoFar next_formal_node l.depth (Terminal.Semicolon ∷ []) next_formal_rule l.others.items (items_from l.tokens l.next)
+      (read pascal l.depth (many (Terminal.Semicolon ∷ []) next_formal_rule) (items_from l.tokens l.at));
   forward : l.at ≤ l.next;
 }
 

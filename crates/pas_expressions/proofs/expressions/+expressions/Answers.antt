@@ -1,18 +1,12 @@
-use Rattle.std.proofs.Common.{Ok, refl, sym, ap, ◌∙◌, arith}
+use Rattle.std.proofs.Common.{◌∙◌, Ok, ap, arith, refl, sym}
 use denote.Hole.Carrier.{roll}
-use Rattle.pas_tree.specs.declared.expressions.NextTerm.{roll-NextTerm}
-use Rattle.pas_tree.specs.declared.expressions.NextExpression.{roll-NextExpression}
-use Rattle.pas_tree.specs.declared.expressions.NextMember.{roll-NextMember}
-use Rattle.grammar.specs.Nodes.{Node}
+use Rattle.grammar.specs.{Nodes.Node, Reading.read}
 use Rattle.grammar.specs.Grammars.{Grammar, factor, level, many, seq}
-use Rattle.grammar.specs.Reading.{read}
-use Rattle.pas_phrases.specs.Items.{items_from}
-use Rattle.pas_phrases.proofs.Failures.{seq_read, first_fails, second_fails, handed_on}
-use Rattle.pas_tree.proofs.ExpressionRolls.{simple_rolled, term_rolled}
-use Rattle.pas_tree.specs.Rules.{adding, multiplying, simple_rule, sign_rule, term_rule}
-use Rattle.pas_tree.specs.Rules.{next_term_rule, next_factor_rule, next_expression_rule, next_member_rule}
-use Rattle.pas_tree.proofs.Parts.{parts}
-use Rattle.pas_phrases.proofs.ReadLists.{pair_more, level_more, token_fails, pair_fails, level_fails, list_read}
+use Rattle.pas_tree.{proofs.ExpressionRolls.simple_rolled, proofs.ExpressionRolls.term_rolled, proofs.Parts.parts, specs.Rules.term_rule}
+use Rattle.pas_tree.specs.Rules.{adding, multiplying, next_expression_rule, next_factor_rule, next_member_rule, next_term_rule, sign_rule, simple_rule}
+use Rattle.pas_tree.specs.declared.expressions.{NextExpression.roll-NextExpression, NextMember.roll-NextMember, NextTerm.roll-NextTerm}
+use Rattle.pas_phrases.{proofs.Failures.first_fails, proofs.Failures.handed_on, proofs.Failures.second_fails, proofs.Failures.seq_read, specs.Items.items_from}
+use Rattle.pas_phrases.proofs.ReadLists.{level_fails, level_more, list_read, pair_fails, pair_more, token_fails}
 use Rattle.pas_expressions.proofs.expressions.+expressions.Goals as goal
 
 abbrev next_terms : Grammar

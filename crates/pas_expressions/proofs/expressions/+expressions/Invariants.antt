@@ -1,12 +1,9 @@
-use Rattle.std.proofs.Common.{◌≡◌, Ok, ◌≤◌, ◌+◌, ◌∷◌, [], length, ◌-◌, ◌*◌}
-use Rattle.grammar.specs.declared.terminals.Terminal.TheVariants as k
-use Rattle.grammar.specs.Grammars.{factor, many}
-use Rattle.grammar.specs.Reading.{levels, read}
+use Rattle.std.proofs.Common.{◌*◌, ◌+◌, ◌-◌, ◌∷◌, ◌≡◌, ◌≤◌, [], Ok, length}
+use Rattle.grammar.specs.{Grammars.factor, Grammars.many, Reading.levels, Reading.read, declared.terminals.Terminal.Terminal}
+use Rattle.pas_tree.specs.Expressions.{factor_node, next_expression_node, next_factor_node, next_member_node, next_term_node, selector_node}
 use Rattle.pas_tree.specs.FirstFollow.{pascal}
-use Rattle.pas_tree.specs.Expressions.{factor_node, next_term_node, next_factor_node, next_expression_node, selector_node, next_member_node}
-use Rattle.pas_tree.specs.Rules.{adding, multiplying, selector_starts, next_term_rule, next_factor_rule, next_expression_rule, selector_rule, next_member_rule}
-use Rattle.pas_phrases.specs.Items.{items_from}
-use Rattle.pas_phrases.proofs.ReadLists.{ListSoFar}
+use Rattle.pas_tree.specs.Rules.{adding, multiplying, next_expression_rule, next_factor_rule, next_member_rule, next_term_rule, selector_rule, selector_starts}
+use Rattle.pas_phrases.{proofs.ReadLists.ListSoFar, specs.Items.items_from}
 use Rattle.pas_expressions.proofs.expressions.+expressions.Given as goal
 
 abbrev pub invariant-read_simple-terms : goal.invariant-read_simple-terms
@@ -32,8 +29,8 @@ decreases-read_term-factors l = length l.tokens - l.next
 
 abbrev pub invariant-read_next_expressions-expressions : goal.invariant-read_next_expressions-expressions
 invariant-read_next_expressions-expressions l = record {
-  so_far : ListSoFar next_expression_node l.depth (k.Comma ∷ []) next_expression_rule l.others.items (items_from l.tokens l.next)
-      (read pascal l.depth (many (k.Comma ∷ []) next_expression_rule) (items_from l.tokens l.at));
+  so_far : ListSoFar next_expression_node l.depth (Terminal.Comma ∷ []) next_expression_rule l.others.items (items_from l.tokens l.next)
+      (read pascal l.depth (many (Terminal.Comma ∷ []) next_expression_rule) (items_from l.tokens l.at));
   forward : l.at ≤ l.next;
 }
 
@@ -52,8 +49,8 @@ decreases-read_selectors-selectors l = length l.tokens - l.next
 
 abbrev pub invariant-read_next_members-members : goal.invariant-read_next_members-members
 invariant-read_next_members-members l = record {
-  so_far : ListSoFar next_member_node l.depth (k.Comma ∷ []) next_member_rule l.others.items (items_from l.tokens l.next)
-      (read pascal l.depth (many (k.Comma ∷ []) next_member_rule) (items_from l.tokens l.at));
+  so_far : ListSoFar next_member_node l.depth (Terminal.Comma ∷ []) next_member_rule l.others.items (items_from l.tokens l.next)
+      (read pascal l.depth (many (Terminal.Comma ∷ []) next_member_rule) (items_from l.tokens l.at));
   forward : l.at ≤ l.next;
 }
 

@@ -1,10 +1,7 @@
-use Rattle.std.proofs.Common.{◌∙◌, ◌+◌, nat_eq, get_or, sym, ap, arith}
-use Rattle.std.specs.Prelude.{◌&&◌}
-use Rattle.pas_lexer.specs.Lexis.{next_is}
-use Rattle.pas_lexer.specs.Reading.{closing}
-use Rattle.pas_lexer.proofs.LongestRun.{rest_is}
-use Rattle.pas_lexer.proofs.OneByteFurther.{comment_goes_on}
+use Rattle.std.proofs.Common.{◌&&◌, ◌+◌, ◌∙◌, ap, arith, get_or, nat_eq, sym}
+use Rattle.pas_lexer.proofs.{LongestRun.rest_is, OneByteFurther.comment_goes_on}
 use Rattle.pas_lexer.proofs.bytes.comment_end.Goals as goal
+use Rattle.pas_lexer.specs.{Lexis.next_is, Reading.closing}
 
 pub body-preserved : goal.body-preserved
 body-preserved c = record {

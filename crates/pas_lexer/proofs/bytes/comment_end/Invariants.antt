@@ -1,6 +1,6 @@
-use Rattle.std.proofs.Common.{◌≡◌, ◌≤◌, ◌-◌, drop, length}
-use Rattle.pas_lexer.specs.Reading.{closing, more_by}
+use Rattle.std.proofs.Common.{◌-◌, ◌≡◌, ◌≤◌, drop, length}
 use Rattle.pas_lexer.proofs.bytes.comment_end.Given as goal
+use Rattle.pas_lexer.specs.Reading.{closing, more_by}
 
 abbrev pub invariant-body : goal.invariant-body
 invariant-body l = record {

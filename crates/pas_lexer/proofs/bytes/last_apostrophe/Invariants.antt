@@ -1,7 +1,7 @@
-use Rattle.std.proofs.Common.{◌≡◌, ◌<◌, ◌≤◌, length, false, IfSome}
-use Rattle.pas_lexer.specs.Reading.{string_end}
+use Rattle.std.proofs.Common.{◌<◌, ◌≡◌, ◌≤◌, IfSome, false, length}
 use Rattle.pas_lexer.proofs.OneByteFurther.{last_from}
 use Rattle.pas_lexer.proofs.bytes.last_apostrophe.Given as goal
+use Rattle.pas_lexer.specs.Reading.{string_end}
 
 abbrev pub invariant-characters : goal.invariant-characters
 invariant-characters l = record {

@@ -1,6 +1,6 @@
 use Rattle.std.proofs.Common.{[]}
-use Rattle.pas_lexer.proofs.OneDivision.{nil_fits, one_division, same_tokens, same_fault, same_reason, lexed_or_fails, never_both, placed, ended}
-use Rattle.pas_lexer.proofs.SourceRejoined.{whole, in_order, fits, unquoted}
+use Rattle.pas_lexer.proofs.OneDivision.{ended, lexed_or_fails, never_both, nil_fits, one_division, placed, same_fault, same_reason, same_tokens}
+use Rattle.pas_lexer.proofs.SourceRejoined.{fits, in_order, unquoted, whole}
 use Rattle.pas_lexer.proofs.lexing.division_laws.Goals as goal
 
 pub returns-clause-one_division : goal.returns-clause-one_division

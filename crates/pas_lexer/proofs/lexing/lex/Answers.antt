@@ -1,8 +1,7 @@
-use Rattle.std.proofs.Common.{Err, ap, ◌∙◌}
-use Rattle.std.proofs.lemmas.Result.{err_from_is_err_and}
-use Rattle.pas_lexer.specs.Lexed.{Lexed}
-use Rattle.pas_lexer.proofs.OneDivision.{only, refused, placed, ended, same_tokens, never_for}
+use Rattle.std.proofs.{Common.◌∙◌, Common.Err, Common.ap, lemmas.Result.err_from_is_err_and}
+use Rattle.pas_lexer.proofs.OneDivision.{ended, never_for, only, placed, refused, same_tokens}
 use Rattle.pas_lexer.proofs.lexing.lex.Goals as goal
+use Rattle.pas_lexer.specs.Lexed.{Lexed}
 
 pub new-requires-clause-placed : goal.new-requires-clause-placed
 new-requires-clause-placed c = placed c.args.bytes.now c.in_ok-tokens.tokens.items c.in_ok-tokens.ensures.found

@@ -1,7 +1,7 @@
-use Rattle.std.proofs.Common.{◌∙◌, ◌+◌, ◌++◌, ◌≤◌, length, sym, ap, subst}
-use Rattle.pas_lexer.specs.Division.{token_of, IsFault}
-use Rattle.pas_lexer.proofs.OneDivision.{SoFar, goes_on, fails, fault_is, few_more, line_more}
+use Rattle.std.proofs.Common.{◌++◌, ◌+◌, ◌∙◌, ◌≤◌, ap, length, subst, sym}
+use Rattle.pas_lexer.proofs.OneDivision.{SoFar, fails, fault_is, few_more, goes_on, line_more}
 use Rattle.pas_lexer.proofs.lexing.scan.Goals as goal
+use Rattle.pas_lexer.specs.Division.{IsFault, token_of}
 
 pub returns-in-Err-clause-fault : goal.returns-in-Err-clause-fault
 returns-in-Err-clause-fault c =

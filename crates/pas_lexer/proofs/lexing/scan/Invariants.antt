@@ -1,7 +1,7 @@
-use Rattle.std.proofs.Common.{◌≡◌, ◌≤◌, ◌-◌, length}
-use Rattle.pas_lexer.specs.Division.{line_at}
+use Rattle.std.proofs.Common.{◌-◌, ◌≡◌, ◌≤◌, length}
 use Rattle.pas_lexer.proofs.OneDivision.{SoFar}
 use Rattle.pas_lexer.proofs.lexing.scan.Given as goal
+use Rattle.pas_lexer.specs.Division.{line_at}
 
 abbrev pub invariant-pieces : goal.invariant-pieces
 invariant-pieces l = record {

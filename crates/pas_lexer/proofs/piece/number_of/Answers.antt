@@ -1,5 +1,5 @@
-use Rattle.std.proofs.Common.{◌∙◌, ◌+◌, ◌*◌, sym, ap, arith, drop}
-use Rattle.pas_lexer.proofs.DecimalByDigit.{one_more, too_large, then_digits}
+use Rattle.std.proofs.Common.{◌*◌, ◌+◌, ◌∙◌, ap, arith, drop, sym}
+use Rattle.pas_lexer.proofs.DecimalByDigit.{one_more, then_digits, too_large}
 use Rattle.pas_lexer.proofs.piece.number_of.Goals as goal
 
 pub returns-then-value-gt-MAXINT : goal.returns-then-value-gt-MAXINT

@@ -1,8 +1,7 @@
 use Rattle.std.proofs.Common.{◌∙◌}
-use Rattle.pas_lexer.specs.declared.kinds.TokenKind.TheVariants.{Word}
-use Rattle.pas_lexer.specs.declared.kinds.Word.TheVariants.{WAnd}
 use Rattle.pas_lexer.proofs.SpellingsInOrder.{spelled_next}
 use Rattle.pas_lexer.proofs.spellings.spell.Goals as goal
+use Rattle.pas_lexer.specs.declared.kinds.{TokenKind.TheVariants.Word, Word.TheVariants.WAnd}
 
 pub tokens-preserved : goal.tokens-preserved
 tokens-preserved c =

@@ -1,8 +1,7 @@
 use Rattle.std.proofs.Common.{◌≡◌, true}
-use Rattle.pas_lexer.specs.declared.kinds.Word.TheVariants.{WAnd}
-use Rattle.pas_lexer.specs.Lexis.{lower_case}
-use Rattle.pas_lexer.proofs.LongestInTable.{spelled, respelled, word_here, word_later}
+use Rattle.pas_lexer.proofs.LongestInTable.{respelled, spelled, word_here, word_later}
 use Rattle.pas_lexer.proofs.words.first_spelled.Goals as goal
+use Rattle.pas_lexer.specs.{Lexis.lower_case, declared.kinds.Word.TheVariants.WAnd}
 
 pub returns-then-eq_ignore_ascii_case : goal.returns-then-eq_ignore_ascii_case
 returns-then-eq_ignore_ascii_case c =

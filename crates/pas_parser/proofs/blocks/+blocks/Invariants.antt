@@ -1,11 +1,7 @@
-use Rattle.std.proofs.Common.{◌≤◌, ◌+◌, length, ◌-◌, ◌*◌}
-use Rattle.grammar.specs.Grammars.{many}
-use Rattle.grammar.specs.Reading.{read}
-use Rattle.pas_tree.specs.FirstFollow.{pascal}
-use Rattle.pas_tree.specs.Blocks.{routine_node}
-use Rattle.pas_tree.specs.Rules.{heading_starts, routine_rule}
-use Rattle.pas_phrases.specs.Items.{items_from}
-use Rattle.pas_phrases.proofs.ReadLists.{ListSoFar}
+use Rattle.std.proofs.Common.{◌*◌, ◌+◌, ◌-◌, ◌≤◌, length}
+use Rattle.grammar.specs.{Grammars.many, Reading.read}
+use Rattle.pas_tree.specs.{Blocks.routine_node, FirstFollow.pascal, Rules.heading_starts, Rules.routine_rule}
+use Rattle.pas_phrases.{proofs.ReadLists.ListSoFar, specs.Items.items_from}
 use Rattle.pas_parser.proofs.blocks.+blocks.Given as goal
 
 abbrev pub invariant-read_routines-routines : goal.invariant-read_routines-routines

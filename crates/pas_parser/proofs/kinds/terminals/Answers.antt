@@ -1,8 +1,8 @@
-use Rattle.std.proofs.Common.{◌∙◌, sym, ap, arith, take, List, ◌++◌, ◌∷◌, []}
+use Rattle.std.proofs.Common.{◌++◌, ◌∙◌, ◌∷◌, [], List, ap, arith, sym, take}
 use Rattle.grammar.specs.declared.terminals.Terminal.{Terminal}
-use Rattle.pas_parser.specs.Kinds.{terminals_of}
 use Rattle.pas_parser.proofs.TerminalsOfTokens.{one_more}
 use Rattle.pas_parser.proofs.kinds.terminals.Goals as goal
+use Rattle.pas_parser.specs.Kinds.{terminals_of}
 
 pub tokens-preserved : goal.tokens-preserved
 tokens-preserved c = record {

@@ -1,6 +1,6 @@
-use Rattle.std.proofs.Common.{◌≡◌, ◌≤◌, ◌-◌, take, length}
-use Rattle.pas_parser.specs.Kinds.{terminals_of}
+use Rattle.std.proofs.Common.{◌-◌, ◌≡◌, ◌≤◌, length, take}
 use Rattle.pas_parser.proofs.kinds.terminals.Given as goal
+use Rattle.pas_parser.specs.Kinds.{terminals_of}
 
 abbrev pub invariant-tokens : goal.invariant-tokens
 invariant-tokens l = record {

@@ -1,7 +1,5 @@
 use Rattle.grammar.proofs.Texts.{one_tree}
-use Rattle.pas_tree.specs.Rules.{program_rule}
-use Rattle.pas_tree.specs.FirstFollow.{pascal}
-use Rattle.pas_tree.proofs.Decided.{pascal_decided}
+use Rattle.pas_tree.{proofs.Decided.pascal_decided, specs.FirstFollow.pascal, specs.Rules.program_rule}
 use Rattle.pas_parser.proofs.laws.one_formed_tree.Goals as goal
 
 pub returns : goal.returns

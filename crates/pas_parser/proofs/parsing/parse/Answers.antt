@@ -1,9 +1,9 @@
-use Rattle.std.proofs.Common.{◌<◌, ◌≤◌, length, arith, ap}
+use Rattle.std.proofs.Common.{◌<◌, ◌≤◌, ap, arith, length}
 use Rattle.std.proofs.lemmas.Result.{err_from_is_err_and}
-use Rattle.pas_parser.specs.Kinds.{terminals_of}
-use Rattle.pas_parser.proofs.FirstRefusedToken.{exactly_there, exactly_after, exactly_none}
-use Rattle.pas_parser.proofs.WholePrograms.{failed_there, read_there, refused_there, not_that, that, whole, too_long, not_that_either}
+use Rattle.pas_parser.proofs.FirstRefusedToken.{exactly_after, exactly_none, exactly_there}
+use Rattle.pas_parser.proofs.WholePrograms.{failed_there, not_that, not_that_either, read_there, refused_there, that, too_long, whole}
 use Rattle.pas_parser.proofs.parsing.parse.Goals as goal
+use Rattle.pas_parser.specs.Kinds.{terminals_of}
 
 pub returns-in_err-tree-clause-only : goal.returns-in_err-tree-clause-only
 returns-in_err-tree-clause-only c =

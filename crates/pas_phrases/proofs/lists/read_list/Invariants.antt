@@ -1,10 +1,9 @@
-use Rattle.std.proofs.Common.{◌≤◌, length, ◌-◌}
-use Rattle.grammar.specs.Grammars.{many}
-use Rattle.grammar.specs.Reading.{read}
+use Rattle.std.proofs.Common.{◌-◌, ◌≤◌, length}
+use Rattle.grammar.specs.{Grammars.many, Reading.read}
 use Rattle.pas_tree.specs.FirstFollow.{pascal}
-use Rattle.pas_phrases.specs.Items.{items_from}
 use Rattle.pas_phrases.proofs.ReadLists.{ListSoFar}
 use Rattle.pas_phrases.proofs.lists.read_list.Given as goal
+use Rattle.pas_phrases.specs.Items.{items_from}
 
 abbrev pub invariant-parts : goal.invariant-parts
 invariant-parts g l = record {

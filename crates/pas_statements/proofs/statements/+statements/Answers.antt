@@ -1,11 +1,10 @@
-use Rattle.std.proofs.Common.{refl, arith}
+use Rattle.std.proofs.Common.{arith, refl}
 use Rattle.pas_tree.specs.Rules.{next_statement_rule}
-use Rattle.pas_phrases.proofs.Failures.{handed_on}
-use Rattle.pas_phrases.proofs.ReadLists.{level_more, token_fails, level_fails, list_read}
-use Rattle.pas_phrases.proofs.ReadSeries.{series_pair_more, series_token_fails, series_pair_fails, series_end_fails, series_read}
-use Rattle.pas_statements.specs.Closers.{closer_of}
-use Rattle.pas_statements.proofs.StatementLists.{next_statement_repeats, first_statement_fails, other_statements_fail, statements_read, branches}
+use Rattle.pas_phrases.proofs.{Failures.handed_on, ReadLists.level_fails, ReadLists.level_more, ReadLists.list_read, ReadLists.token_fails}
+use Rattle.pas_phrases.proofs.ReadSeries.{series_end_fails, series_pair_fails, series_pair_more, series_read, series_token_fails}
+use Rattle.pas_statements.proofs.StatementLists.{branches, first_statement_fails, next_statement_repeats, other_statements_fail, statements_read}
 use Rattle.pas_statements.proofs.statements.+statements.Goals as goal
+use Rattle.pas_statements.specs.Closers.{closer_of}
 
 pub read_statements-returns-in_err-first-clause-gives : goal.read_statements-returns-in_err-first-clause-gives
 read_statements-returns-in_err-first-clause-gives t c =

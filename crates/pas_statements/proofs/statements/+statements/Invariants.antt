@@ -1,16 +1,12 @@
-use Rattle.std.proofs.Common.{◌≤◌, ◌+◌, ◌∷◌, [], length, ◌-◌, ◌*◌}
+use Rattle.std.proofs.Common.{◌*◌, ◌+◌, ◌-◌, ◌∷◌, ◌≤◌, [], length}
+use Rattle.grammar.specs.{Grammars.many, Grammars.nothing, Grammars.series, Reading.read}
 use Rattle.grammar.specs.declared.terminals.Terminal.TheVariants as k
-use Rattle.grammar.specs.Grammars.{many, nothing, series}
-use Rattle.grammar.specs.Reading.{read}
-use Rattle.pas_tree.specs.FirstFollow.{pascal}
-use Rattle.pas_tree.specs.Statements.{next_statement_node, branch_step}
-use Rattle.pas_tree.specs.Rules.{constant_starts, next_statement_rule, branch_rule}
-use Rattle.pas_phrases.specs.Items.{items_from}
-use Rattle.pas_phrases.proofs.ReadLists.{ListSoFar}
-use Rattle.pas_phrases.proofs.ReadSeries.{SeriesSoFar}
-use Rattle.pas_statements.specs.Closers.{closer_of}
+use Rattle.pas_tree.specs.{FirstFollow.pascal, Statements.branch_step, Statements.next_statement_node}
+use Rattle.pas_tree.specs.Rules.{branch_rule, constant_starts, next_statement_rule}
+use Rattle.pas_phrases.{proofs.ReadLists.ListSoFar, proofs.ReadSeries.SeriesSoFar, specs.Items.items_from}
 use Rattle.pas_statements.proofs.StatementLists.{branches}
 use Rattle.pas_statements.proofs.statements.+statements.Given as goal
+use Rattle.pas_statements.specs.Closers.{closer_of}
 
 abbrev pub invariant-read_statements-statements : goal.invariant-read_statements-statements
 invariant-read_statements-statements l = record {

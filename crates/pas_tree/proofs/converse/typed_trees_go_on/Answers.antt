@@ -1,4 +1,4 @@
-use Rattle.pas_tree.proofs.TreesGoOn.{trees_go_on, hopeless_for_trees, too_deep_for_trees}
+use Rattle.pas_tree.proofs.TreesGoOn.{hopeless_for_trees, too_deep_for_trees, trees_go_on}
 use Rattle.pas_tree.proofs.converse.typed_trees_go_on.Goals as goal
 
 pub returns-clause-goes : goal.returns-clause-goes

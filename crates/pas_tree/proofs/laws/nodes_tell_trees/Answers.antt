@@ -1,4 +1,4 @@
-use Rattle.pas_tree.proofs.TreesTold.{trees_told, text_told}
+use Rattle.pas_tree.proofs.TreesTold.{text_told, trees_told}
 use Rattle.pas_tree.proofs.laws.nodes_tell_trees.Goals as goal
 
 pub returns-clause-nodes : goal.returns-clause-nodes

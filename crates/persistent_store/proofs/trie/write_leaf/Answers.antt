@@ -1,4 +1,4 @@
-use Rattle.std.proofs.Common.{◌∙◌, ◌<◌, length, arith}
+use Rattle.std.proofs.Common.{◌<◌, ◌∙◌, arith, length}
 use Rattle.persistent_store.proofs.NodeLemmas.{written_cell}
 use Rattle.persistent_store.proofs.trie.write_leaf.Goals as goal
 

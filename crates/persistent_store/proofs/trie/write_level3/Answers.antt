@@ -1,7 +1,7 @@
-use Rattle.std.proofs.Common.{◌∙◌, arith, ◌/◌}
-use Rattle.persistent_store.specs.Nodes.{in_level2}
+use Rattle.std.proofs.Common.{◌/◌, ◌∙◌, arith}
 use Rattle.persistent_store.proofs.NodeLemmas.{on_err, restored, there_at, written_below}
 use Rattle.persistent_store.proofs.trie.write_level3.Goals as goal
+use Rattle.persistent_store.specs.Nodes.{in_level2}
 
 pub returns-in_err-write_level2-in-Some-clause-unchanged : goal.returns-in_err-write_level2-in-Some-clause-unchanged
 returns-in_err-write_level2-in-Some-clause-unchanged g c =

@@ -1,4 +1,4 @@
-use Rattle.std.proofs.Common.{◌≡◌, ◌*◌, ◌++◌, ◌≤◌, length, drop}
+use Rattle.std.proofs.Common.{◌*◌, ◌++◌, ◌≡◌, ◌≤◌, drop, length}
 use Rattle.core_program.specs.Run.{input_items}
 use Rattle.program_run.proofs.input.items_of.Given as goal
 

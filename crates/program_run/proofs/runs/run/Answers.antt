@@ -1,9 +1,8 @@
 use Rattle.std.proofs.Common.{subst}
 use Rattle.eval_ops.specs.Machines.{moment_of}
-use Rattle.program_run.specs.History.{first_state}
-use Rattle.program_run.specs.Tower.{IsOver}
 use Rattle.program_run.proofs.RunsAreRuns.{calls_are, log_is, output_is}
 use Rattle.program_run.proofs.runs.run.Goals as goal
+use Rattle.program_run.specs.{History.first_state, Tower.IsOver}
 
 pub run_items-requires-clause-block : goal.run_items-requires-clause-block
 run_items-requires-clause-block c = c.is_whole.ensures.whole.main

@@ -1,13 +1,10 @@
-use Rattle.std.specs.Prelude.{map, reverse}
-use Rattle.std.proofs.Common.{ap, ◌∙◌, ◌++◌, ◌∷◌, []}
+use Rattle.std.proofs.Common.{◌++◌, ◌∙◌, ◌∷◌, [], ap, map, reverse}
 use Rattle.cell_value.specs.declared.values.Value.TheVariants.{Nil}
 use Rattle.call_tree.specs.Recording.{nothing_entered}
 use Rattle.eval_ops.specs.Machines.{moment_of}
-use Rattle.program_run.specs.History.{first_state}
-use Rattle.program_run.specs.Tower.{View}
-use Rattle.program_run.specs.Runners.{open_in}
 use Rattle.program_run.proofs.RunsAreRuns.{starts}
 use Rattle.program_run.proofs.runs.run_items.Goals as goal
+use Rattle.program_run.specs.{History.first_state, Runners.open_in, Tower.View}
 
 pub enter-requires-clause-calls : goal.enter-requires-clause-calls
 enter-requires-clause-calls c =

@@ -1,9 +1,8 @@
-use Rattle.std.proofs.Common.{◌++◌, sym, ap, ◌∙◌, append-nil, arith}
-use Rattle.question_text.specs.Cards.{recorded_in}
-use Rattle.cell_names.specs.Finding.{finding_in}
-use Rattle.cell_names.specs.Places.{finds}
+use Rattle.std.proofs.Common.{◌++◌, ◌∙◌, ap, append-nil, arith, sym}
+use Rattle.cell_names.specs.{Finding.finding_in, Places.finds}
 use Rattle.question_text.proofs.CardsWhole.{card_is, no_card}
 use Rattle.question_text.proofs.cards.write_card.Goals as goal
+use Rattle.question_text.specs.Cards.{recorded_in}
 
 pub returns-then-number-len : goal.returns-then-number-len
 returns-then-number-len c =

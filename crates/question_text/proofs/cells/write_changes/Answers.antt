@@ -1,8 +1,8 @@
-use Rattle.std.proofs.Common.{◌++◌, ap, ◌∙◌}
+use Rattle.std.proofs.Common.{◌++◌, ◌∙◌, ap}
 use Rattle.cell_names.specs.Names.{scene_in}
-use Rattle.question_text.specs.Cells.{change_at_root, change_line}
 use Rattle.question_text.proofs.LinesInTurn.{line_on}
 use Rattle.question_text.proofs.cells.write_changes.Goals as goal
+use Rattle.question_text.specs.Cells.{change_at_root, change_line}
 
 pub changes-preserved : goal.changes-preserved
 changes-preserved c =

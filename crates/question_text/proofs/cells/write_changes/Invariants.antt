@@ -1,8 +1,7 @@
-use Rattle.std.proofs.Common.{◌≡◌, ◌++◌, drop}
-use Rattle.std.specs.Prelude.{flat_map}
+use Rattle.std.proofs.Common.{◌++◌, ◌≡◌, drop, flat_map}
 use Rattle.cell_names.specs.Names.{scene_in}
-use Rattle.question_text.specs.Cells.{change_line}
 use Rattle.question_text.proofs.cells.write_changes.Given as goal
+use Rattle.question_text.specs.Cells.{change_line}
 
 abbrev pub invariant-changes : goal.invariant-changes
 invariant-changes l =

@@ -1,8 +1,8 @@
-use Rattle.std.proofs.Common.{◌++◌, ap, ◌∙◌, arith}
+use Rattle.std.proofs.Common.{◌++◌, ◌∙◌, ap, arith}
 use Rattle.cell_names.specs.Names.{scene_in}
-use Rattle.question_text.specs.Cells.{parameter_line}
 use Rattle.question_text.proofs.LinesInTurn.{parameter_on, parameters_end}
 use Rattle.question_text.proofs.cells.write_parameters.Goals as goal
+use Rattle.question_text.specs.Cells.{parameter_line}
 
 pub places-preserved : goal.places-preserved
 places-preserved c =

@@ -1,7 +1,7 @@
-use Rattle.std.proofs.Common.{◌≡◌, ◌++◌, drop}
+use Rattle.std.proofs.Common.{◌++◌, ◌≡◌, drop}
 use Rattle.cell_names.specs.Names.{scene_in}
-use Rattle.question_text.specs.Cells.{parameters_text}
 use Rattle.question_text.proofs.cells.write_parameters.Given as goal
+use Rattle.question_text.specs.Cells.{parameters_text}
 
 abbrev pub invariant-places : goal.invariant-places
 invariant-places l =

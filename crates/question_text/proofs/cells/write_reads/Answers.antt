@@ -1,8 +1,8 @@
-use Rattle.std.proofs.Common.{◌++◌, ap, ◌∙◌}
+use Rattle.std.proofs.Common.{◌++◌, ◌∙◌, ap}
 use Rattle.cell_names.specs.Names.{scene_in}
-use Rattle.question_text.specs.Cells.{seen_at_root, seen_line}
 use Rattle.question_text.proofs.LinesInTurn.{line_on}
 use Rattle.question_text.proofs.cells.write_reads.Goals as goal
+use Rattle.question_text.specs.Cells.{seen_at_root, seen_line}
 
 pub reads-preserved : goal.reads-preserved
 reads-preserved c =

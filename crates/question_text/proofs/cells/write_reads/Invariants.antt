@@ -1,8 +1,7 @@
-use Rattle.std.proofs.Common.{◌≡◌, ◌++◌, drop}
-use Rattle.std.specs.Prelude.{flat_map}
+use Rattle.std.proofs.Common.{◌++◌, ◌≡◌, drop, flat_map}
 use Rattle.cell_names.specs.Names.{scene_in}
-use Rattle.question_text.specs.Cells.{seen_line}
 use Rattle.question_text.proofs.cells.write_reads.Given as goal
+use Rattle.question_text.specs.Cells.{seen_line}
 
 abbrev pub invariant-reads : goal.invariant-reads
 invariant-reads l =

@@ -1,6 +1,6 @@
-use Rattle.std.proofs.Common.{◌≡◌, ◌++◌, length, reverse, Some}
-use Rattle.question_text.specs.Frames.{opened_from}
+use Rattle.std.proofs.Common.{◌++◌, ◌≡◌, Some, length, reverse}
 use Rattle.question_text.proofs.opened.frames_outward.Given as goal
+use Rattle.question_text.specs.Frames.{opened_from}
 
 abbrev pub decreases-rows : goal.decreases-rows
 decreases-rows l = l.outward.most

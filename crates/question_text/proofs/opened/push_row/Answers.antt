@@ -1,7 +1,7 @@
-use Rattle.std.proofs.Common.{◌≡◌, ◌-◌, ◌++◌, reverse, Some, subst, arith}
-use Rattle.question_text.specs.Frames.{opened_from}
+use Rattle.std.proofs.Common.{◌++◌, ◌-◌, ◌≡◌, Some, arith, reverse, subst}
 use Rattle.question_text.proofs.FramesOutward.{row_on}
 use Rattle.question_text.proofs.opened.push_row.Goals as goal
+use Rattle.question_text.specs.Frames.{opened_from}
 
 pub returns-else-is_call-clause-added : goal.returns-else-is_call-clause-added
 returns-else-is_call-clause-added c =

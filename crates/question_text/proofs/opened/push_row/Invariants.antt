@@ -1,6 +1,6 @@
-use Rattle.std.proofs.Common.{◌≡◌, ◌≤◌, ◌++◌, reverse, Some}
-use Rattle.question_text.specs.Frames.{opened_from}
+use Rattle.std.proofs.Common.{◌++◌, ◌≡◌, ◌≤◌, Some, reverse}
 use Rattle.question_text.proofs.opened.push_row.Given as goal
+use Rattle.question_text.specs.Frames.{opened_from}
 
 abbrev pub decreases-calls : goal.decreases-calls
 decreases-calls l = l.left

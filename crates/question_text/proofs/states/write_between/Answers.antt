@@ -1,7 +1,7 @@
-use Rattle.std.proofs.Common.{◌≡◌, ◌+◌, ◌≤◌, ◌||◌, arith}
+use Rattle.std.proofs.Common.{◌+◌, ◌||◌, ◌≡◌, ◌≤◌, arith}
 use Rattle.cell_names.specs.Names.{scene_in}
 use Rattle.question_text.proofs.CellsInTurn.{after_passed, cell_counted, cells_end, counted_passed, line_written, lines_end, or_by_first, or_by_second}
-use Rattle.question_text.proofs.states.write_between.Goals.{then-some, else-some}
+use Rattle.question_text.proofs.states.write_between.Goals.{else-some, then-some}
 use Rattle.question_text.proofs.states.write_between.Goals as goal
 
 pub addresses-preserved : goal.addresses-preserved

@@ -1,7 +1,7 @@
-use Rattle.std.proofs.Common.{◌≡◌, ◌++◌, ◌||◌, ◌-◌}
+use Rattle.std.proofs.Common.{◌++◌, ◌-◌, ◌||◌, ◌≡◌}
 use Rattle.cell_names.specs.Names.{scene_in}
-use Rattle.question_text.specs.States.{is_between, lines_between}
 use Rattle.question_text.proofs.states.write_between.Given as goal
+use Rattle.question_text.specs.States.{is_between, lines_between}
 
 abbrev pub decreases-addresses : goal.decreases-addresses
 decreases-addresses l = l.to - l.address

@@ -1,9 +1,8 @@
-use Rattle.std.proofs.Common.{◌++◌, sym, ap, ◌∙◌, append-nil, arith}
-use Rattle.question_text.specs.Cards.{recorded_in}
-use Rattle.cell_names.specs.Finding.{finding_in}
-use Rattle.cell_names.specs.Places.{finds}
+use Rattle.std.proofs.Common.{◌++◌, ◌∙◌, ap, append-nil, arith, sym}
+use Rattle.cell_names.specs.{Finding.finding_in, Places.finds}
 use Rattle.question_text.proofs.StatesWhole.{IsSceneOf, has_cell_is, no_cell_there, no_state, state_is}
 use Rattle.question_text.proofs.states.write_cells.Goals as goal
+use Rattle.question_text.specs.Cards.{recorded_in}
 
 pub returns-then-number-len-clause-lines : goal.returns-then-number-len-clause-lines
 returns-then-number-len-clause-lines c =

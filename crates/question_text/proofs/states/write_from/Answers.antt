@@ -1,9 +1,8 @@
-use Rattle.std.proofs.Common.{◌++◌, append-nil, ap, sym, ◌∙◌}
-use Rattle.std.specs.Prelude.{is_some}
+use Rattle.std.proofs.Common.{◌++◌, ◌∙◌, ap, append-nil, is_some, sym}
 use Rattle.cell_names.specs.Names.{scene_in}
-use Rattle.question_text.specs.States.{line_by, sides_at}
 use Rattle.question_text.proofs.CellsInTurn.{unnamed_here}
 use Rattle.question_text.proofs.states.write_from.Goals as goal
+use Rattle.question_text.specs.States.{line_by, sides_at}
 
 pub returns-in-Unnamed-clause-line : goal.returns-in-Unnamed-clause-line
 returns-in-Unnamed-clause-line c =

@@ -1,7 +1,6 @@
-use Rattle.question_text.specs.Cards.{recorded_in}
-use Rattle.question_text.specs.Traces.{event_line}
 use Rattle.question_text.proofs.LinesInTurn.{line_on}
 use Rattle.question_text.proofs.traces.write_events.Goals as goal
+use Rattle.question_text.specs.{Cards.recorded_in, Traces.event_line}
 
 pub events-preserved : goal.events-preserved
 events-preserved c =

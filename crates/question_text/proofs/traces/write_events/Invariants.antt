@@ -1,8 +1,6 @@
-use Rattle.std.proofs.Common.{◌≡◌, ◌++◌, drop}
-use Rattle.std.specs.Prelude.{flat_map}
-use Rattle.question_text.specs.Cards.{recorded_in}
-use Rattle.question_text.specs.Traces.{event_line}
+use Rattle.std.proofs.Common.{◌++◌, ◌≡◌, drop, flat_map}
 use Rattle.question_text.proofs.traces.write_events.Given as goal
+use Rattle.question_text.specs.{Cards.recorded_in, Traces.event_line}
 
 abbrev pub invariant-events : goal.invariant-events
 invariant-events l =

@@ -1,7 +1,7 @@
-use Rattle.std.proofs.Common.{◌<◌, ◌≤◌, length, arith}
-use Rattle.question_text.specs.Trees.{tree_text}
+use Rattle.std.proofs.Common.{◌<◌, ◌≤◌, arith, length}
 use Rattle.question_text.proofs.LinesInTurn.{tree_end, tree_on}
 use Rattle.question_text.proofs.trees.write_tree_lines.Goals as goal
+use Rattle.question_text.specs.Trees.{tree_text}
 
 pub calls-preserved : goal.calls-preserved
 calls-preserved c =

@@ -1,6 +1,6 @@
-use Rattle.std.proofs.Common.{◌≡◌, ◌++◌, drop}
-use Rattle.question_text.specs.Trees.{tree_from}
+use Rattle.std.proofs.Common.{◌++◌, ◌≡◌, drop}
 use Rattle.question_text.proofs.trees.write_tree_lines.Given as goal
+use Rattle.question_text.specs.Trees.{tree_from}
 
 abbrev pub invariant-calls : goal.invariant-calls
 invariant-calls l =

@@ -1,4 +1,4 @@
-use Rattle.std.proofs.Common.{◌<◌, ◌≤◌, length, sym, ◌∙◌, arith}
+use Rattle.std.proofs.Common.{◌<◌, ◌∙◌, ◌≤◌, arith, length, sym}
 use Rattle.question_text.proofs.FramesOutward.{at_first, it_is_further, it_is_here, none_left, none_there}
 use Rattle.question_text.proofs.ways_out.call_of_frame.Goals as goal
 

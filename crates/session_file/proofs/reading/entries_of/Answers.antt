@@ -1,12 +1,9 @@
-use Rattle.std.proofs.Common.{◌∙◌, inr, map, sym, ap, arith}
-use Rattle.std.proofs.lemmas.List.{take_all}
-use Rattle.std.specs.Option.{ok_or}
+use Rattle.std.proofs.Common.{◌∙◌, ap, arith, inr, map, sym}
+use Rattle.std.{proofs.lemmas.List.take_all, specs.Option.ok_or}
 use Rattle.serde_json.specs.View.{view}
-use Rattle.session_file.specs.declared.session.LoadFault.TheVariants.{BadShape}
-use Rattle.session_file.specs.declared.session.SessionField.TheVariants.{Entries}
-use Rattle.session_file.specs.Reading.{entry_in}
 use Rattle.session_file.proofs.EntryLists.{all_read}
 use Rattle.session_file.proofs.reading.entries_of.Goals as goal
+use Rattle.session_file.specs.{Reading.entry_in, declared.session.LoadFault.TheVariants.BadShape, declared.session.SessionField.TheVariants.Entries}
 
 pub returns : goal.returns
 returns c =

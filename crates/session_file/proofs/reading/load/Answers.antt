@@ -1,6 +1,5 @@
-use Rattle.std.proofs.Common.{◌∙◌, inr, true≢false, sym}
-use Rattle.session_file.proofs.LoadedIsWhole.{loaded_whole}
-use Rattle.session_file.proofs.Loading.{is_json, no_json}
+use Rattle.std.proofs.Common.{◌∙◌, inr, sym, true≢false}
+use Rattle.session_file.proofs.{LoadedIsWhole.loaded_whole, Loading.is_json, Loading.no_json}
 use Rattle.session_file.proofs.reading.load.Goals as goal
 
 pub returns-in-Ok-clause-answer : goal.returns-in-Ok-clause-answer

@@ -1,5 +1,4 @@
-use Rattle.std.proofs.Common.{◌≡◌, ◌<◌, length, arith}
-use Rattle.std.proofs.lemmas.Bool.Decides.{nat_tests}
+use Rattle.std.proofs.{Common.◌<◌, Common.◌≡◌, Common.arith, Common.length, lemmas.Bool.Decides.nat_tests}
 use Rattle.check_steps.specs.Regions.{region_at}
 use Rattle.statement_checker.proofs.Inside.{around-inside}
 use Rattle.statement_checker.proofs.assignments.is_region_around.Goals as goal

@@ -1,7 +1,7 @@
 use Rattle.std.proofs.Common.{◌≡◌, drop}
-use Rattle.check_steps.specs.Steps.{run_step, each}
-use Rattle.statement_checker.specs.Labels.{on_next, reach_label}
+use Rattle.check_steps.specs.Steps.{each, run_step}
 use Rattle.statement_checker.proofs.labels.reach_others.Given as goal
+use Rattle.statement_checker.specs.Labels.{on_next, reach_label}
 
 abbrev pub invariant-others : goal.invariant-others
 invariant-others l = run_step (each (on_next (reach_label l.frame)) tt (drop l.other-index l.others)) l.work

@@ -1,7 +1,7 @@
 use Rattle.std.proofs.Common.{◌≡◌, drop}
-use Rattle.check_steps.specs.Steps.{run_step, each}
-use Rattle.statement_checker.specs.Parts.{next_passed}
+use Rattle.check_steps.specs.Steps.{each, run_step}
 use Rattle.statement_checker.proofs.parts.check_more_passed.Given as goal
+use Rattle.statement_checker.specs.Parts.{next_passed}
 
 abbrev pub invariant-others : goal.invariant-others
 invariant-others l =

@@ -1,7 +1,7 @@
 use Rattle.std.proofs.Common.{◌≡◌, drop}
-use Rattle.check_steps.specs.Steps.{run_step, each}
-use Rattle.statement_checker.specs.Statements.{next_branch, next_statement}
+use Rattle.check_steps.specs.Steps.{each, run_step}
 use Rattle.statement_checker.proofs.statements.+statements.Given as goal
+use Rattle.statement_checker.specs.Statements.{next_branch, next_statement}
 
 abbrev pub invariant-check_more_statements-others : goal.invariant-check_more_statements-others
 invariant-check_more_statements-others l =

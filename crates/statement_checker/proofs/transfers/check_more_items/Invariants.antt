@@ -1,7 +1,7 @@
 use Rattle.std.proofs.Common.{◌≡◌, drop}
-use Rattle.check_steps.specs.Steps.{run_step, each}
-use Rattle.statement_checker.specs.Transfers.{next_item}
+use Rattle.check_steps.specs.Steps.{each, run_step}
 use Rattle.statement_checker.proofs.transfers.check_more_items.Given as goal
+use Rattle.statement_checker.specs.Transfers.{next_item}
 
 abbrev pub invariant-others : goal.invariant-others
 invariant-others l =

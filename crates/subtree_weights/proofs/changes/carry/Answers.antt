@@ -1,7 +1,7 @@
-use Rattle.std.proofs.Common.{ap, sym, arith}
-use Rattle.subtree_weights.specs.declared.changes.Change.{Change}
+use Rattle.std.proofs.Common.{ap, arith, sym}
 use Rattle.subtree_weights.proofs.CarriedUp.{a_part, carried_on, carried_to_the_end, goes_on, room}
 use Rattle.subtree_weights.proofs.changes.carry.Goals as goal
+use Rattle.subtree_weights.specs.declared.changes.Change.{Change}
 
 pub lift-change-requires-clause-a_part : goal.lift-change-requires-clause-a_part
 lift-change-requires-clause-a_part g c =

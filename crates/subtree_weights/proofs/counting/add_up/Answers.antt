@@ -1,4 +1,4 @@
-use Rattle.std.proofs.Common.{◌≡◌, ◌+◌, ◌-◌, arith}
+use Rattle.std.proofs.Common.{◌+◌, ◌-◌, ◌≡◌, arith}
 use Rattle.subtree_weights.proofs.CountedDown.{counted_all, counted_at, counted_more, counted_none, raise_fits, raise_inside, weight_room}
 use Rattle.subtree_weights.proofs.counting.add_up.Goals as goal
 

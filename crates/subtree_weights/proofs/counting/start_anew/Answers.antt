@@ -1,5 +1,4 @@
-use Rattle.std.proofs.Common.{◌≡◌, length, arith}
-use Rattle.std.proofs.lemmas.List.{same_lists}
+use Rattle.std.proofs.{Common.◌≡◌, Common.arith, Common.length, lemmas.List.same_lists}
 use Rattle.subtree_weights.proofs.counting.start_anew.Goals as goal
 
 pub returns-clause-marks : goal.returns-clause-marks

@@ -1,4 +1,4 @@
-use Rattle.std.proofs.Common.{◌≡◌, ◌<◌, ◌+◌, ℕ, get_or}
+use Rattle.std.proofs.Common.{◌+◌, ◌<◌, ◌≡◌, ℕ, get_or}
 use Rattle.call_tree.specs.declared.records.Mark.{Mark}
 use Rattle.subtree_weights.proofs.counting.start_anew.Given as goal
 

@@ -1,9 +1,6 @@
-use Rattle.std.proofs.Common.{◌≡◌, ℕ, ◌+◌, ◌∷◌, [], ◌++◌, List, Option, take, Some, ap, sym, ◌∙◌, arith}
-use Rattle.std.specs.Prelude.{slice_get}
-use Rattle.std.proofs.lemmas.List.{get_or-map, length-map, take_more}
-use Rattle.std.proofs.lemmas.Option.{get_or_from_slice_get, slice_get_within}
-use Rattle.call_tree.specs.declared.records.Call.{Call}
-use Rattle.call_tree.specs.Recording.{parents_of}
+use Rattle.std.proofs.Common.{◌++◌, ◌+◌, ◌∙◌, ◌∷◌, ◌≡◌, [], ℕ, List, Option, Some, ap, arith, slice_get, sym, take}
+use Rattle.std.proofs.lemmas.{List.get_or-map, List.length-map, List.take_more, Option.get_or_from_slice_get, Option.slice_get_within}
+use Rattle.call_tree.specs.{Recording.parents_of, declared.records.Call.Call}
 use Rattle.subtree_weights.proofs.weights.parent_column.Goals as goal
 
 parents_more : (calls : List Call) (i : ℕ) (call : Call) → slice_get calls i ≡ Some call

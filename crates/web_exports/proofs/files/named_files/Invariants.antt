@@ -1,7 +1,7 @@
 use Rattle.std.proofs.Common.{◌≡◌, [], drop, map}
 use Rattle.web_page.specs.Turns.{file_given}
-use Rattle.web_exports.specs.Files.{files_in}
 use Rattle.web_exports.proofs.files.named_files.Given as goal
+use Rattle.web_exports.specs.Files.{files_in}
 
 -- the files so far, and those that are left, are all of them
 abbrev pub invariant-loop-sizes : goal.invariant-loop-sizes

@@ -1,17 +1,12 @@
-use Rattle.std.proofs.Common.{◌∙◌, ap, arith, inl, refl, rules, subst, codes, Some, []}
+use Rattle.std.proofs.Common.{◌∙◌, [], Some, ap, arith, codes, inl, refl, rules, subst}
 use Rattle.edge_ports.specs.Files.{FileMap, file_at}
 use Rattle.ask_session.specs.Console.{EndsInTime, GoesOn}
-use Rattle.debug_cli.specs.Named.{Words, meaning}
-use Rattle.debug_cli.specs.Setting.{InFiles}
-use Rattle.debug_cli.specs.declared.status.Status.TheVariants as statuses
-use Rattle.web_page.specs.Outcomes.{IsGivenBack}
-use Rattle.web_page.specs.Given.{turn_files}
-use Rattle.web_page.specs.Outside.{files_at_start}
-use Rattle.web_page.specs.Promises.{telling_of_turn, transcript_of_turn}
-use Rattle.web_page.specs.Turns.{given_by}
+use Rattle.debug_cli.specs.{Named.Words, Named.meaning, Setting.InFiles, declared.status.Status.Status}
 use Rattle.web_page.proofs.ClausesAreCarried.{all_are_stored, console_is_calm, ends, first_part, goes_on, headline, is_turn, no_fetch_failed, refused}
 use Rattle.web_page.proofs.ClausesAreCarried.{unless_full}
 use Rattle.web_page.proofs.take.take_turn.Goals as goal
+use Rattle.web_page.specs.{Given.turn_files, Outcomes.IsGivenBack, Outside.files_at_start, Turns.given_by}
+use Rattle.web_page.specs.Promises.{telling_of_turn, transcript_of_turn}
 
 pub returns-in-Ok-clause-headline : goal.returns-in-Ok-clause-headline
 returns-in-Ok-clause-headline c =
@@ -47,7 +42,7 @@ returns-in-Ok-clause-done c = λ can fits in_time. unless_full c.new-page.ensure
     })
     (given_by c.args.turn.now) (ap (λ (it : Words). meaning it) c.deref.ensures.value ∙ c.in-Ok.ensures.meaning)
     c.in-Ok.ensures.files c.new-console.ensures refl refl) EndsInTime
-    (λ r t means fit end still. c.ask_pascal-status.ensures.complete (InFiles r means t) statuses.Done (fit, end)
+    (λ r t means fit end still. c.ask_pascal-status.ensures.complete (InFiles r means t) Status.Done (fit, end)
     (no_fetch_failed c.in-Ok.files c.ask_pascal-status.new.keeper, console_is_calm, still))
     can fits in_time calm)
 
@@ -62,7 +57,7 @@ returns-in-Ok-clause-spent c = λ can fits too_long. unless_full c.new-page.ensu
     })
     (given_by c.args.turn.now) (ap (λ (it : Words). meaning it) c.deref.ensures.value ∙ c.in-Ok.ensures.meaning)
     c.in-Ok.ensures.files c.new-console.ensures refl refl) GoesOn
-    (λ r t means fit end still. c.ask_pascal-status.ensures.complete (InFiles r means t) statuses.Spent (fit, end)
+    (λ r t means fit end still. c.ask_pascal-status.ensures.complete (InFiles r means t) Status.Spent (fit, end)
     (no_fetch_failed c.in-Ok.files c.ask_pascal-status.new.keeper, console_is_calm, still))
     can fits too_long calm)
 
@@ -106,7 +101,7 @@ returns-in-Err-clause-prefix c = λ can. (
 
 pub returns-in-Err-clause-goes : goal.returns-in-Err-clause-goes
 returns-in-Err-clause-goes c = (
-  statuses.Memory,
+  Status.Memory,
   refl,
   files_at_start (given_by c.args.turn.now),
   tt,

@@ -1,6 +1,4 @@
-use Rattle.std.proofs.Common.{suc, arith}
-use Rattle.std.proofs.Math.Nat.{two-pow-succ}
-use Rattle.std.proofs.lemmas.Nat.Bits.{bit_at_above}
+use Rattle.std.proofs.{Common.arith, Common.suc, Math.Nat.two-pow-succ, lemmas.Nat.Bits.bit_at_above}
 use Rattle.weight_lanes.proofs.bits.highest.Goals as goal
 
 pub returns-clause-above : goal.returns-clause-above

@@ -1,5 +1,4 @@
-use Rattle.std.proofs.Common.{arith, w64}
-use Rattle.std.proofs.lemmas.Nat.Bits.{bit_at-trailing_zeros}
+use Rattle.std.proofs.{Common.arith, Common.w64, lemmas.Nat.Bits.bit_at-trailing_zeros}
 use Rattle.weight_lanes.proofs.bits.lowest.Goals as goal
 
 pub returns-clause-set : goal.returns-clause-set

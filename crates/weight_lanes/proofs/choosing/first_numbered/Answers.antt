@@ -1,7 +1,7 @@
-use Rattle.std.proofs.Common.{◌≡◌, ℕ, ◌+◌, refl, arith}
-use Rattle.weight_lanes.specs.Lanes.{lane_number}
-use Rattle.weight_lanes.proofs.MaskMarksPlaces.{NoneIn-join, none_marked, none_before}
+use Rattle.std.proofs.Common.{◌+◌, ◌≡◌, ℕ, arith, refl}
+use Rattle.weight_lanes.proofs.MaskMarksPlaces.{NoneIn-join, none_before, none_marked}
 use Rattle.weight_lanes.proofs.choosing.first_numbered.Goals as goal
+use Rattle.weight_lanes.specs.Lanes.{lane_number}
 
 pub returns-then-hits-ne0-clause-first : goal.returns-then-hits-ne0-clause-first
 returns-then-hits-ne0-clause-first c =

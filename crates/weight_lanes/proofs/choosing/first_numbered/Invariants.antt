@@ -1,6 +1,6 @@
-use Rattle.std.proofs.Common.{◌≡◌, ◌-◌, ◌≤◌, length}
-use Rattle.weight_lanes.specs.Lanes.{NoneIn, lane_number}
+use Rattle.std.proofs.Common.{◌-◌, ◌≡◌, ◌≤◌, length}
 use Rattle.weight_lanes.proofs.choosing.first_numbered.Given as goal
+use Rattle.weight_lanes.specs.Lanes.{NoneIn, lane_number}
 
 abbrev pub invariant-search : goal.invariant-search
 invariant-search l = record {

@@ -1,7 +1,7 @@
 use Rattle.std.proofs.Common.{arith}
-use Rattle.weight_lanes.specs.Lanes.{lane_number}
 use Rattle.weight_lanes.proofs.LeastBelowBound.{HasLeast-more, IsLeast-lanes}
 use Rattle.weight_lanes.proofs.choosing.least_number.Goals as goal
+use Rattle.weight_lanes.specs.Lanes.{lane_number}
 
 pub search-preserved : goal.search-preserved
 search-preserved c = record {

@@ -1,7 +1,7 @@
 use Rattle.std.proofs.Common.{◌-◌, ◌≤◌, length}
-use Rattle.weight_lanes.specs.Lanes.{lane_number}
 use Rattle.weight_lanes.proofs.LeastBelowBound.{HasLeast}
 use Rattle.weight_lanes.proofs.choosing.least_number.Given as goal
+use Rattle.weight_lanes.specs.Lanes.{lane_number}
 
 abbrev pub invariant-search : goal.invariant-search
 invariant-search l = record {

@@ -1,6 +1,6 @@
-use Rattle.weight_lanes.specs.Lanes.{lane_number}
 use Rattle.weight_lanes.proofs.LeastBelowBound.{IsLeast-more}
 use Rattle.weight_lanes.proofs.choosing.least_of_rest.Goals as goal
+use Rattle.weight_lanes.specs.Lanes.{lane_number}
 
 pub loop-place-preserved : goal.loop-place-preserved
 loop-place-preserved c =

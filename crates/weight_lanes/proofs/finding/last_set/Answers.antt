@@ -1,7 +1,7 @@
-use Rattle.std.proofs.Common.{◌≢◌, ℕ, ◌+◌, ◌-◌, length, get_or, arith, ⊎_elim}
+use Rattle.std.proofs.Common.{◌+◌, ◌-◌, ◌≢◌, ℕ, ⊎_elim, arith, get_or, length}
 use Rattle.std.proofs.lemmas.Bool.{cases_lt}
-use Rattle.weight_lanes.proofs.LastPartIsZero.{none_set, greatest_set}
-use Rattle.weight_lanes.proofs.MaskMarksPlaces.{NoneIn-join, none_marked, none_after}
+use Rattle.weight_lanes.proofs.LastPartIsZero.{greatest_set, none_set}
+use Rattle.weight_lanes.proofs.MaskMarksPlaces.{NoneIn-join, none_after, none_marked}
 use Rattle.weight_lanes.proofs.finding.last_set.Goals as goal
 
 pub returns-then-hits-ne0-clause-greatest : goal.returns-then-hits-ne0-clause-greatest

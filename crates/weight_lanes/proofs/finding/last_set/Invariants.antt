@@ -1,6 +1,6 @@
-use Rattle.std.proofs.Common.{◌≢◌, ◌≤◌, length, get_or}
-use Rattle.weight_lanes.specs.Lanes.{NoneIn}
+use Rattle.std.proofs.Common.{◌≢◌, ◌≤◌, get_or, length}
 use Rattle.weight_lanes.proofs.finding.last_set.Given as goal
+use Rattle.weight_lanes.specs.Lanes.{NoneIn}
 
 abbrev pub invariant-search : goal.invariant-search
 invariant-search l = record {

@@ -1,6 +1,6 @@
-use Rattle.std.proofs.Common.{◌≡◌, ℕ, ◌+◌, get_or, refl, arith, ⊎_elim}
+use Rattle.std.proofs.Common.{◌+◌, ◌≡◌, ℕ, ⊎_elim, arith, get_or, refl}
 use Rattle.std.proofs.lemmas.Bool.{cases_lt}
-use Rattle.weight_lanes.proofs.MaskMarksPlaces.{NoneIn-join, none_marked, none_before}
+use Rattle.weight_lanes.proofs.MaskMarksPlaces.{NoneIn-join, none_before, none_marked}
 use Rattle.weight_lanes.proofs.finding.next_of.Goals as goal
 
 pub returns-then-hits-ne0-clause-least : goal.returns-then-hits-ne0-clause-least

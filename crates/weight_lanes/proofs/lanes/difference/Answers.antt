@@ -1,4 +1,4 @@
-use Rattle.std.proofs.Common.{◌+◌, ◌-◌, ◌%◌}
+use Rattle.std.proofs.Common.{◌%◌, ◌+◌, ◌-◌}
 use Rattle.weight_lanes.proofs.LanesOfOperations.{HasLanes-zip2}
 use Rattle.weight_lanes.proofs.lanes.difference.Goals as goal
 

@@ -1,10 +1,9 @@
-use Rattle.std.proofs.Common.{◌≡◌, ◌+◌, eqb, eq-eqb, get_or, sym, subst, ◌∙◌, arith, w32}
+use Rattle.std.proofs.Common.{◌+◌, ◌∙◌, ◌≡◌, arith, eq-eqb, eqb, get_or, subst, sym, w32}
+use Rattle.std.proofs.lemmas.{Bool.eqb-true, Simd.bitmask_splat, Simd.get_or-chunk, Simd.length-chunk}
 use Rattle.std.specs.Simd.Lanes.{chunk}
-use Rattle.std.proofs.lemmas.Bool.{eqb-true}
-use Rattle.std.proofs.lemmas.Simd.{length-chunk, get_or-chunk, bitmask_splat}
-use Rattle.weight_lanes.specs.Lanes.{MarksLanes}
 use Rattle.weight_lanes.proofs.MaskMarksPlaces.{Marks-mask_l}
 use Rattle.weight_lanes.proofs.lanes.equal_at.Goals as goal
+use Rattle.weight_lanes.specs.Lanes.{MarksLanes}
 
 pub returns : goal.returns
 returns c =

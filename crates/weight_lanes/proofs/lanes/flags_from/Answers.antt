@@ -1,5 +1,5 @@
-use Rattle.weight_lanes.proofs.LanesOfOperations.{HasLanes-chunk, HasLanes-same}
 use Rattle.std.specs.Simd.Lanes.{chunk}
+use Rattle.weight_lanes.proofs.LanesOfOperations.{HasLanes-chunk, HasLanes-same}
 use Rattle.weight_lanes.proofs.lanes.flags_from.Goals as goal
 
 pub returns : goal.returns

@@ -1,5 +1,5 @@
-use Rattle.std.proofs.Common.{cond, ltb, get_or, max}
-use Rattle.weight_lanes.proofs.LanesOfOperations.{HasLanes-select, HasLanes-along, larger_is_max}
+use Rattle.std.proofs.Common.{cond, get_or, ltb, max}
+use Rattle.weight_lanes.proofs.LanesOfOperations.{HasLanes-along, HasLanes-select, larger_is_max}
 use Rattle.weight_lanes.proofs.lanes.larger.Goals as goal
 
 pub returns : goal.returns

@@ -1,9 +1,8 @@
-use Rattle.std.proofs.Common.{◌≡◌, ◌+◌, eqb, eq-eqb, get_or, sym, subst, ◌∙◌, arith, w32}
-use Rattle.std.proofs.lemmas.Bool.{eqb-true}
-use Rattle.std.proofs.lemmas.Simd.{bitmask_splat}
-use Rattle.weight_lanes.specs.Lanes.{MarksLanes, lane_number}
+use Rattle.std.proofs.Common.{◌+◌, ◌∙◌, ◌≡◌, arith, eq-eqb, eqb, get_or, subst, sym, w32}
+use Rattle.std.proofs.lemmas.{Bool.eqb-true, Simd.bitmask_splat}
 use Rattle.weight_lanes.proofs.MaskMarksPlaces.{Marks-mask_l}
 use Rattle.weight_lanes.proofs.lanes.numbered_at.Goals as goal
+use Rattle.weight_lanes.specs.Lanes.{MarksLanes, lane_number}
 
 pub returns : goal.returns
 returns c =

@@ -1,9 +1,8 @@
-use Rattle.std.proofs.Common.{◌≢◌, ◌+◌, get_or, sym, subst, ◌∙◌, arith, w8}
-use Rattle.std.specs.Simd.Lanes.{chunk}
-use Rattle.std.proofs.lemmas.Simd.{length-chunk, get_or-chunk, bitmask_splat}
-use Rattle.weight_lanes.specs.Lanes.{MarksLanes}
+use Rattle.std.proofs.Common.{◌+◌, ◌∙◌, ◌≢◌, arith, get_or, subst, sym, w8}
+use Rattle.std.{proofs.lemmas.Simd.bitmask_splat, proofs.lemmas.Simd.get_or-chunk, proofs.lemmas.Simd.length-chunk, specs.Simd.Lanes.chunk}
 use Rattle.weight_lanes.proofs.MaskMarksPlaces.{Marks-mask_l, differs, differs-true}
 use Rattle.weight_lanes.proofs.lanes.set_at.Goals as goal
+use Rattle.weight_lanes.specs.Lanes.{MarksLanes}
 
 pub returns : goal.returns
 returns c =

@@ -1,5 +1,5 @@
-use Rattle.std.proofs.Common.{cond, ltb, get_or, min}
-use Rattle.weight_lanes.proofs.LanesOfOperations.{HasLanes-select, HasLanes-along, smaller_is_min}
+use Rattle.std.proofs.Common.{cond, get_or, ltb, min}
+use Rattle.weight_lanes.proofs.LanesOfOperations.{HasLanes-along, HasLanes-select, smaller_is_min}
 use Rattle.weight_lanes.proofs.lanes.smaller.Goals as goal
 
 pub returns : goal.returns

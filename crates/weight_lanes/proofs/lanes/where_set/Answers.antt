@@ -1,6 +1,6 @@
-use Rattle.std.proofs.Common.{cond, eqb, get_or, replicate, refl}
+use Rattle.std.proofs.Common.{cond, eqb, get_or, refl, replicate}
 use Rattle.std.proofs.lemmas.Simd.{get_or-replicate}
-use Rattle.weight_lanes.proofs.LanesOfOperations.{HasLanes-select, HasLanes-along}
+use Rattle.weight_lanes.proofs.LanesOfOperations.{HasLanes-along, HasLanes-select}
 use Rattle.weight_lanes.proofs.lanes.where_set.Goals as goal
 
 pub returns : goal.returns

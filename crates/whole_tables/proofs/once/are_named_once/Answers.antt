@@ -1,8 +1,8 @@
 use Rattle.std.proofs.Common.{◌∙◌, ap}
 use Rattle.core_program.specs.WholeTables.{parts_of}
-use Rattle.whole_tables.specs.Parts.{listed}
 use Rattle.whole_tables.proofs.NamedOnce.{naming-goes}
 use Rattle.whole_tables.proofs.once.are_named_once.Goals as goal
+use Rattle.whole_tables.specs.Parts.{listed}
 
 pub constructs-preserved : goal.constructs-preserved
 constructs-preserved c =

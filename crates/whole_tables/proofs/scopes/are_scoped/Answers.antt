@@ -1,7 +1,7 @@
 use Rattle.std.proofs.Common.{◌∙◌, ap, sym}
-use Rattle.whole_tables.specs.Scopes.{element_of}
 use Rattle.whole_tables.proofs.ScopeLoops.{records-onward}
 use Rattle.whole_tables.proofs.scopes.are_scoped.Goals as goal
+use Rattle.whole_tables.specs.Scopes.{element_of}
 
 pub records-preserved : goal.records-preserved
 records-preserved c =

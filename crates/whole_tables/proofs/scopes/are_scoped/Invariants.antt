@@ -1,6 +1,6 @@
-use Rattle.std.proofs.Common.{◌≡◌, ◌+◌, ◌-◌}
-use Rattle.whole_tables.specs.Scopes.{scoped_records}
+use Rattle.std.proofs.Common.{◌+◌, ◌-◌, ◌≡◌}
 use Rattle.whole_tables.proofs.scopes.are_scoped.Given as goal
+use Rattle.whole_tables.specs.Scopes.{scoped_records}
 
 abbrev pub invariant-records : goal.invariant-records
 invariant-records l =

@@ -1,8 +1,7 @@
 use Rattle.std.proofs.Common.{◌≡◌, length}
 use Rattle.core_program.specs.ProgramRows.{routine_at}
-use Rattle.whole_tables.specs.Fits.{all_below}
-use Rattle.whole_tables.specs.Scopes.{outermost}
 use Rattle.whole_tables.proofs.whole.all_outermost.Given as goal
+use Rattle.whole_tables.specs.{Fits.all_below, Scopes.outermost}
 
 abbrev pub invariant-routines : goal.invariant-routines
 invariant-routines l =

@@ -1,7 +1,7 @@
 use Rattle.std.proofs.Common.{◌≡◌, length}
 use Rattle.core_program.specs.ProgramRows.{routine_at}
-use Rattle.whole_tables.specs.Fits.{all_below, routine_fits}
 use Rattle.whole_tables.proofs.whole.all_routines_fit.Given as goal
+use Rattle.whole_tables.specs.Fits.{all_below, routine_fits}
 
 abbrev pub invariant-routines : goal.invariant-routines
 invariant-routines l =

@@ -1,7 +1,7 @@
 use Rattle.std.proofs.Common.{◌≡◌}
 use Rattle.core_program.specs.ProgramRows.{row_at}
-use Rattle.whole_tables.specs.Fits.{all_below, row_fits}
 use Rattle.whole_tables.proofs.whole.all_rows_fit.Given as goal
+use Rattle.whole_tables.specs.Fits.{all_below, row_fits}
 
 abbrev pub invariant-rows : goal.invariant-rows
 invariant-rows l =

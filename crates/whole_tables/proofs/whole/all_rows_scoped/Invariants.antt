@@ -1,8 +1,7 @@
 use Rattle.std.proofs.Common.{◌≡◌}
 use Rattle.core_program.specs.ProgramRows.{row_at}
-use Rattle.whole_tables.specs.Fits.{all_below}
-use Rattle.whole_tables.specs.Scopes.{scoped_row}
 use Rattle.whole_tables.proofs.whole.all_rows_scoped.Given as goal
+use Rattle.whole_tables.specs.{Fits.all_below, Scopes.scoped_row}
 
 abbrev pub invariant-rows : goal.invariant-rows
 invariant-rows l =

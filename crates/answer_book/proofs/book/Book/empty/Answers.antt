@@ -1,7 +1,6 @@
-use Rattle.std.proofs.Common.{◌≡◌, ◌≤◌, None, false, length, replicate, ap, sym, ◌∙◌, rules, arith}
+use Rattle.std.proofs.Common.{◌∙◌, ◌≡◌, ◌≤◌, None, ap, arith, false, length, replicate, rules, sym}
 use Rattle.std.proofs.lemmas.List.{length-map}
-use Rattle.call_tree.specs.declared.records.Call.{Call}
-use Rattle.call_tree.specs.Recording.{routines_of}
+use Rattle.call_tree.specs.{Recording.routines_of, declared.records.Call.Call}
 use Rattle.answer_book.proofs.NewLemmas.{empty_is_kept}
 use Rattle.answer_book.proofs.book.Book.empty.Goals as goal
 

@@ -1,10 +1,7 @@
-use Rattle.std.proofs.Common.{sym, ◌∙◌, arith}
-use Rattle.std.proofs.lemmas.Result.{err_from_is_err_and}
-use Rattle.answer_book.specs.Kept.{answers_of}
-use Rattle.answer_book.proofs.AnswerLemmas.{call_answer, no_call_answer}
-use Rattle.answer_book.proofs.KeptLemmas.{judged_is_kept}
-use Rattle.answer_book.proofs.MarkLemmas.{judged_length}
+use Rattle.std.proofs.{Common.◌∙◌, Common.arith, Common.sym, lemmas.Result.err_from_is_err_and}
+use Rattle.answer_book.proofs.{AnswerLemmas.call_answer, AnswerLemmas.no_call_answer, KeptLemmas.judged_is_kept, MarkLemmas.judged_length}
 use Rattle.answer_book.proofs.book.Book.judge.Goals as goal
+use Rattle.answer_book.specs.Kept.{answers_of}
 
 pub returns-then-call-len-clause-answer : goal.returns-then-call-len-clause-answer
 returns-then-call-len-clause-answer c =

@@ -1,11 +1,8 @@
-use Rattle.std.proofs.Common.{◌≡◌, ◌<◌, ℕ, List, get_or, true, false, length, sym, ap, ◌∙◌, arith}
-use Rattle.std.specs.Prelude.{slice_index}
+use Rattle.std.proofs.Common.{◌<◌, ◌∙◌, ◌≡◌, ℕ, List, ap, arith, false, get_or, length, slice_index, sym, true}
 use Rattle.std.proofs.lemmas.Option.{same_Some}
-use Rattle.answer_book.specs.Answers.{Answers}
-use Rattle.answer_book.specs.Entries.{standing_answers}
-use Rattle.answer_book.specs.Kept.{answers_of}
 use Rattle.answer_book.proofs.MarkLemmas.{judged_at, judged_length, mark_judged, mark_unjudged, routine_known, trusted_at, trusted_length}
 use Rattle.answer_book.proofs.book.Book.mark.Goals as goal
+use Rattle.answer_book.specs.{Answers.Answers, Entries.standing_answers, Kept.answers_of}
 
 pub get-requires : goal.get-requires
 get-requires c =

@@ -1,9 +1,7 @@
-use Rattle.std.proofs.Common.{◌<◌, length, arith}
-use Rattle.answer_book.specs.InRange.{IsInRange}
-use Rattle.answer_book.specs.Kept.{answers_of}
-use Rattle.answer_book.proofs.MarkLemmas.{judged_length, trusted_length}
-use Rattle.answer_book.proofs.NewLemmas.{judgement_put, taken_back_put, trust_put}
+use Rattle.std.proofs.Common.{◌<◌, arith, length}
+use Rattle.answer_book.proofs.{MarkLemmas.judged_length, MarkLemmas.trusted_length, NewLemmas.judgement_put, NewLemmas.taken_back_put, NewLemmas.trust_put}
 use Rattle.answer_book.proofs.book.Book.put.Goals as goal
+use Rattle.answer_book.specs.{InRange.IsInRange, Kept.answers_of}
 
 pub set-requires : goal.set-requires
 set-requires c =

@@ -1,7 +1,7 @@
 use Rattle.std.proofs.Common.{◌+◌, length, sym}
-use Rattle.answer_book.specs.Entries.{is_standing}
 use Rattle.answer_book.proofs.LastWhere.{last_where_is}
 use Rattle.answer_book.proofs.book.Book.take_back_last.Goals as goal
+use Rattle.answer_book.specs.Entries.{is_standing}
 
 pub withdraw-requires : goal.withdraw-requires
 withdraw-requires c =

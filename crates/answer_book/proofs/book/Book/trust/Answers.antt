@@ -1,10 +1,7 @@
-use Rattle.std.proofs.Common.{sym, ◌∙◌, arith}
-use Rattle.std.proofs.lemmas.Result.{err_from_is_err_and}
-use Rattle.answer_book.specs.Kept.{answers_of}
-use Rattle.answer_book.proofs.AnswerLemmas.{no_routine_answer, routine_answer}
-use Rattle.answer_book.proofs.KeptLemmas.{trusted_is_kept}
-use Rattle.answer_book.proofs.MarkLemmas.{trusted_length}
+use Rattle.std.proofs.{Common.◌∙◌, Common.arith, Common.sym, lemmas.Result.err_from_is_err_and}
+use Rattle.answer_book.proofs.{AnswerLemmas.no_routine_answer, AnswerLemmas.routine_answer, KeptLemmas.trusted_is_kept, MarkLemmas.trusted_length}
 use Rattle.answer_book.proofs.book.Book.trust.Goals as goal
+use Rattle.answer_book.specs.Kept.{answers_of}
 
 pub returns-then-place-len-clause-answer : goal.returns-then-place-len-clause-answer
 returns-then-place-len-clause-answer c =

@@ -1,10 +1,8 @@
-use Rattle.std.proofs.Common.{◌<◌, length, arith}
-use Rattle.answer_book.specs.declared.entries.What.{What}
-use Rattle.answer_book.specs.declared.entries.What.TheVariants.{Judged, Trusted}
-use Rattle.answer_book.specs.Kept.{answers_of}
+use Rattle.std.proofs.Common.{◌<◌, arith, length}
 use Rattle.answer_book.proofs.MarkLemmas.{judged_length, trusted_length}
 use Rattle.answer_book.proofs.WithdrawnLemmas.{entry_is_withdrawn, judgement_is_withdrawn, named_before, trust_is_withdrawn}
 use Rattle.answer_book.proofs.book.Book.withdraw.Goals as goal
+use Rattle.answer_book.specs.{Kept.answers_of, declared.entries.What.What, declared.entries.What.TheVariants.Judged, declared.entries.What.TheVariants.Trusted}
 
 pub set-requires : goal.set-requires
 set-requires c =

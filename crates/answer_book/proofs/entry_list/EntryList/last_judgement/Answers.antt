@@ -1,8 +1,8 @@
-use Rattle.std.proofs.Common.{sym, ◌∙◌}
-use Rattle.answer_book.specs.Spoken.{entry_judgement}
+use Rattle.std.proofs.Common.{◌∙◌, sym}
 use Rattle.answer_book.proofs.FilterMaps.{last_given, last_kept}
-use Rattle.answer_book.proofs.entry_list.EntryList.last_judgement.Goals as goal
 use Rattle.answer_book.proofs.entry_list.EntryList.last_judgement.Goals.{in-Some, in_default}
+use Rattle.answer_book.proofs.entry_list.EntryList.last_judgement.Goals as goal
+use Rattle.answer_book.specs.Spoken.{entry_judgement}
 
 pub loop-entry-preserved : goal.loop-entry-preserved
 loop-entry-preserved c = elim c.match-judgement_of.branch [

@@ -1,8 +1,8 @@
-use Rattle.std.proofs.Common.{◌+◌, length, inl, inr, ap, ◌∙◌, sym, arith}
+use Rattle.std.proofs.Common.{◌+◌, ◌∙◌, ap, arith, inl, inr, length, sym}
 use Rattle.std.proofs.lemmas.Bool.{cases_eq}
-use Rattle.answer_book.specs.Entries.{is_standing}
 use Rattle.answer_book.proofs.LastWhere.{last_where_from, no_last_where}
 use Rattle.answer_book.proofs.entry_list.EntryList.last_standing.Goals as goal
+use Rattle.answer_book.specs.Entries.{is_standing}
 
 pub search-preserved : goal.search-preserved
 search-preserved c = (

@@ -1,7 +1,7 @@
 use Rattle.std.proofs.Common.{◌∙◌, refl}
-use Rattle.answer_book.specs.Judged.{AreFlagged}
 use Rattle.answer_book.proofs.FlagLemmas.{last_flag, no_flag}
 use Rattle.answer_book.proofs.judged_calls.JudgedCalls.last_wrong.Goals as goal
+use Rattle.answer_book.specs.Judged.{AreFlagged}
 
 pub returns-in-Some : goal.returns-in-Some
 returns-in-Some c =

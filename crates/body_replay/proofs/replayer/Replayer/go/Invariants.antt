@@ -1,8 +1,6 @@
 use Rattle.eval_ops.specs.Machines.{IsReady}
-use Rattle.body_replay.specs.Again.{AtBody, Job, work_left}
-use Rattle.body_replay.specs.Counting.{CountsEachStep, Tally}
-use Rattle.body_replay.specs.Traces.{tally_of}
 use Rattle.body_replay.proofs.replayer.Replayer.go.Given as goal
+use Rattle.body_replay.specs.{Again.AtBody, Again.Job, Again.work_left, Counting.CountsEachStep, Counting.Tally, Traces.tally_of}
 
 abbrev pub invariant-stops : goal.invariant-stops
 invariant-stops g l =

@@ -1,7 +1,7 @@
-use Rattle.std.proofs.Common.{◌≡◌, ◌+◌, ◌-◌, ◌∙◌, ap, sym, arith}
+use Rattle.std.proofs.Common.{◌+◌, ◌-◌, ◌∙◌, ◌≡◌, ap, arith, sym}
 use Rattle.std.proofs.lemmas.Option.{slice_get_within}
-use Rattle.call_tree.specs.declared.records.Call as table
 use Rattle.core_program.specs.State.{State}
+use Rattle.call_tree.specs.declared.records.Call as table
 use Rattle.body_replay.proofs.StepsAreCounted.{counts_child}
 use Rattle.body_replay.proofs.WorkGoesOn.{child, goes_on, known, recorded_as, room, steps_here, told_here}
 use Rattle.body_replay.proofs.replayer.Replayer.meet.Goals as goal

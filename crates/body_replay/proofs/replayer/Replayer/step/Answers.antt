@@ -1,15 +1,11 @@
 use Rattle.std.proofs.Common.{ap, arith, subst, sym}
-use Rattle.eval_ops.specs.declared.machine.Machine.{Machine}
-use Rattle.eval_ops.specs.Machines.{moment_of}
-use Rattle.evaluator.specs.Stops.{AtCall, AtEnd, AtLine, NextStopIs}
-use Rattle.evaluator.specs.Rest.{rest_of, waiting}
 use Rattle.core_program.specs.Replay.{end_of}
-use Rattle.evaluator.specs.Turns.{stop_of}
-use Rattle.body_replay.specs.Counting.{CountsEachStep, Tally}
-use Rattle.body_replay.specs.Traces.{tally}
+use Rattle.eval_ops.specs.{Machines.moment_of, declared.machine.Machine.Machine}
+use Rattle.evaluator.specs.{Rest.rest_of, Rest.waiting, Stops.AtCall, Stops.AtEnd, Stops.AtLine, Stops.NextStopIs, Turns.stop_of}
 use Rattle.body_replay.proofs.StepsAreCounted.{counts_fell, counts_line}
 use Rattle.body_replay.proofs.WorkGoesOn.{call_met, end_come, line_told, stop_calls, stop_fell, stop_steps}
 use Rattle.body_replay.proofs.replayer.Replayer.step.Goals as goal
+use Rattle.body_replay.specs.{Counting.CountsEachStep, Counting.Tally, Traces.tally}
 
 pub count_steps-requires : goal.count_steps-requires
 count_steps-requires g c = record { fell = stop_fell c.in_ok-stop.ensures.stops }

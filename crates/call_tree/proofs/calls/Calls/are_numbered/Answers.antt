@@ -1,5 +1,4 @@
-use Rattle.std.proofs.Common.{◌≡◌, [], ap, ◌∙◌}
-use Rattle.std.specs.Prelude.{reverse}
+use Rattle.std.proofs.Common.{◌∙◌, ◌≡◌, [], ap, reverse}
 use Rattle.call_tree.proofs.LeavingKeepsNesting.{left_calls_are_numbered}
 use Rattle.call_tree.proofs.calls.Calls.are_numbered.Goals as goal
 

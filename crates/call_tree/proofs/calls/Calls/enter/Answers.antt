@@ -1,12 +1,9 @@
-use Rattle.std.proofs.Common.{◌≡◌, ℕ, List, ◌∷◌, [], ◌++◌, None, ap, refl, sym, ◌∙◌, length, arith, ◌<◌, ◌+◌, vec_len}
-use Rattle.std.specs.Prelude.{slice_get, ◌-◌, reverse}
-use Rattle.std.proofs.lemmas.List.{length-reverse, map-append, reverse-append}
-use Rattle.std.proofs.lemmas.List.Elements.{All-push}
+use Rattle.std.proofs.Common.{◌++◌, ◌+◌, ◌-◌, ◌<◌, ◌∙◌, ◌∷◌, ◌≡◌, [], ℕ, List, None, ap, arith, length, refl, reverse, slice_get, sym, vec_len}
+use Rattle.std.proofs.lemmas.List.{length-reverse, map-append, reverse-append, Elements.All-push}
 use Rattle.cell_value.specs.declared.ways_out.WayOut.TheVariants.{Returned}
-use Rattle.call_tree.specs.declared.records.Call.{Call}
-use Rattle.call_tree.proofs.EnteringKeepsNesting.{entered_calls_are_nested}
-use Rattle.call_tree.proofs.Places.{last_is_first_reversed}
+use Rattle.call_tree.proofs.{EnteringKeepsNesting.entered_calls_are_nested, Places.last_is_first_reversed}
 use Rattle.call_tree.proofs.calls.Calls.enter.Goals as goal
+use Rattle.call_tree.specs.declared.records.{Call.Call, FrameStart.FrameStart}
 
 pub invariant_of-self-2 : goal.invariant_of-self-2
 invariant_of-self-2 c =
@@ -15,7 +12,7 @@ invariant_of-self-2 c =
     let open_items : List ℕ = c.self.inside.open_calls.items in
     let call : Call = record {
       routine = c.args.routine;
-      parent = c.copied.result;
+      parent = c.copied-parent.result;
       depth = c.len.result;
       last = c.len-number.result;
       args = c.args.args;
@@ -31,9 +28,12 @@ invariant_of-self-2 c =
     c.in_ok-push-3.ensures.items ∙ ap (λ (xs : List ℕ). xs ++ c.len-number.result ∷ []) c.in_ok-reserve-2.ensures.items in
     let open_calls : c.push-4.new.self.items ≡ open_items ++ c.len-number.result ∷ [] =
     c.in_ok-push-4.ensures.items ∙ ap (λ (xs : List ℕ). xs ++ c.len-number.result ∷ []) c.in_ok-reserve-3.ensures.items in
+    let start : FrameStart = record { top = c.args.entry.top; parent = c.copied-parent.result } in
+    let start_column : c.push-5.new.self.items ≡ c.self.inside.start_column.items ++ start ∷ [] =
+    c.in_ok-push-5.ensures.items ∙ ap (λ (xs : List FrameStart). xs ++ start ∷ []) c.in_ok-reserve-4.ensures.items in
     let seen : c.deref.result.now ≡ open_items = c.deref.ensures.value ∙ c.in_ok-reserve-3.ensures.items in
-    let parent : c.copied.result ≡ slice_get open_items (length open_items - 1) =
-    c.copied.ensures ∙ c.last.ensures.value ∙ ap (λ (xs : List ℕ). slice_get xs (length xs - 1)) seen in
+    let parent : c.copied-parent.result ≡ slice_get open_items (length open_items - 1) =
+    c.copied-parent.ensures ∙ c.last.ensures.value ∙ ap (λ (xs : List ℕ). slice_get xs (length xs - 1)) seen in
     let depth : c.len.result ≡ length open_items = c.len.ensures ∙ c.in_ok-reserve-3.ensures.len ∙ c.self.inside.open_calls.ok.0 in
     let number : c.len-number.result ≡ length old = c.len-number.ensures ∙ c.self.inside.calls.ok.0 in
     let known : c.args.routine < c.self.inside.routines = rw (← c.self.view_is) at c.requires.known in
@@ -47,6 +47,7 @@ invariant_of-self-2 c =
       few_open = omega arith;
       routine_column = rw (calls, routine_column, map-append, kept.routine_column) refl;
       last_column = rw (calls, last_column, map-append, kept.last_column) refl;
+      start_column = rw (calls, start_column, map-append, kept.start_column) refl;
       known = rw calls (All-push (λ (k : Call). k.routine < c.self.inside.routines) old call kept.known known);
       nested = rw (calls, open_calls) (entered_calls_are_nested old open_items call c.len-number.result number parent depth refl under kept.nested);
     }
@@ -57,7 +58,7 @@ returns-clause-entered c =
     let open_items : List ℕ = c.self.inside.open_calls.items in
     let calls : c.push.new.self.items ≡ old ++ record {
       routine = c.args.routine;
-      parent = c.copied.result;
+      parent = c.copied-parent.result;
       depth = c.len.result;
       last = c.len-number.result;
       args = c.args.args;
@@ -69,8 +70,8 @@ returns-clause-entered c =
     let open_calls : c.push-4.new.self.items ≡ open_items ++ c.len-number.result ∷ [] =
     c.in_ok-push-4.ensures.items ∙ ap (λ (xs : List ℕ). xs ++ c.len-number.result ∷ []) c.in_ok-reserve-3.ensures.items in
     let seen : c.deref.result.now ≡ open_items = c.deref.ensures.value ∙ c.in_ok-reserve-3.ensures.items in
-    let parent : c.copied.result ≡ slice_get (reverse open_items) 0 =
-    c.copied.ensures ∙ c.last.ensures.value ∙ ap (λ (xs : List ℕ). slice_get xs (length xs - 1)) seen ∙ last_is_first_reversed open_items in
+    let parent : c.copied-parent.result ≡ slice_get (reverse open_items) 0 =
+    c.copied-parent.ensures ∙ c.last.ensures.value ∙ ap (λ (xs : List ℕ). slice_get xs (length xs - 1)) seen ∙ last_is_first_reversed open_items in
     let depth : c.len.result ≡ length (reverse open_items) = c.len.ensures ∙ c.in_ok-reserve-3.ensures.len ∙ c.self.inside.open_calls.ok.0
     ∙ sym (length-reverse open_items) in
     let number : c.len-number.result ≡ length old = c.len-number.ensures ∙ c.self.inside.calls.ok.0 in

@@ -1,12 +1,8 @@
-use Rattle.std.proofs.Common.{◌≡◌, ap, sym, ◌∙◌, length, arith, set, ◌<◌}
-use Rattle.std.specs.Prelude.{◌-◌}
-use Rattle.std.proofs.lemmas.List.{map-set}
-use Rattle.std.proofs.lemmas.List.Elements.{All-get_or, All-set}
-use Rattle.std.proofs.Math.Seq.{map-set_same}
-use Rattle.call_tree.specs.declared.records.Call.{Call}
-use Rattle.call_tree.specs.Recording.{left_call}
+use Rattle.std.proofs.Common.{◌-◌, ◌<◌, ◌∙◌, ◌≡◌, ap, arith, length, set, sym}
+use Rattle.std.proofs.{Math.Seq.map-set_same, lemmas.List.map-set, lemmas.List.Elements.All-get_or, lemmas.List.Elements.All-set}
 use Rattle.call_tree.proofs.LeavingKeepsNesting.{left_calls_are_nested, left_recording, number_inside}
 use Rattle.call_tree.proofs.calls.Calls.leave.Goals as goal
+use Rattle.call_tree.specs.{Recording.left_call, Recording.start_of, declared.records.Call.Call}
 
 pub invariant_of-self : goal.invariant_of-self
 invariant_of-self c =
@@ -25,6 +21,8 @@ invariant_of-self c =
           (left_call call (length calls) c.args.exit c.args.way c.args.answer) call (ap (λ (k : Call). k.routine) is));
       last_column = ap (λ xs. set xs number (length calls - 1)) kept.last_column
           ∙ sym (map-set (λ (k : Call). k.last) calls number (left_call call (length calls) c.args.exit c.args.way c.args.answer));
+      start_column = kept.start_column ∙ sym (map-set_same start_of calls number
+          (left_call call (length calls) c.args.exit c.args.way c.args.answer) call (ap start_of is));
       known = All-set (λ (k : Call). k.routine < c.self.inside.routines) calls number _
           (rw (ap (λ (k : Call). k.routine) is) (All-get_or (λ (k : Call). k.routine < c.self.inside.routines) calls number call inside kept.known)) kept.known;
       nested = left_calls_are_nested calls _ _ number call popped is c.args.exit c.args.way c.args.answer kept.nested;

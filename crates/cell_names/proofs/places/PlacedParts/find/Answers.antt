@@ -1,4 +1,4 @@
-use Rattle.std.proofs.Common.{◌-◌, ap, get_or, ◌∙◌}
+use Rattle.std.proofs.Common.{◌-◌, ◌∙◌, ap, get_or}
 use Rattle.cell_names.proofs.PartsSplit.{found_by, none_by}
 use Rattle.cell_names.proofs.places.PlacedParts.find.Goals as goal
 

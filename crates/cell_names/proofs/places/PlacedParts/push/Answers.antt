@@ -1,7 +1,7 @@
-use Rattle.std.proofs.Common.{◌++◌, ◌∷◌, [], ap, ◌∙◌, take}
-use Rattle.cell_names.specs.Places.{last_at}
+use Rattle.std.proofs.Common.{◌++◌, ◌∙◌, ◌∷◌, [], ap, take}
 use Rattle.cell_names.proofs.PartsSplit.{pushed}
 use Rattle.cell_names.proofs.places.PlacedParts.push.Goals as goal
+use Rattle.cell_names.specs.Places.{last_at}
 
 pub returns : goal.returns
 returns c = λ i at.

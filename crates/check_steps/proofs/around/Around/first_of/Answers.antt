@@ -1,8 +1,7 @@
-use Rattle.std.proofs.Common.{List, length, Some, ap, ◌∙◌}
-use Rattle.check_steps.specs.declared.regions.Frame.{Frame}
-use Rattle.check_steps.specs.Around.{first_around, is_among, latest}
+use Rattle.std.proofs.Common.{◌∙◌, List, Some, ap, length}
 use Rattle.check_steps.proofs.Books.{kept-first}
 use Rattle.check_steps.proofs.around.Around.first_of.Goals as goal
+use Rattle.check_steps.specs.{Around.first_around, Around.is_among, Around.latest, declared.regions.Frame.Frame}
 
 pub returns-then-is_same : goal.returns-then-is_same
 returns-then-is_same c =

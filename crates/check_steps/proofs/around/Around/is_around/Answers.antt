@@ -1,9 +1,7 @@
-use Rattle.std.proofs.Common.{◌≡◌, List, true, ap, sym, subst, ◌∙◌}
-use Rattle.std.specs.Prelude.{is_some}
-use Rattle.check_steps.specs.declared.regions.Frame.{Frame}
-use Rattle.check_steps.specs.Around.{is_around, kept_in}
+use Rattle.std.proofs.Common.{◌∙◌, ◌≡◌, List, ap, is_some, subst, sym, true}
 use Rattle.check_steps.proofs.Books.{kept-around}
 use Rattle.check_steps.proofs.around.Around.is_around.Goals as goal
+use Rattle.check_steps.specs.{Around.is_around, Around.kept_in, declared.regions.Frame.Frame}
 
 pub returns-then-is_same : goal.returns-then-is_same
 returns-then-is_same c = λ yes.

@@ -1,7 +1,7 @@
-use Rattle.std.proofs.Common.{rules, arith, sym, subst}
-use Rattle.check_steps.specs.Around.{IsKept}
+use Rattle.std.proofs.Common.{arith, rules, subst, sym}
 use Rattle.check_steps.proofs.Books.{kept-left}
 use Rattle.check_steps.proofs.around.Around.leave.Goals as goal
+use Rattle.check_steps.specs.Around.{IsKept}
 
 pub invariant_of-self : goal.invariant_of-self
 invariant_of-self c =

@@ -1,8 +1,7 @@
-use Rattle.std.proofs.Common.{List, map, sym, subst}
-use Rattle.check_steps.specs.declared.frames.KeptFrame.{KeptFrame}
-use Rattle.check_steps.specs.Frames.{IsChained, Leads, frame_of}
+use Rattle.std.proofs.Common.{List, map, subst, sym}
 use Rattle.check_steps.proofs.Chains.{chained-push}
 use Rattle.check_steps.proofs.frames.Frames.push.Goals as goal
+use Rattle.check_steps.specs.{Frames.IsChained, Frames.Leads, Frames.frame_of, declared.frames.KeptFrame.KeptFrame}
 
 pub beyond_new-beyond-requires : goal.beyond_new-beyond-requires
 beyond_new-beyond-requires c = subst IsChained (sym c.deref.ensures.value) c.self.invariant

@@ -1,8 +1,7 @@
-use Rattle.std.proofs.Common.{IsSome, refl, ap, subst, ◌∙◌}
-use Rattle.check_steps.specs.Around.{is_among}
-use Rattle.check_steps.specs.Homes.{homes_of, regions_of}
+use Rattle.std.proofs.Common.{◌∙◌, IsSome, ap, refl, subst}
 use Rattle.check_steps.proofs.HomeLists.{among-last, among-more, homes-set}
 use Rattle.check_steps.proofs.homes.Homes.add.Goals as goal
+use Rattle.check_steps.specs.{Around.is_among, Homes.homes_of, Homes.regions_of}
 
 pub returns-in_err-push-in-Some-clause-kept : goal.returns-in_err-push-in-Some-clause-kept
 returns-in_err-push-in-Some-clause-kept c = λ n r among.

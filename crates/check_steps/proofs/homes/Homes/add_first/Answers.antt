@@ -1,8 +1,7 @@
-use Rattle.std.proofs.Common.{◌≡◌, false, ap, sym, ◌∙◌}
-use Rattle.check_steps.specs.Around.{is_among}
-use Rattle.check_steps.specs.Homes.{homes_of, regions_of}
+use Rattle.std.proofs.Common.{◌∙◌, ◌≡◌, ap, false, sym}
 use Rattle.check_steps.proofs.HomeLists.{among-last, homes-set}
 use Rattle.check_steps.proofs.homes.Homes.add_first.Goals as goal
+use Rattle.check_steps.specs.{Around.is_among, Homes.homes_of, Homes.regions_of}
 
 pub returns-clause-kept : goal.returns-clause-kept
 returns-clause-kept c = λ n r among.

@@ -1,12 +1,8 @@
-use Rattle.std.proofs.Common.{ℕ, List, ◌<◌, ◌++◌, ◌∷◌, [], length, map, nat_eq, refl, ap, sym, ◌∙◌, arith}
-use Rattle.std.specs.HashMap.{IsUnchanged}
-use Rattle.std.specs.Map.{lookup}
-use Rattle.check_steps.specs.declared.regions.Region.{Region}
-use Rattle.check_steps.specs.Homes.{rows_of}
-use Rattle.check_steps.specs.Regions.{RegionRows, declared_in}
-use Rattle.check_steps.proofs.HomeLists.{changed-row, changed-same, homes-more}
-use Rattle.check_steps.proofs.Maps.{inserted_last, region_of, regions-changed}
+use Rattle.std.proofs.Common.{◌++◌, ◌<◌, ◌∙◌, ◌∷◌, [], ℕ, List, ap, arith, length, map, nat_eq, refl, sym}
+use Rattle.std.specs.{HashMap.IsUnchanged, Map.lookup}
+use Rattle.check_steps.proofs.{HomeLists.changed-row, HomeLists.changed-same, HomeLists.homes-more, Maps.inserted_last, Maps.region_of, Maps.regions-changed}
 use Rattle.check_steps.proofs.scopes.Scopes.add_label.Goals as goal
+use Rattle.check_steps.specs.{Homes.rows_of, Regions.RegionRows, Regions.declared_in, declared.regions.Region.Region}
 
 pub invariant_of-self : goal.invariant_of-self
 invariant_of-self c =

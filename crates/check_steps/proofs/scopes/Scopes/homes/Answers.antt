@@ -1,8 +1,6 @@
-use Rattle.std.proofs.Common.{ℕ, List, ap, sym, ◌∙◌}
-use Rattle.check_steps.specs.Around.{is_among}
-use Rattle.check_steps.specs.Homes.{AreHomes}
-use Rattle.check_steps.specs.Regions.{RegionRows, defined_in}
+use Rattle.std.proofs.Common.{◌∙◌, ℕ, List, ap, sym}
 use Rattle.check_steps.proofs.scopes.Scopes.homes.Goals as goal
+use Rattle.check_steps.specs.{Around.is_among, Homes.AreHomes, Regions.RegionRows, Regions.defined_in}
 
 pub returns : goal.returns
 unfolding AreHomes

@@ -1,8 +1,6 @@
-use Rattle.std.proofs.Common.{ℕ, List, ap, sym, ◌∙◌}
-use Rattle.check_steps.specs.Around.{is_among}
-use Rattle.check_steps.specs.Homes.{AreHomes}
-use Rattle.check_steps.specs.Regions.{RegionRows, declared_in}
+use Rattle.std.proofs.Common.{◌∙◌, ℕ, List, ap, sym}
 use Rattle.check_steps.proofs.scopes.Scopes.label_homes.Goals as goal
+use Rattle.check_steps.specs.{Around.is_among, Homes.AreHomes, Regions.RegionRows, Regions.declared_in}
 
 pub returns : goal.returns
 unfolding AreHomes

@@ -1,7 +1,7 @@
 use Rattle.std.proofs.Common.{refl}
-use Rattle.check_steps.specs.Regions.{RegionRows}
 use Rattle.check_steps.proofs.HomeLists.{homes-none}
 use Rattle.check_steps.proofs.scopes.Scopes.new.Goals as goal
+use Rattle.check_steps.specs.Regions.{RegionRows}
 
 pub invariant_of-result : goal.invariant_of-result
 invariant_of-result c =

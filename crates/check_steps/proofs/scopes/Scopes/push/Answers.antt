@@ -1,10 +1,7 @@
-use Rattle.std.proofs.Common.{map}
-use Rattle.std.proofs.lemmas.List.{map_push}
-use Rattle.check_steps.specs.declared.regions.Region.{Region}
-use Rattle.check_steps.specs.Homes.{rows_of}
-use Rattle.check_steps.specs.Regions.{RegionRows}
+use Rattle.std.proofs.{Common.map, lemmas.List.map_push}
 use Rattle.check_steps.proofs.HomeLists.{homes-region}
 use Rattle.check_steps.proofs.scopes.Scopes.push.Goals as goal
+use Rattle.check_steps.specs.{Homes.rows_of, Regions.RegionRows, declared.regions.Region.Region}
 
 pub invariant_of-self-2 : goal.invariant_of-self-2
 invariant_of-self-2 c =

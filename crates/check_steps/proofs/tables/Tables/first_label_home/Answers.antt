@@ -1,9 +1,7 @@
-use Rattle.std.proofs.Common.{ℕ, ◌≡◌, false, length, Some, None, IfSome, subst}
-use Rattle.check_steps.specs.Around.{first_around, is_among}
-use Rattle.check_steps.specs.Known.{Known}
-use Rattle.check_steps.specs.Regions.{declared_in}
+use Rattle.std.proofs.Common.{◌≡◌, ℕ, IfSome, None, Some, false, length, subst}
 use Rattle.check_steps.proofs.FirstHome.{label-home-nowhere, label-home-there}
 use Rattle.check_steps.proofs.tables.Tables.first_label_home.Goals as goal
+use Rattle.check_steps.specs.{Around.first_around, Around.is_among, Known.Known, Regions.declared_in}
 
 pub returns-clause-nowhere : goal.returns-clause-nowhere
 returns-clause-nowhere c =

@@ -1,8 +1,7 @@
-use Rattle.std.proofs.Common.{ap, sym, ◌∙◌}
-use Rattle.check_steps.specs.Known.{Known}
-use Rattle.check_steps.specs.Words.{number_of_name}
+use Rattle.std.proofs.Common.{◌∙◌, ap, sym}
 use Rattle.check_steps.proofs.NameLists.{place_kept}
 use Rattle.check_steps.proofs.tables.Tables.number_of.Goals as goal
+use Rattle.check_steps.specs.{Known.Known, Words.number_of_name}
 
 pub returns-in-Some : goal.returns-in-Some
 returns-in-Some c =

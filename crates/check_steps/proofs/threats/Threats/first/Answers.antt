@@ -1,8 +1,7 @@
-use Rattle.std.proofs.Common.{◌-◌, ap, sym, ◌∙◌}
-use Rattle.std.specs.Prelude.{unwrap_or}
-use Rattle.check_steps.specs.Threats.{first_threat}
+use Rattle.std.{proofs.Common.◌-◌, proofs.Common.◌∙◌, proofs.Common.ap, proofs.Common.sym, specs.Prelude.unwrap_or}
 use Rattle.check_steps.proofs.FirstThreat.{none_kept}
 use Rattle.check_steps.proofs.threats.Threats.first.Goals as goal
+use Rattle.check_steps.specs.Threats.{first_threat}
 
 pub invariant_of-self : goal.invariant_of-self
 invariant_of-self c =

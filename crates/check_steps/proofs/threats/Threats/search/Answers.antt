@@ -1,7 +1,7 @@
-use Rattle.std.proofs.Common.{◌-◌, ap, ◌∙◌}
-use Rattle.check_steps.specs.Threats.{first_threat}
+use Rattle.std.proofs.Common.{◌-◌, ◌∙◌, ap}
 use Rattle.check_steps.proofs.FirstThreat.{begun_later}
 use Rattle.check_steps.proofs.threats.Threats.search.Goals as goal
+use Rattle.check_steps.specs.Threats.{first_threat}
 
 pub returns : goal.returns
 returns c =

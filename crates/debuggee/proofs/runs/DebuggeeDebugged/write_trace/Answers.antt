@@ -1,10 +1,8 @@
-use Rattle.std.proofs.Common.{◌≡◌, ◌++◌, ℕ, List, ap, subst, ◌∙◌}
-use Rattle.std.specs.Prelude.{OnOk}
-use Rattle.question_text.specs.Cards.{Recorded}
-use Rattle.question_text.specs.Traces.{trace_text}
-use Rattle.debuggee.specs.Execution.{execution}
+use Rattle.std.proofs.Common.{◌++◌, ◌∙◌, ◌≡◌, ℕ, List, OnOk, ap, subst}
+use Rattle.question_text.specs.{Cards.Recorded, Traces.trace_text}
 use Rattle.debuggee.proofs.TracesAreOfBodies.{is_of_run, trace_is}
 use Rattle.debuggee.proofs.runs.DebuggeeDebugged.write_trace.Goals as goal
+use Rattle.debuggee.specs.Execution.{execution}
 
 pub returns : goal.returns
 returns c =

@@ -1,5 +1,4 @@
-use Rattle.std.proofs.Common.{◌∙◌}
-use Rattle.std.proofs.lemmas.List.{length-map}
+use Rattle.std.proofs.{Common.◌∙◌, lemmas.List.length-map}
 use Rattle.debuggee.proofs.runs.DebuggeeDebugged.write_tree.Goals as goal
 
 pub write_tree-requires : goal.write_tree-requires

@@ -1,7 +1,7 @@
-use Rattle.std.proofs.Common.{sym, ap, ◌∙◌, ◌≡◌, length, true, false}
-use Rattle.edge_ports.specs.Lines.{line_end_of}
-use Rattle.edge_ports.proofs.SameBytesCome.{filled_more, on_ok, none_from}
+use Rattle.std.proofs.Common.{◌∙◌, ◌≡◌, ap, false, length, sym, true}
+use Rattle.edge_ports.proofs.SameBytesCome.{filled_more, none_from, on_ok}
 use Rattle.edge_ports.proofs.lines.Lines.fill.Goals as goal
+use Rattle.edge_ports.specs.Lines.{line_end_of}
 
 pub filling-preserved : goal.filling-preserved
 filling-preserved g c =

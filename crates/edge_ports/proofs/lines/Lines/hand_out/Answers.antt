@@ -1,8 +1,8 @@
-use Rattle.std.proofs.Common.{ap, arith, ℕ, take, length}
+use Rattle.std.proofs.Common.{ℕ, ap, arith, length, take}
 use Rattle.std.proofs.lemmas.List.{length-take}
-use Rattle.edge_ports.specs.Lines.{unread}
-use Rattle.edge_ports.proofs.HandedLinesAreHeard.{HandsOutNext, lines_of-handed, handed_lines-handed}
+use Rattle.edge_ports.proofs.HandedLinesAreHeard.{HandsOutNext, handed_lines-handed, lines_of-handed}
 use Rattle.edge_ports.proofs.lines.Lines.hand_out.Goals as goal
+use Rattle.edge_ports.specs.Lines.{unread}
 
 skipped : (c : goal.After-skip) → HandsOutNext c.args.self.now c.skip.new.self (take c.in-Some.count (unread c.args.self.now))
 skipped c = record {

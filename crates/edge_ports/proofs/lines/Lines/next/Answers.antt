@@ -1,6 +1,5 @@
 use Rattle.std.proofs.Common.{Ok, refl}
-use Rattle.edge_ports.proofs.SameBytesCome.{still_comes, turned, comes_cleared}
-use Rattle.edge_ports.proofs.HandedLinesAreHeard.{all_handed}
+use Rattle.edge_ports.proofs.{HandedLinesAreHeard.all_handed, SameBytesCome.comes_cleared, SameBytesCome.still_comes, SameBytesCome.turned}
 use Rattle.edge_ports.proofs.lines.Lines.next.Goals as goal
 
 pub returns-in-Ok-clause-console : goal.returns-in-Ok-clause-console

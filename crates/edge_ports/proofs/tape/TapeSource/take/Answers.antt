@@ -1,4 +1,4 @@
-use Rattle.std.proofs.Common.{sym, ◌∙◌, ap, Some, ◌++◌, take}
+use Rattle.std.proofs.Common.{◌++◌, ◌∙◌, Some, ap, sym, take}
 use Rattle.std.proofs.lemmas.List.{drop-drop, take_rest}
 use Rattle.edge_ports.proofs.tape.TapeSource.take.Goals as goal
 

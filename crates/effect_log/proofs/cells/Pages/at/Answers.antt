@@ -1,4 +1,4 @@
-use Rattle.std.proofs.Common.{◌+◌, ◌≤◌, ◌/◌, ◌∙◌, None, length, sym, arith}
+use Rattle.std.proofs.Common.{◌+◌, ◌/◌, ◌∙◌, ◌≤◌, None, arith, length, sym}
 use Rattle.effect_log.proofs.PagesKeepCells.{any_default}
 use Rattle.effect_log.proofs.cells.Pages.at.Goals as goal
 

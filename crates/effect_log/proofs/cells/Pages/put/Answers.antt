@@ -1,5 +1,4 @@
-use Rattle.std.proofs.Common.{◌∙◌, ap, cond}
-use Rattle.std.specs.Prelude.{◌==◌}
+use Rattle.std.proofs.Common.{◌==◌, ◌∙◌, ap, cond}
 use Rattle.effect_log.proofs.PagesKeepCells.{cell_set}
 use Rattle.effect_log.proofs.cells.Pages.put.Goals as goal
 

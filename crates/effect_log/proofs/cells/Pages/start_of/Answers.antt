@@ -1,8 +1,8 @@
-use Rattle.std.proofs.Common.{◌≡◌, ◌∙◌, ◌++◌, None, sym, arith, length, replicate}
+use Rattle.std.proofs.Common.{◌++◌, ◌∙◌, ◌≡◌, None, arith, length, replicate, sym}
 use Rattle.std.proofs.lemmas.List.{get_or-replicate}
-use Rattle.effect_log.specs.Paging.{blank_cell}
 use Rattle.effect_log.proofs.PagesKeepCells.{any_default, page_made}
 use Rattle.effect_log.proofs.cells.Pages.start_of.Goals as goal
+use Rattle.effect_log.specs.Paging.{blank_cell}
 
 pub returns-in_ok-extend_from_slice-in-None-clause-same : goal.returns-in_ok-extend_from_slice-in-None-clause-same
 returns-in_ok-extend_from_slice-in-None-clause-same c q =

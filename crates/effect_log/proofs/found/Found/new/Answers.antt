@@ -1,7 +1,4 @@
-use Rattle.std.proofs.Common.{ap, ◌∙◌, refl}
-use Rattle.std.specs.BTreeMap.{is_at}
-use Rattle.std.specs.Map.{lookup}
-use Rattle.std.specs.Ordering.{nat_cmp}
+use Rattle.std.{proofs.Common.◌∙◌, proofs.Common.ap, proofs.Common.refl, specs.BTreeMap.is_at, specs.Map.lookup, specs.Ordering.nat_cmp}
 use Rattle.cell_value.specs.Effects.{change_at, is_shared, seen_at}
 use Rattle.effect_log.proofs.BlocksChange.{either}
 use Rattle.effect_log.proofs.found.Found.new.Goals as goal

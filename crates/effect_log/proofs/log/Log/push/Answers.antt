@@ -1,15 +1,9 @@
-use Rattle.std.proofs.Common.{◌≡◌, ◌<◌, ◌++◌, ◌∷◌, [], List, refl, ap, ◌∙◌, arith, length}
-use Rattle.std.specs.Prelude.{map}
-use Rattle.std.proofs.lemmas.List.{length-map, map-append}
-use Rattle.std.proofs.lemmas.List.Elements.{All-push}
-use Rattle.std.proofs.Math.Seq.{get_or-append_seam}
+use Rattle.std.proofs.Common.{◌++◌, ◌<◌, ◌∙◌, ◌∷◌, ◌≡◌, [], List, ap, arith, length, map, refl}
+use Rattle.std.proofs.{Math.Seq.get_or-append_seam, lemmas.List.length-map, lemmas.List.map-append, lemmas.List.Elements.All-push}
 use Rattle.cell_value.specs.declared.entries.Touch.{Touch}
-use Rattle.cell_value.specs.declared.entries.Touch.TheVariants as touch
-use Rattle.effect_log.specs.declared.log.Entry.{Entry}
-use Rattle.effect_log.specs.declared.log.Entry.TheVariants.{Aside}
-use Rattle.effect_log.specs.Entries.{IsWithin, touch_of}
 use Rattle.effect_log.proofs.AsideTouchesStay.{touches_stay}
 use Rattle.effect_log.proofs.log.Log.push.Goals as goal
+use Rattle.effect_log.specs.{Entries.IsWithin, Entries.touch_of, declared.log.Entry.Entry, declared.log.Entry.TheVariants.Aside}
 
 pub invariant_of-self-in-Some : goal.invariant_of-self-in-Some
 invariant_of-self-in-Some c =
@@ -36,5 +30,5 @@ returns-in_ok-push-in-None-2-clause-added c =
     let asides : c.push-in-None.new.self.items ≡ aside ++ c.args.touch ∷ [] = c.in_ok-push-in-None.ensures.items in
     let items : c.push-in-None-2.new.self.items ≡ entries ++ Aside c.len-place.result ∷ [] =
     c.in_ok-push-in-None-2.ensures.items ∙ ap (λ (xs : List Entry). xs ++ Aside c.len-place.result ∷ []) c.in_ok-reserve-in-None.ensures.items in
-    let last = get_or-append_seam aside c.args.touch [] (touch.Look 0) in
+    let last = get_or-append_seam aside c.args.touch [] (Touch.Look 0) in
     rw (asides, items, ← c.self.view_is, map-append, touches_stay aside c.args.touch entries c.self.invariant.within, place, last) refl

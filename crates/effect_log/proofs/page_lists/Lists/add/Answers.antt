@@ -1,11 +1,8 @@
 use Rattle.std.proofs.Common.{◌∙◌, ℕ, Option, ap, arith, length}
-use Rattle.cell_value.specs.declared.entries.Change.{Change}
-use Rattle.cell_value.specs.declared.entries.Seen.{Seen}
-use Rattle.effect_log.specs.Marks.{changed_in, seen_in}
-use Rattle.effect_log.specs.Pages.{cell_at}
-use Rattle.effect_log.proofs.AddressesAreListed.{length_listed_to}
-use Rattle.effect_log.proofs.ListsGoOn.{grows}
+use Rattle.cell_value.specs.declared.entries.{Change.Change, Seen.Seen}
+use Rattle.effect_log.proofs.{AddressesAreListed.length_listed_to, ListsGoOn.grows}
 use Rattle.effect_log.proofs.page_lists.Lists.add.Goals as goal
+use Rattle.effect_log.specs.{Marks.changed_in, Marks.seen_in, Pages.cell_at}
 
 pub add_seen-requires : goal.add_seen-requires
 add_seen-requires c =

@@ -1,4 +1,4 @@
-use Rattle.std.proofs.Common.{◌≡◌, ◌+◌, ◌*◌, arith}
+use Rattle.std.proofs.Common.{◌*◌, ◌+◌, ◌≡◌, arith}
 use Rattle.effect_log.proofs.ListsGoOn.{up_to}
 use Rattle.effect_log.proofs.page_lists.Lists.add_page.Goals as goal
 

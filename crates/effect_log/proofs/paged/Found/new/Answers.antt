@@ -1,9 +1,7 @@
-use Rattle.std.proofs.Common.{List, [], refl, subst, sym}
-use Rattle.cell_value.specs.Effects.{change_at}
-use Rattle.cell_value.specs.declared.entries.Touch.{Touch}
-use Rattle.effect_log.specs.Marks.{IsMarked}
-use Rattle.effect_log.specs.Paging.{blank_cell}
+use Rattle.std.proofs.Common.{[], List, refl, subst, sym}
+use Rattle.cell_value.specs.{Effects.change_at, declared.entries.Touch.Touch}
 use Rattle.effect_log.proofs.paged.Found.new.Goals as goal
+use Rattle.effect_log.specs.{Marks.IsMarked, Paging.blank_cell}
 
 nothing_marked : (log : List Touch) (addr : _) → IsMarked log [] addr blank_cell
 unfolding change_at

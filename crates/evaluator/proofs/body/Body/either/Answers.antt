@@ -1,8 +1,7 @@
-use Rattle.std.proofs.Common.{ap, if◌then◌else◌, arith}
-use Rattle.evaluator.specs.Rest.{from}
-use Rattle.evaluator.proofs.StepsFall.{falls_so}
-use Rattle.evaluator.proofs.Turning.{turns_same}
+use Rattle.std.proofs.Common.{if◌then◌else◌, ap, arith}
+use Rattle.evaluator.proofs.{StepsFall.falls_so, Turning.turns_same}
 use Rattle.evaluator.proofs.body.Body.either.Goals as goal
+use Rattle.evaluator.specs.Rest.{from}
 
 pub returns-then-taken-clause-turns : goal.returns-then-taken-clause-turns
 returns-then-taken-clause-turns c p m =

@@ -1,9 +1,9 @@
 use Rattle.std.proofs.Common.{arith}
 use Rattle.core_program.specs.Statements.{nothing}
-use Rattle.evaluator.specs.Rest.{waiting}
-use Rattle.evaluator.proofs.StepsFall.{steps_fall, falls_so}
+use Rattle.evaluator.proofs.StepsFall.{falls_so, steps_fall}
 use Rattle.evaluator.proofs.Turning.{did, fails, falls_failed, turns_after, turns_failed}
 use Rattle.evaluator.proofs.body.Body.finally.Goals as goal
+use Rattle.evaluator.specs.Rest.{waiting}
 
 pub returns-in-Ok-clause-turns : goal.returns-in-Ok-clause-turns
 returns-in-Ok-clause-turns c p a m m' h = turns_after p _ _ m m' m' c.go.result c.go.new.self

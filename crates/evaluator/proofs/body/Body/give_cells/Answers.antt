@@ -1,9 +1,8 @@
-use Rattle.std.proofs.Common.{sym, ap}
+use Rattle.std.proofs.Common.{ap, sym}
 use Rattle.core_program.specs.Tree.{Cells}
-use Rattle.evaluator.specs.Rest.{resume, top_list, below_top, tasks_of, values_of}
-use Rattle.evaluator.proofs.Moves.{comes_same}
-use Rattle.evaluator.proofs.Turning.{reverse_pushed}
+use Rattle.evaluator.proofs.{Moves.comes_same, Turning.reverse_pushed}
 use Rattle.evaluator.proofs.body.Body.give_cells.Goals as goal
+use Rattle.evaluator.specs.Rest.{below_top, resume, tasks_of, top_list, values_of}
 
 pub returns-clause-turns : goal.returns-clause-turns
 returns-clause-turns c p m = comes_same (sym (

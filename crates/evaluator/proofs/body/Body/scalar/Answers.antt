@@ -1,10 +1,10 @@
 use Rattle.std.proofs.Common.{arith}
 use Rattle.cell_value.specs.declared.values.Value.{Value}
 use Rattle.core_program.specs.Accesses.{scalar}
-use Rattle.evaluator.specs.Rest.{waiting}
-use Rattle.evaluator.proofs.StepsFall.{steps_fall, falls_so}
+use Rattle.evaluator.proofs.StepsFall.{falls_so, steps_fall}
 use Rattle.evaluator.proofs.Turning.{did, fails, falls_failed, turns_after, turns_failed}
 use Rattle.evaluator.proofs.body.Body.scalar.Goals as goal
+use Rattle.evaluator.specs.Rest.{waiting}
 
 pub returns-in-Ok-clause-turns : goal.returns-in-Ok-clause-turns
 returns-in-Ok-clause-turns c p a m m' h = turns_after p _ _ m m' m' c.go.result c.go.new.self

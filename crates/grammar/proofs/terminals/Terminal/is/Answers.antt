@@ -1,8 +1,8 @@
 use Rattle.std.proofs.Common.{◌∙◌, sym}
-use Rattle.grammar.proofs.Testing.{is-same}
 use denote.Enum.Bare.{same_true}
-use Rattle.grammar.specs.contracts.terminals.Terminal.{the_type}
+use Rattle.grammar.proofs.Testing.{is-same}
 use Rattle.grammar.proofs.terminals.Terminal.is.Goals as goal
+use Rattle.grammar.specs.contracts.terminals.Terminal.{the_type}
 
 pub returns-clause-tests : goal.returns-clause-tests
 returns-clause-tests c = c.eq.ensures ∙ is-same c.args.self c.args.wanted

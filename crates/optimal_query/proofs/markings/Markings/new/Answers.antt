@@ -1,10 +1,8 @@
-use Rattle.std.proofs.Common.{◌≡◌, ℕ, zero, suc, ◌∷◌, replicate, length, refl, sym, ap, ◌∙◌, rules}
-use Rattle.std.specs.Prelude.{map}
+use Rattle.std.proofs.Common.{◌∙◌, ◌∷◌, ◌≡◌, ℕ, ap, length, map, refl, replicate, rules, suc, sym, zero}
 use Rattle.std.proofs.lemmas.List.{length-map, length-replicate}
-use Rattle.call_tree.specs.declared.records.Call.{Call}
-use Rattle.call_tree.specs.declared.records.Mark.TheVariants.{Unjudged}
-use Rattle.optimal_query.specs.Markings.{askable_flag}
+use Rattle.call_tree.specs.declared.records.{Call.Call, Mark.TheVariants.Unjudged}
 use Rattle.optimal_query.proofs.markings.Markings.new.Goals as goal
+use Rattle.optimal_query.specs.Markings.{askable_flag}
 
 unjudged_flags : (n : ℕ) → map askable_flag (replicate n Unjudged) ≡ replicate n 1
 unjudged_flags zero = refl

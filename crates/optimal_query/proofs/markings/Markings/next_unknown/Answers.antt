@@ -1,8 +1,8 @@
-use Rattle.std.proofs.Common.{sym, subst, List, ℕ}
-use Rattle.optimal_query.specs.Nested.{AreNested}
-use Rattle.optimal_query.proofs.NextDoubt.{are_nested}
+use Rattle.std.proofs.Common.{ℕ, List, subst, sym}
 use Rattle.call_tree.specs.Recording.{lasts_of, parents_of}
+use Rattle.optimal_query.proofs.NextDoubt.{are_nested}
 use Rattle.optimal_query.proofs.markings.Markings.next_unknown.Goals as goal
+use Rattle.optimal_query.specs.Nested.{AreNested}
 
 pub next_doubt-requires-clause-nested : goal.next_doubt-requires-clause-nested
 next_doubt-requires-clause-nested c =

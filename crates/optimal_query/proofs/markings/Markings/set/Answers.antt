@@ -1,8 +1,7 @@
-use Rattle.std.proofs.Common.{sym, ap, ◌∙◌}
-use Rattle.std.specs.Prelude.{map, slice_set}
+use Rattle.std.proofs.Common.{◌∙◌, ap, map, slice_set, sym}
 use Rattle.std.proofs.lemmas.List.{length-set, map-set}
-use Rattle.optimal_query.specs.Markings.{askable_flag}
 use Rattle.optimal_query.proofs.markings.Markings.set.Goals as goal
+use Rattle.optimal_query.specs.Markings.{askable_flag}
 
 pub invariant_of-self : goal.invariant_of-self
 invariant_of-self g c =

@@ -1,6 +1,6 @@
-use Rattle.std.proofs.Common.{map, sym, ap, ◌∙◌}
-use Rattle.optimal_query.specs.Markings.{askable_flag}
+use Rattle.std.proofs.Common.{◌∙◌, ap, map, sym}
 use Rattle.optimal_query.proofs.markings.Markings.set_all.Goals as goal
+use Rattle.optimal_query.specs.Markings.{askable_flag}
 
 pub look_up-requires-clause-were : goal.look_up-requires-clause-were
 look_up-requires-clause-were g c = rw (c.deref_mut.ensures.value, c.self.invariant.same, c.self.view_is) c.requires.were

@@ -1,5 +1,4 @@
-use Rattle.std.proofs.Common.{refl, sym, ap, ◌∙◌, arith}
-use Rattle.std.specs.Prelude.{slice_index}
+use Rattle.std.proofs.Common.{◌∙◌, ap, arith, refl, slice_index, sym}
 use Rattle.subtree_weights.specs.RunColumns.{Columns}
 use Rattle.optimal_query.proofs.CallsOfRoutine.{up_to_all, up_to_next, up_to_none, ways_to_end, ways_to_next, with_these}
 use Rattle.optimal_query.proofs.Changes.{one_length}

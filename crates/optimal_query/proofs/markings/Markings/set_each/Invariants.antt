@@ -1,7 +1,7 @@
-use Rattle.std.proofs.Common.{◌≡◌, ◌+◌, ◌-◌, ◌≤◌, length}
-use Rattle.optimal_query.specs.Changed.{ways_up}
+use Rattle.std.proofs.Common.{◌+◌, ◌-◌, ◌≡◌, ◌≤◌, length}
 use Rattle.optimal_query.proofs.CallsOfRoutine.{AreUpTo}
 use Rattle.optimal_query.proofs.markings.Markings.set_each.Given as goal
+use Rattle.optimal_query.specs.Changed.{ways_up}
 
 abbrev pub invariant-calls : goal.invariant-calls
 invariant-calls g l = record {

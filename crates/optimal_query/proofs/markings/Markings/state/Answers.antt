@@ -1,16 +1,10 @@
-use Rattle.std.proofs.Common.{◌≡◌, ℕ, List, None, length, sym, subst, ap, ◌∙◌}
-use Rattle.std.specs.Prelude.{map}
-use Rattle.call_tree.specs.Numbering.{IsNumbered}
-use Rattle.call_tree.specs.Recording.{lasts_of, parents_of}
-use Rattle.subtree_weights.specs.RunColumns.{Columns}
-use Rattle.subtree_weights.specs.Weighed.{Weighed, weight_in, weights_in}
-use Rattle.optimal_query.specs.declared.state.SearchState.TheVariants.{Ask}
-use Rattle.optimal_query.specs.Markings.{askable_flag, verdict_from}
-use Rattle.optimal_query.specs.Nested.{AreNested}
-use Rattle.optimal_query.specs.Region.{doubts_of, next_after}
-use Rattle.optimal_query.proofs.NextDoubt.{are_nested}
-use Rattle.optimal_query.proofs.WeightsTell.{Marked, is_field, state_asks, state_ends}
+use Rattle.std.proofs.Common.{◌∙◌, ◌≡◌, ℕ, List, None, ap, length, map, subst, sym}
+use Rattle.call_tree.specs.{Numbering.IsNumbered, Recording.lasts_of, Recording.parents_of}
+use Rattle.subtree_weights.specs.{RunColumns.Columns, Weighed.Weighed, Weighed.weight_in, Weighed.weights_in}
+use Rattle.optimal_query.proofs.{NextDoubt.are_nested, WeightsTell.Marked, WeightsTell.is_field, WeightsTell.state_asks, WeightsTell.state_ends}
 use Rattle.optimal_query.proofs.markings.Markings.state.Goals as goal
+use Rattle.optimal_query.specs.{Nested.AreNested, Region.doubts_of, Region.next_after, declared.state.SearchState.TheVariants.Ask}
+use Rattle.optimal_query.specs.Markings.{askable_flag, verdict_from}
 
 pub next_doubt-requires-clause-nested : goal.next_doubt-requires-clause-nested
 next_doubt-requires-clause-nested c =

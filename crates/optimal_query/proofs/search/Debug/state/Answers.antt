@@ -1,4 +1,4 @@
-use Rattle.std.proofs.Common.{sym, ◌∙◌}
+use Rattle.std.proofs.Common.{◌∙◌, sym}
 use Rattle.optimal_query.proofs.Changes.{accused_known}
 use Rattle.optimal_query.proofs.search.Debug.state.Goals as goal
 

@@ -1,10 +1,9 @@
-use Rattle.std.proofs.Common.{◌≡◌, ◌∙◌, ℕ, List, Some, sym, ap, arith}
+use Rattle.std.proofs.Common.{◌∙◌, ◌≡◌, ℕ, List, Some, ap, arith, sym}
+use Rattle.subtree_weights.specs.RunColumns.{Columns}
 use Rattle.answer_book.specs.Entries.{entry_at, entry_saying}
-use Rattle.optimal_query.specs.Changed.{change_steps, most_steps_at}
-use Rattle.optimal_query.specs.Search.{Search}
 use Rattle.optimal_query.proofs.Changes.{entry_before, last_stood, were_withdrawn, without_length}
 use Rattle.optimal_query.proofs.search.Debug.take_back_last.Goals as goal
-use Rattle.subtree_weights.specs.RunColumns.{Columns}
+use Rattle.optimal_query.specs.{Changed.change_steps, Changed.most_steps_at, Search.Search}
 
 pub entry-what-requires-clause-from_one : goal.entry-what-requires-clause-from_one
 entry-what-requires-clause-from_one g c = (last_stood c.self.inside.book c.in-Ok.number (sym c.in-Ok.ensures.answer)).from_one

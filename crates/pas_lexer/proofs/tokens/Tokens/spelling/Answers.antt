@@ -1,4 +1,4 @@
-use Rattle.std.proofs.Common.{arith, ap, length}
+use Rattle.std.proofs.Common.{ap, arith, length}
 use Rattle.pas_lexer.proofs.SpellingsInOrder.{found, found_spelling}
 use Rattle.pas_lexer.proofs.tokens.Tokens.spelling.Goals as goal
 

@@ -1,6 +1,6 @@
-use Rattle.std.proofs.Common.{◌∙◌, length, sym, ap, arith}
+use Rattle.std.proofs.Common.{◌∙◌, ap, arith, length, sym}
 use Rattle.grammar.specs.Nodes.{next}
-use Rattle.pas_phrases.proofs.NextToken.{token_there, token_nowhere}
+use Rattle.pas_phrases.proofs.NextToken.{token_nowhere, token_there}
 use Rattle.pas_phrases.proofs.looking.TerminalList.get.Goals as goal
 
 pub returns-in-Some-clause-next : goal.returns-in-Some-clause-next

@@ -1,4 +1,4 @@
-use Rattle.std.proofs.Common.{ap, get_or, None, ◌∙◌}
+use Rattle.std.proofs.Common.{◌∙◌, None, ap, get_or}
 use Rattle.persistent_store.proofs.NodeLemmas.{node-set}
 use Rattle.persistent_store.proofs.nodes.Branch.changed.Goals as goal
 

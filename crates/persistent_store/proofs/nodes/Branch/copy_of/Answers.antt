@@ -1,7 +1,7 @@
-use Rattle.std.proofs.Common.{ap, sym, get_or, None, option_copied, ◌∙◌}
-use Rattle.persistent_store.specs.Nodes.{node_entry}
+use Rattle.std.proofs.Common.{◌∙◌, None, ap, get_or, option_copied, sym}
 use Rattle.persistent_store.proofs.NodeLemmas.{entries_alike, entries_none}
 use Rattle.persistent_store.proofs.nodes.Branch.copy_of.Goals as goal
+use Rattle.persistent_store.specs.Nodes.{node_entry}
 
 pub returns-in_ok-clone-in-Some : goal.returns-in_ok-clone-in-Some
 returns-in_ok-clone-in-Some g c = record {

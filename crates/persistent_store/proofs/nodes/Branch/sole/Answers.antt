@@ -1,4 +1,4 @@
-use Rattle.std.proofs.Common.{refl, ◌∙◌}
+use Rattle.std.proofs.Common.{◌∙◌, refl}
 use Rattle.persistent_store.proofs.NodeLemmas.{if_some, some_there}
 use Rattle.persistent_store.proofs.nodes.Branch.sole.Goals as goal
 

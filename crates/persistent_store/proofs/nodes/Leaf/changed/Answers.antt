@@ -1,4 +1,4 @@
-use Rattle.std.proofs.Common.{◌<◌, length, arith}
+use Rattle.std.proofs.Common.{◌<◌, arith, length}
 use Rattle.persistent_store.proofs.NodeLemmas.{values-set}
 use Rattle.persistent_store.proofs.nodes.Leaf.changed.Goals as goal
 

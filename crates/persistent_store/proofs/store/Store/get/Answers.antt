@@ -1,8 +1,8 @@
-use Rattle.std.proofs.Common.{ap, sym, ◌∙◌}
+use Rattle.std.proofs.Common.{◌∙◌, ap, sym}
 use Rattle.std.specs.FinMap as map
-use Rattle.persistent_store.specs.Nodes.{cell_at}
 use Rattle.persistent_store.proofs.MapLemmas.{get-map_of}
 use Rattle.persistent_store.proofs.store.Store.get.Goals as goal
+use Rattle.persistent_store.specs.Nodes.{cell_at}
 
 pub returns : goal.returns
 returns c =

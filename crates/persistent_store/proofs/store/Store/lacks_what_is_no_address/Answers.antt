@@ -1,4 +1,4 @@
-use Rattle.std.proofs.Common.{ap, sym, ◌∙◌}
+use Rattle.std.proofs.Common.{◌∙◌, ap, sym}
 use Rattle.std.specs.FinMap as map
 use Rattle.persistent_store.proofs.MapLemmas.{get-map_of_past}
 use Rattle.persistent_store.proofs.store.Store.lacks_what_is_no_address.Goals as goal

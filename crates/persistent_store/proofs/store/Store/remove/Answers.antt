@@ -1,5 +1,5 @@
-use Rattle.std.proofs.Common.{sym, ◌∙◌}
-use Rattle.persistent_store.proofs.MapLemmas.{remove_absent, none_from_is_some}
+use Rattle.std.proofs.Common.{◌∙◌, sym}
+use Rattle.persistent_store.proofs.MapLemmas.{none_from_is_some, remove_absent}
 use Rattle.persistent_store.proofs.store.Store.remove.Goals as goal
 
 pub returns-then-is_none-clause-gone : goal.returns-then-is_none-clause-gone

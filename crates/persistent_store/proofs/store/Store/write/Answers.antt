@@ -1,7 +1,7 @@
-use Rattle.std.proofs.Common.{ap, ◌∙◌}
-use Rattle.persistent_store.specs.Addresses.{with_cell}
+use Rattle.std.proofs.Common.{◌∙◌, ap}
 use Rattle.persistent_store.proofs.MapLemmas.{map_of-with_cell}
 use Rattle.persistent_store.proofs.store.Store.write.Goals as goal
+use Rattle.persistent_store.specs.Addresses.{with_cell}
 
 pub returns-clause-written : goal.returns-clause-written
 returns-clause-written g c =

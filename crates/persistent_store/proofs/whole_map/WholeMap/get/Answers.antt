@@ -1,4 +1,4 @@
-use Rattle.std.proofs.Common.{ap, sym, ◌∙◌}
+use Rattle.std.proofs.Common.{◌∙◌, ap, sym}
 use Rattle.std.specs.FinMap as map
 use Rattle.persistent_store.proofs.MapLemmas.{get-map_of}
 use Rattle.persistent_store.proofs.whole_map.WholeMap.get.Goals as goal

@@ -1,4 +1,4 @@
-use Rattle.std.proofs.Common.{ap, ◌∙◌}
+use Rattle.std.proofs.Common.{◌∙◌, ap}
 use Rattle.std.specs.FinMap as map
 use Rattle.persistent_store.proofs.MapLemmas.{map_of-insert, tree_changes}
 use Rattle.persistent_store.proofs.whole_map.WholeMap.put.Goals as goal

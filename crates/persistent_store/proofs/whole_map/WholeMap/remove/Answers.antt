@@ -1,4 +1,4 @@
-use Rattle.std.proofs.Common.{ap, ◌∙◌}
+use Rattle.std.proofs.Common.{◌∙◌, ap}
 use Rattle.std.specs.FinMap as map
 use Rattle.persistent_store.proofs.MapLemmas.{map_of-remove, tree_changes}
 use Rattle.persistent_store.proofs.whole_map.WholeMap.remove.Goals as goal

@@ -1,4 +1,4 @@
-use Rattle.program_run.proofs.CallsEnd.{by_return, by_jump}
+use Rattle.program_run.proofs.CallsEnd.{by_jump, by_return}
 use Rattle.program_run.proofs.runner.Runner.end.Goals as goal
 
 pub returns-in-Returned-clause-rests : goal.returns-in-Returned-clause-rests

@@ -1,16 +1,14 @@
-use Rattle.std.specs.Prelude.{map, reverse}
-use Rattle.program_run.specs.declared.runner.Runner.{Runner}
-use Rattle.std.proofs.Common.{◌+◌, ◌≤◌, length, length-append, ◌≡◌, Some, refl, sym, ap, subst, ◌∙◌, arith}
+use Rattle.std.proofs.Common.{◌+◌, ◌∙◌, ◌≡◌, ◌≤◌, Some, ap, arith, length, length-append, map, refl, reverse, subst, sym}
 use Rattle.std.proofs.lemmas.Option.{slice_get_within}
+use Rattle.core_program.specs.{ProgramRows.routine_at, Run.Halted, Run.whole}
 use Rattle.call_tree.specs.Recording.{entered}
-use Rattle.core_program.specs.ProgramRows.{routine_at}
 use Rattle.eval_ops.specs.Machines.{moment_of}
-use Rattle.core_program.specs.Run.{Halted, whole}
-use Rattle.program_run.specs.Tower.{Ends, Rests, TowerAt, View, activation}
-use Rattle.program_run.specs.Runners.{CallBegun, invocation, open_in, rest_in, view_of, work_left}
 use Rattle.program_run.proofs.RunnerSteps.{begun_calls, counted_entered, entered_stands, few_begun, on_ok, pushed}
 use Rattle.program_run.proofs.StepsLeadToTheRun.{calls_same, routines_same}
 use Rattle.program_run.proofs.runner.Runner.enter.Goals as goal
+use Rattle.program_run.specs.Runners.{CallBegun, invocation, open_in, rest_in, view_of, work_left}
+use Rattle.program_run.specs.Tower.{Ends, Rests, TowerAt, View, activation}
+use Rattle.program_run.specs.declared.runner.Runner.{Runner}
 
 pub enter-requires-clause-few : goal.enter-requires-clause-few
 enter-requires-clause-few c = let e = calls_same c.requires.calls.1 in let r = c.requires.room.calls in omega (arith, e, r)

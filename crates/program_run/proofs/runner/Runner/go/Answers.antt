@@ -1,6 +1,6 @@
 use Rattle.std.proofs.Common.{subst}
-use Rattle.program_run.specs.Runners.{AtRest}
 use Rattle.program_run.proofs.runner.Runner.go.Goals as goal
+use Rattle.program_run.specs.Runners.{AtRest}
 
 pub returns-in-None : goal.returns-in-None
 returns-in-None c = record {

@@ -1,6 +1,6 @@
 use Rattle.core_program.specs.State.{State}
-use Rattle.program_run.specs.Runners.{AtRest, Chain, IsWell, opens_in, work_left}
 use Rattle.program_run.proofs.runner.Runner.go.Given as goal
+use Rattle.program_run.specs.Runners.{AtRest, Chain, IsWell, opens_in, work_left}
 
 abbrev pub invariant-stops : goal.invariant-stops
 invariant-stops l =

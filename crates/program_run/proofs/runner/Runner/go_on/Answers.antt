@@ -1,15 +1,10 @@
-use Rattle.program_run.specs.declared.runner.Runner.{Runner}
-use Rattle.std.proofs.Common.{◌≡◌, ◌+◌, ◌<◌, ◌≤◌, arith, sym, subst}
-use Rattle.eval_ops.specs.Machines.{moment_of}
-use Rattle.evaluator.specs.Stops.{AtLine, AtCall, AtEnd, NextStopIs}
-use Rattle.evaluator.specs.Rest.{rest_of, waiting}
+use Rattle.std.proofs.Common.{◌+◌, ◌<◌, ◌≡◌, ◌≤◌, arith, subst, sym}
 use Rattle.core_program.specs.Replay.{end_of}
-use Rattle.evaluator.specs.Turns.{stop_of}
-use Rattle.program_run.specs.Tower.{Calls, TowerAt}
-use Rattle.program_run.specs.Runners.{AtRest, rest_in, view_of, work_left}
-use Rattle.program_run.proofs.RunnerSteps.{calls_onward, few_onward, on_ok, steps_onward}
-use Rattle.program_run.proofs.StepsLeadToTheRun.{climb}
+use Rattle.eval_ops.specs.Machines.{moment_of}
+use Rattle.evaluator.specs.{Rest.rest_of, Rest.waiting, Stops.AtCall, Stops.AtEnd, Stops.AtLine, Stops.NextStopIs, Turns.stop_of}
+use Rattle.program_run.proofs.{RunnerSteps.calls_onward, RunnerSteps.few_onward, RunnerSteps.on_ok, RunnerSteps.steps_onward, StepsLeadToTheRun.climb}
 use Rattle.program_run.proofs.runner.Runner.go_on.Goals as goal
+use Rattle.program_run.specs.{Runners.AtRest, Runners.rest_in, Runners.view_of, Runners.work_left, Tower.Calls, Tower.TowerAt, declared.runner.Runner.Runner}
 
 pub enter-requires-clause-well : goal.enter-requires-clause-well
 enter-requires-clause-well c = record {

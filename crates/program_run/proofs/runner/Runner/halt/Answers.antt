@@ -1,5 +1,4 @@
-use Rattle.std.proofs.Common.{arith}
-use Rattle.std.proofs.lemmas.Bool.Decides.{nat_tests}
+use Rattle.std.proofs.{Common.arith, lemmas.Bool.Decides.nat_tests}
 use Rattle.program_run.proofs.CallsEnd.{halted, no_calls}
 use Rattle.program_run.proofs.runner.Runner.halt.Goals as goal
 

@@ -1,10 +1,7 @@
 use Rattle.std.proofs.Common.{◌≡◌, length}
-use Rattle.core_program.specs.ProgramRows.{ProgramRows}
-use Rattle.core_program.specs.State.{State}
-use Rattle.core_program.specs.Run.{Halted}
-use Rattle.program_run.specs.Tower.{Ends}
-use Rattle.program_run.specs.Runners.{At, IsWell}
+use Rattle.core_program.specs.{ProgramRows.ProgramRows, Run.Halted, State.State}
 use Rattle.program_run.proofs.runner.Runner.halt.Given as goal
+use Rattle.program_run.specs.{Runners.At, Runners.IsWell, Tower.Ends}
 
 abbrev pub invariant-calls : goal.invariant-calls
 invariant-calls l =

@@ -1,15 +1,11 @@
-use Rattle.std.proofs.Common.{◌≡◌, ◌-◌, ◌++◌, ◌∷◌, [], length, map, ap, sym, subst, ◌∙◌, arith}
-use Rattle.std.specs.Prelude.{reverse}
-use Rattle.std.specs.Option.{option_to_list}
-use Rattle.std.proofs.lemmas.List.{reverse-append}
-use Rattle.call_tree.specs.Recording.{left}
+use Rattle.std.proofs.Common.{◌++◌, ◌-◌, ◌∙◌, ◌∷◌, ◌≡◌, [], ap, arith, length, map, reverse, subst, sym}
+use Rattle.std.{proofs.lemmas.List.reverse-append, specs.Option.option_to_list}
 use Rattle.core_program.specs.Run.{call_closed, without_frame}
+use Rattle.call_tree.specs.Recording.{left}
 use Rattle.eval_ops.specs.Machines.{moment_of}
-use Rattle.program_run.specs.Table.{side_of}
-use Rattle.program_run.specs.Tower.{TowerAt, stage_after}
-use Rattle.program_run.specs.Runners.{open_in, rest_in, view_of}
 use Rattle.program_run.proofs.StepsLeadToTheRun.{climb_leave}
 use Rattle.program_run.proofs.runner.Runner.leave.Goals as goal
+use Rattle.program_run.specs.{Runners.open_in, Runners.rest_in, Runners.view_of, Table.side_of, Tower.TowerAt, Tower.stage_after}
 
 pub unwrap-open-requires : goal.unwrap-open-requires
 unwrap-open-requires c = c.pop.ensures.variant.1 (let o = c.args.self.now.opens.ok in let h = c.requires.open in omega (arith, o, h))

@@ -1,7 +1,7 @@
-use Rattle.std.proofs.Common.{◌≡◌, ◌<◌, length, set, arith}
-use Rattle.subtree_weights.specs.Kept.{weighed_of}
+use Rattle.std.proofs.Common.{◌<◌, ◌≡◌, arith, length, set}
 use Rattle.subtree_weights.proofs.KeptLemmas.{change_starts, few_under, read_is}
 use Rattle.subtree_weights.proofs.weights.Weights.changed.Goals as goal
+use Rattle.subtree_weights.specs.Kept.{weighed_of}
 
 pub weight_given-requires : goal.weight_given-requires
 weight_given-requires g c =

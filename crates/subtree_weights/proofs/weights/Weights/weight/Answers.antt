@@ -1,7 +1,7 @@
-use Rattle.std.proofs.Common.{◌<◌, length, ◌∙◌, arith}
-use Rattle.subtree_weights.specs.Kept.{weighed_of}
+use Rattle.std.proofs.Common.{◌<◌, ◌∙◌, arith, length}
 use Rattle.subtree_weights.proofs.KeptLemmas.{read_is, weight_is_kept}
 use Rattle.subtree_weights.proofs.weights.Weights.weight.Goals as goal
+use Rattle.subtree_weights.specs.Kept.{weighed_of}
 
 pub returns : goal.returns
 returns c =
