@@ -31,7 +31,7 @@ function readCell(card, line) {
   return 0;
 }
 
-const ENDS = /^(returned|faulted \w+ line \d+|out of steps|jumped to \d+(?: of call \d+)?|limited \w+)$/;
+const ENDS = /^(returned|faulted \w+ line \d+|out of steps|jumped to \d+ of (?:call|frame) \d+|limited \w+)$/;
 
 function readLine(card, line) {
   const quoted = /^(looks|takes|gives) (".*")( end)?$/.exec(line);

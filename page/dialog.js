@@ -42,6 +42,11 @@ export class Dialog {
     return this.shown === null ? null : this.shown.report;
   }
 
+  // Whether there is anything that a session on a corrected program could use.
+  get hasAnswers() {
+    return this.shown !== null && (this.session.lines.length > 0 || this.session.saved !== null);
+  }
+
   get questionCall() {
     return this.report !== null && this.report.kind === 'ask' ? this.report.call : -1;
   }
@@ -72,7 +77,7 @@ export class Dialog {
     if (this.session !== session) return;
     if (!this.failed(came)) {
       const reply = came.replies[session.lines.length] ?? '';
-      const isTaken = /^(entry|back) \d+$/.test(reply);
+      const isTaken = /^(entry|back|noted) \d+$/.test(reply);
       if (isTaken) session.lines.push(line);
       this.note = isTaken ? '' : reply;
       if (isTaken) this.took(came);
@@ -104,7 +109,7 @@ export class Dialog {
   took(came) {
     this.shown = came;
     this.cost = { time: came.time, memory: came.memory };
-    this.entries = entriesOf(this.session, came.replies);
+    this.entries = entriesOf(this.session, came.replies, came.isRepliesOnly);
     if (this.tree !== null) markBy(this.tree, this.entries);
     this.accused = this.tree === null ? -1 : accusedOf(this.tree);
     this.suspects = this.tree === null ? [] : suspectsOf(this.tree);

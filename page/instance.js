@@ -9,7 +9,7 @@ const WORD = 8;
 const SMALL_ROOM = (1 << 20) - WORD;
 const LARGE_ROOM = (1 << 24) - WORD;
 const MOST_ROOM = (1 << 28) - WORD;
-const SESSION_ROOM = 1 << 24;
+const SESSION_ROOM = 40_000_000;
 const SAVES = /^[ \t]*save[ \t]/m;
 const SCREEN_FAILED = 6;
 // What came: the status, the bytes of the screen, whether a session was saved, and its bytes.

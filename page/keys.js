@@ -56,7 +56,7 @@ function connectFiles(programs) {
 export function connect(desk, { programs, answers, finder, print }) {
   const buttons = {
     open: () => byId('file').click(), load: () => byId('sessionFile').click(), save: () => programs.saveSession(), print,
-    run: () => programs.run(), stop: () => desk.engine.stop(), help: () => openHelp(desk), trusted: () => openTrusted(desk),
+    run: () => programs.runEdited(), stop: () => desk.engine.stop(), help: () => openHelp(desk), trusted: () => openTrusted(desk),
     unfold: () => desk.tree.openAll(true), foldUp: () => desk.tree.openAll(false),
   };
   for (const [id, act] of Object.entries(buttons)) whenPressed(byId(id), act);

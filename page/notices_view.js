@@ -30,7 +30,9 @@ function problemNotice({ problem, session }, refusal, acts) {
 }
 
 function staleNotice(session, { putBack }) {
-  const view = notice('', 'You changed the program, its input or the steps. Run it again, and questions begin anew.');
+  const isOffered = session.lines.length > 0 || session.saved !== null;
+  const view = notice('', 'You changed the program, its input or the steps. Run it again, and questions begin anew',
+    isOffered ? '; where one reads as it did, your answer is offered again.' : '.');
   if (session.lines.length > 0) view.append(make('p', button('', { onclick: putBack }, 'Put back what the answers are about')));
   return view;
 }
@@ -41,6 +43,9 @@ export function noticesOf(dialog, isStale, refusal, acts) {
   const notices = [];
   if (isBusy) notices.push(make('p.working', { role: 'status' }, 'Running\u2026'));
   else if (problem !== null && !(isStale && problem.kind === 'refused')) notices.push(problemNotice(dialog, refusal, acts));
+  if (dialog.shown !== null && dialog.shown.isRepliesOnly && session.lines.length === 0) {
+    notices.push(notice('', 'These answers were given on another text of the program. Where a question reads as it did, its answer is offered.'));
+  }
   if (note !== '') notices.push(notice('', replySaid(note)));
   if (isStale && dialog.shown !== null) notices.push(staleNotice(session, acts));
   if (!dialog.isKept) notices.push(notice('', 'This browser cannot keep your answers: save them before you close the page.'));

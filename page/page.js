@@ -35,7 +35,7 @@ const context = {
 const onPaper = { ...context, cardContext: (call) => ({ ...context, looking: answers.looking(call, false) }) };
 
 const painter = new Painter(desk, context, {
-  open: () => byId('file').click(), run: () => programs.run(), pick: (at) => programs.pickExample(at),
+  open: () => byId('file').click(), run: () => programs.runEdited(), pick: (at) => programs.pickExample(at),
   goOn: (kept) => programs.goOnWith(kept), putBack: () => programs.putBack(),
 });
 

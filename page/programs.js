@@ -62,6 +62,13 @@ export class Programs {
     await this.onRun();
   }
 
+  // The editor's text, once it was changed: the answers on the text before are offered where a question reads as it did.
+  async runEdited() {
+    const { dialog, isEdited } = this.desk;
+    if (dialog.isBusy) return;
+    await this.run(isEdited && dialog.hasAnswers ? await dialog.saved() : null);
+  }
+
   pickExample(at) {
     const example = this.desk.examples[at];
     byId('budget').value = '1000000';

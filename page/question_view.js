@@ -7,6 +7,7 @@ import { lineOfCall } from './trace.js';
 import { mostQuestions, questionOf } from './forecast.js';
 import { traceView } from './trace_view.js';
 import { verdictView } from './verdict_view.js';
+import { KEPT_SAID } from './words.js';
 
 const MANY = 5;
 const MOST_SHARE = 0.5;
@@ -64,6 +65,13 @@ function commentView(routine) {
 
 export const routineOf = (dialog, outline, call) => (dialog.tree === null ? undefined : outline.routines[dialog.tree.routine[call]]);
 
+// The answer that was given to this question before the program was changed. It is given again only on a press.
+function keptView(report, context) {
+  if (!report.kept) return null;
+  return make('p.kept', `Before the program was changed you answered \u201c${KEPT_SAID[report.kept]}\u201d to this question. `,
+    button('.small', { id: 'same', onclick: () => context.say(`${report.kept} ${report.call}`) }, 'The same again'));
+}
+
 export function questionView(dialog, outline, context) {
   const card = dialog.cards.get(dialog.questionCall);
   const routine = routineOf(dialog, outline, card.call);
@@ -73,6 +81,7 @@ export function questionView(dialog, outline, context) {
     whereView(card, dialog, context),
     dialog.shown.questions.length === 1 ? make('p.judge', 'Judge what this call did with what it got, and with all the calls that it made. How it is written does not matter yet.') : null,
     commentView(routine),
+    keptView(dialog.report, context),
     compareView(dialog, context),
     cardParts(card, context.cardContext(card.call)));
 }

@@ -22,6 +22,7 @@ function entryView(entry, dialog, context) {
   const name = isTrust ? dialog.tree.names[entry.routine] : nameOf(dialog.tree, entry.call);
   const card = isTrust ? undefined : dialog.cards.get(entry.call);
   return make('section.entry', make('h3', `${entry.number}. `, make('code', name), isTrust ? '' : `, call ${entry.call},`, ` ${SAID_OF[entry.kind]}`),
+    entry.note === undefined ? null : make('p.noted', entry.note),
     card === undefined ? null : cardParts(card, context.cardContext(entry.call)));
 }
 

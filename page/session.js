@@ -6,9 +6,10 @@ const STEPS = '1000000';
 
 export const newSession = (name, source, input, budget = STEPS, saved = null) => ({ name, source, input, budget, saved, lines: [] });
 
-// The entries that a saved session begins with; call 0 counts as wrong from the start.
-function firstEntries(saved) {
-  if (saved === null) return [{ number: 1, kind: 'wrong', call: 0, standing: true }];
+// The entries that a saved session begins with; call 0 counts as wrong from the start. A session of another text of the
+// program gives no entries.
+function firstEntries(saved, isRepliesOnly) {
+  if (saved === null || isRepliesOnly) return [{ number: 1, kind: 'wrong', call: 0, standing: true }];
   try {
     return JSON.parse(latin(saved)).entries.map((entry, at) => ({ number: at + 1, ...entry }));
   } catch {
@@ -23,15 +24,18 @@ function saidBy(line) {
   return trusted === null ? null : { kind: 'trust', routine: Number(trusted[1]) };
 }
 
-// All entries by the lines and the reply that each got: `number`, `kind`, `call` or `routine`, and whether it stands.
-export function entriesOf(session, replies) {
-  const entries = firstEntries(session.saved);
+// All entries by the lines and the reply that each got: `number`, `kind`, `call` or `routine`, whether it stands, and the
+// `note` on it, if it has one.
+export function entriesOf(session, replies, isRepliesOnly = false) {
+  const entries = firstEntries(session.saved, isRepliesOnly);
   session.lines.forEach((line, at) => {
     const reply = replies[at] ?? '';
     const made = /^entry (\d+)$/.exec(reply);
     const gone = /^back (\d+)$/.exec(reply);
     const said = saidBy(line);
     if (made !== null && said !== null) entries.push({ number: Number(made[1]), ...said, standing: true });
+    const noted = /^noted (\d+)$/.exec(reply);
+    if (noted !== null) for (const entry of entries) if (entry.number === Number(noted[1])) entry.note = line.replace(/^note \d+ /, '').trim();
     if (gone !== null) for (const entry of entries) if (entry.number === Number(gone[1])) entry.standing = false;
   });
   return entries;

@@ -67,6 +67,15 @@ function reportOf(bytes, block) {
   return null;
 }
 
+// The answer that an earlier session had to this question stands in the last line below its card; the card ends before it.
+function keptOf(bytes, block) {
+  const start = bytes.lastIndexOf(NEWLINE, block.to - 2) + 1;
+  const found = start < block.from ? null : /^ {2}kept (right|wrong|unknown)\n$/.exec(latin(bytes.subarray(start, Math.min(block.to, start + 20))));
+  if (found === null) return null;
+  block.to = start;
+  return found[1];
+}
+
 // What only the last report needs is read only there.
 function finished(bytes, report) {
   if (report === null || report.block === undefined) return report;
@@ -78,7 +87,7 @@ function finished(bytes, report) {
 
 // The main part: up to the first mark.
 function dialogOf(bytes, to) {
-  const dialog = { program: '', replies: [], questions: [], report: null };
+  const dialog = { program: '', isRepliesOnly: false, replies: [], questions: [], report: null };
   let isCardOfQuestion = false;
   for (const block of blocksOf(bytes, 0, to)) {
     const report = reportOf(bytes, block);
@@ -90,12 +99,15 @@ function dialogOf(bytes, to) {
       dialog.report.cardBlock = block;
     } else if (isCard && dialog.program === '') {
       dialog.program = cardText(bytes, block);
+    } else if (block.head === 'replies only' && dialog.program === '') {
+      dialog.isRepliesOnly = true;
     } else {
       dialog.replies.push(block.head);
     }
     isCardOfQuestion = report !== null && report.kind === 'ask';
   }
   if (dialog.report !== null && dialog.report.cardBlock !== undefined) {
+    dialog.report.kept = keptOf(bytes, dialog.report.cardBlock);
     dialog.report.card = cardText(bytes, dialog.report.cardBlock);
     delete dialog.report.cardBlock;
   }

@@ -29,11 +29,8 @@ export function endOf(end) {
   if (fault !== null) {
     return { said: `It broke off at line ${fault[2]}: ${FAULTS[fault[1]] ?? fault[1]}.`, isBad: true, line: Number(fault[2]) };
   }
-  const jump = /^jumped to (\d+)(?: of call (\d+))?$/.exec(end);
-  if (jump !== null) {
-    const of = jump[2] === undefined ? '' : ` of call ${jump[2]}`;
-    return { said: `It was left by a goto, to the label ${jump[1]}${of}.`, isBad: false, line: 0 };
-  }
+  const jump = /^jumped to (\d+ of .+)$/.exec(end);
+  if (jump !== null) return { said: `It was left by a goto, to the label ${jump[1]}.`, isBad: false, line: 0 };
   const limit = /^limited (\w+)$/.exec(end);
   if (limit !== null) return { said: `It was stopped: ${LIMITS[limit[1]] ?? limit[1]}.`, isBad: true, line: 0 };
   if (end === 'out of steps') return { said: 'It did not end: the steps ran out.', isBad: true, line: 0 };
@@ -48,6 +45,7 @@ export function stateSaid({ before, after }) {
   return before === after ? `held ${was} before the call and after it.` : `held ${was} before the call and ${is} after it.`;
 }
 
+export const KEPT_SAID = { right: 'Right', wrong: 'Wrong', unknown: 'Don\u2019t know' };
 export const SAID_OF = { right: 'is right', wrong: 'is wrong', unknown: 'could not be judged', trust: 'is trusted' };
 
 // The buttons and keys of answers.
@@ -68,7 +66,7 @@ export const comparedSaid = (outcome, judged) => COMPARED[outcome].replace('{jud
 
 const STATUSES = {
   2: 'The number of steps is a number from 1 to 4,000,000.',
-  4: 'This text is too long: a program may have 1,048,576 bytes, its input 4,194,304, saved answers 16,777,216.',
+  4: 'This text is too long: a program may have 1,048,576 bytes, its input 4,194,304, saved answers 67,108,864.',
   5: 'The lines of the dialog could not be read.',
   6: 'What is to be shown is too long to be shown here.',
   7: 'Memory ran out. A smaller number of steps may help.',
@@ -97,6 +95,7 @@ const REPLIES = [
   [/^no question/, 'No call is asked about any more.'],
   [/^no call/, 'There is no such call.'],
   [/^no cell/, 'There is no variable of this name, neither before the call nor after it. Names are written as the card has them.'],
+  [/^not understood/, 'A note has 1 to 100 letters, digits and signs, without accents.'],
   [/^nothing stands/, 'There is no answer to take back.'],
   [/^entry (\d+) does not stand/, 'This answer was taken back before.'],
   [/^book is full/, 'No more answers can be held.'],

@@ -8,8 +8,8 @@ $0 == "" { next }
 /^(right|wrong|unknown|back)( [0-9]+)?$/ { found = 1; exit }
 /^(show|trace) [0-9]+$/ { found = 1; exit }
 /^(trust|save) [^ ]+$/ { found = 1; exit }
-/^(tree|quit)$/ { found = 1; exit }
-/^state [0-9]+ / { found = 1; exit }
+/^(same|tree|quit)$/ { found = 1; exit }
+/^(note|state) [0-9]+ / { found = 1; exit }
 /^carry [0-9]+ [0-9]+$/ { found = 1; exit }
 
 { strange++ }

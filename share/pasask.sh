@@ -12,7 +12,7 @@
 usage='usage: pasask SOURCE [--input F] [--budget N] [--load F]'
 source_bytes=1048576
 input_bytes=4194304
-session_bytes=16777216
+session_bytes=67108864
 console_bytes=16777216
 most_steps=4000000
 

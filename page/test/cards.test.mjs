@@ -50,6 +50,11 @@ test('names with odd indices', () => {
   assert.equal(nameAt('= 3'), null);
 });
 
+test('a cell and a frame told by their addresses', () => {
+  const card = cardOf('call 1 p in call 0\n  reads cell 37 = 5\n  reads cell = 6\n  jumped to 9 of frame 40\n');
+  assert.deepEqual([names(card.met), card.odd, card.end], [['cell'], ['reads cell 37 = 5'], 'jumped to 9 of frame 40']);
+});
+
 test('what is no line of a card is kept', () => {
   const card = cardOf('call 1 p in call 0\n  wonders x\nno indent\n  returned\n');
   assert.deepEqual(card.odd, ['wonders x', 'no indent']);

@@ -3,7 +3,7 @@ import assert from 'node:assert/strict';
 import { test } from 'node:test';
 import { fileOfText, utf8Bytes } from '../bytes.js';
 import { Dialog } from '../dialog.js';
-import { lastKept, newSession } from '../session.js';
+import { entriesOf, lastKept, newSession } from '../session.js';
 import { digest } from '../transcript.js';
 
 const store = new Map();
@@ -159,4 +159,13 @@ test('a browser that keeps nothing is told of', async () => {
   await dialog.say('wrong 1');
   assert.equal(dialog.isKept, false);
   globalThis.localStorage.setItem = setItem;
+});
+
+test('notes stand on entries, and entries of another text are not taken over', () => {
+  const saved = utf8Bytes('{"entries":[{"call":0,"kind":"wrong","standing":true},{"call":2,"kind":"right","note":"by hand","standing":true}]}');
+  const of = (lines) => ({ ...newSession('c.pas', fileOfText(''), fileOfText(''), '1000000', saved), lines });
+  const own = entriesOf(of(['right 1', 'note 3 as 2', 'note 1  all', 'note 9 none']), ['entry 3', 'noted 3', 'noted 1', 'no entry 9']);
+  assert.deepEqual(own.map((entry) => [entry.number, entry.call, entry.note]), [[1, 0, 'all'], [2, 2, 'by hand'], [3, 1, 'as 2']]);
+  const other = entriesOf(of(['right 1', 'note 2 new']), ['entry 2', 'noted 2'], true);
+  assert.deepEqual(other.map((entry) => [entry.number, entry.call, entry.note]), [[1, 0, undefined], [2, 1, 'new']]);
 });

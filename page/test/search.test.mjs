@@ -70,6 +70,7 @@ test('finding calls', () => {
 test('what is said', () => {
   assert.deepEqual(endOf('faulted NilPointer line 7'), { said: 'It broke off at line 7: it followed a pointer that is nil.', isBad: true, line: 7 });
   assert.equal(endOf('jumped to 9 of call 3').said, 'It was left by a goto, to the label 9 of call 3.');
+  assert.equal(endOf('jumped to 9 of frame 40').said, 'It was left by a goto, to the label 9 of frame 40.');
   for (const end of ['returned', 'out of steps', 'limited calls', 'limited depth', 'limited stack', 'limited heap', 'faulted Odd line 1', 'what else']) assert.ok(endOf(end).said.length > 3);
   assert.match(statusSaid(8, 'session: budget is 1000000 but the session has 4000000\n'), /4,000,000/);
   assert.match(statusSaid(8, 'session: source is ab but the session has cd\n'), /another program/);

@@ -21,10 +21,21 @@ call 1 seventy in call 0
 test('an opening: the program, the question and its card', () => {
   const shown = digest(screenOf(OPENING), []);
   assert.equal(shown.program, 'call 0 change\n  returned\n');
-  assert.deepEqual({ ...shown.report, card: '' }, { kind: 'ask', call: 1, suspects: 3, left: 2, card: '' });
+  assert.deepEqual({ ...shown.report, card: '' }, { kind: 'ask', call: 1, suspects: 3, left: 2, card: '', kept: null });
   assert.equal(shown.report.card, 'call 1 seventy in call 0\n  reads coins = 0\n  changes coins = 52\n  returned\n');
   assert.deepEqual(shown.replies, []);
   assert.deepEqual(shown.questions, [{ call: 1, suspects: 3, left: 2 }]);
+});
+
+test('a session of another text: its replies alone, and the answer that was kept', () => {
+  const shown = digest(screenOf(`replies only\n${OPENING}  kept right\n`), []);
+  assert.equal(shown.isRepliesOnly, true);
+  assert.equal(shown.program, 'call 0 change\n  returned\n');
+  assert.equal(shown.report.kept, 'right');
+  assert.equal(shown.report.card, 'call 1 seventy in call 0\n  reads coins = 0\n  changes coins = 52\n  returned\n');
+  const later = digest(screenOf(`${OPENING}  kept unknown\nnoted 1\nentry 2\nask 2 suspects 1 left 0\ncall 2 a in call 1\n  kept = 3\n  returned\n`), []);
+  assert.deepEqual([later.isRepliesOnly, later.report.kept, later.replies], [false, null, ['noted 1', 'entry 2']]);
+  assert.equal(later.report.card, 'call 2 a in call 1\n  kept = 3\n  returned\n');
 });
 
 test('a verdict has the trace, and each line its reply', () => {

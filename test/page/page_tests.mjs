@@ -258,8 +258,34 @@ export const TESTS = {
     t.holds('what is no session is refused', /holds no saved answers/.test(await notices(t)));
     await ran(t, 'powers.pas', SQUARES);
     await t.page.choose('#sessionFile', 'friday.session', saved.bytes);
-    await t.page.until(`${isCalm} && document.querySelector('.notice.bad') !== null`);
-    t.holds('and so is one of another program', /another program/.test(await notices(t)));
+    await t.page.until(`${isCalm} && document.querySelector('.notice') !== null`);
+    t.holds('of one of another program the answers alone are there', /another text of the program/.test(await notices(t)));
+    t.equal('and no entry', (await t.page.text('.history li')).length, 1);
+  },
+
+  async 'notes, and answers for a corrected program'(t) {
+    const put = (selector, text) => t.page.value(`(() => { const field = document.querySelector('${selector}'); field.value = ${JSON.stringify(text)}; field.dispatchEvent(new Event('input', { bubbles: true })); })()`);
+    await opened(t, 'change', ['wrong', 'right']);
+    await t.page.click('.history li:nth-child(3) .noting summary');
+    await t.page.until('document.querySelector(".noting input") !== null');
+    await put('.history li:nth-child(3) .noting input', 'by hand');
+    await t.page.click('.history li:nth-child(3) .noting button');
+    await t.page.until('document.querySelector(".history .noted") !== null');
+    t.equal('the note stands on its answer', await t.page.text('.history .noted'), ['by hand']);
+    const saved = await t.download('#save');
+    t.equal('and is saved', JSON.parse(saved.bytes).entries.map((it) => it.note ?? ''), ['', '', 'by hand']);
+    await put('#source', t.example('change').source.replace('coins + 2 ', 'coins + 21 '));
+    await t.page.click('#run');
+    await t.page.until(`${isCalm} && document.querySelectorAll(".history li").length === 1 && document.querySelector("#question") !== null`);
+    t.holds('the corrected program begins anew', /another text of the program/.test(await notices(t)));
+    t.equal('its first question is new', [await asked(t), await t.page.text('#same')], ['seventy', []]);
+    await t.page.press('w');
+    await t.page.until(`${isCalm} && document.querySelector("#same") !== null`);
+    t.equal('the next one was answered before', await asked(t), 'fifty');
+    await t.page.click('#same');
+    await t.page.until(`${isCalm} && document.querySelectorAll(".history li").length === 3`);
+    t.equal('and is answered so again', await asked(t), 'twenty');
+    await t.picture('5-kept');
   },
 
   async 'a refused program'(t) {

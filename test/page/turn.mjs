@@ -9,7 +9,7 @@ export const openModule = (file) => new WebAssembly.Module(readFileSync(file));
 // One turn in a new instance, with that much room for the screen. It uses nothing from outside of it, so its text can be given to a
 // browser's worker, too.
 export function turnIn(module, given, screenRoom) {
-  const WORD = 8, CAME_WORDS = 4, SESSION_SAVED = 1, MOST_SESSION = 1 << 24;
+  const WORD = 8, CAME_WORDS = 4, SESSION_SAVED = 1, MOST_SESSION = 40_000_000;
   const bytesOf = (text) => (typeof text === 'string' ? new TextEncoder().encode(text) : text);
   const { exports } = new WebAssembly.Instance(module, {});
   const roomFor = (size) => {

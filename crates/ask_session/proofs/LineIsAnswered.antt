@@ -3,12 +3,11 @@ use Rattle.std.proofs.Common.{if◌then◌else◌, ◌<◌, ◌∙◌, ◌∷◌
 use Rattle.std.proofs.Common.{false, inl, inr, length, refl, subst, sym, true}
 use Rattle.std.proofs.lemmas.Bool.{le-ltb, lt-ltb}
 use Rattle.edge_ports.specs.{Counts.counts_stored, Limits.line_bytes, declared.ports.StoreFault.StoreFault}
-use Rattle.answer_book.specs.declared.entries.Entry.{Entry}
-use Rattle.dialog_replies.specs.{Instructions.instruction_of, Start.saved_text, Subject.Subject}
+use Rattle.dialog_replies.specs.{Instructions.instruction_of, Said.Said, Start.saved_text, Subject.Subject}
 use Rattle.dialog_replies.specs.Replies.{LineOutcome, command_outcome, outcome, replied}
 use Rattle.dialog_replies.specs.declared.{instructions.DialogCommand.DialogCommand, instructions.Instruction.Instruction, start.Start.Start}
 use Rattle.ask_session.proofs.RepliesInOrder.{one_asked, one_on, plainly}
-use Rattle.ask_session.specs.Dialog.{ends_session, entries_after_line, file_asked, is_quit, is_too_long, plain_reply, reply_or_save, save_reply, saved_file}
+use Rattle.ask_session.specs.Dialog.{ends_session, file_asked, is_quit, is_too_long, plain_reply, reply_or_save, said_after_line, save_reply, saved_file}
 use Rattle.ask_session.specs.Saves.{FileAfter, FilesAfter, Save, counts_saved, saves_asked}
 use Rattle.ask_session.specs.Turned.{AnswersLine, BreaksOff, DialogMoment, Hands, LineAt, NextReply, Passes, Progress, SaveGoes, one_line}
 use Rattle.ask_session.specs.declared.dialog.Ending.{Ending}
@@ -32,48 +31,48 @@ module _ (line : List ℕ) where
     asked_by file is =
         ap (λ (long : Bool). if long then None else saved_file (instruction_of line)) (not_long a.short) ∙ ap saved_file (sym a.is) ∙ is
 
-    plain_by : (s : Subject) (entries : List Entry) → plain_reply s entries line ≡ (outcome s entries i).reply
-    plain_by s entries =
-        ap (λ (long : Bool). if long then codes "line too long\n" else (outcome s entries (instruction_of line)).reply) (not_long a.short)
-        ∙ ap (λ (j : Instruction). (outcome s entries j).reply) (sym a.is)
+    plain_by : (s : Subject) (said : Said) → plain_reply s said line ≡ (outcome s said i).reply
+    plain_by s said =
+        ap (λ (long : Bool). if long then codes "line too long\n" else (outcome s said (instruction_of line)).reply) (not_long a.short)
+        ∙ ap (λ (j : Instruction). (outcome s said j).reply) (sym a.is)
 
-    entries_by : (s : Subject) (entries : List Entry) → entries_after_line s entries line ≡ (outcome s entries i).entries
-    entries_by s entries =
-        ap (λ (long : Bool). if long then entries else (outcome s entries (instruction_of line)).entries) (not_long a.short)
-        ∙ ap (λ (j : Instruction). (outcome s entries j).entries) (sym a.is)
+    said_by_line : (s : Subject) (said : Said) → said_after_line s said line ≡ (outcome s said i).said
+    said_by_line s said =
+        ap (λ (long : Bool). if long then said else (outcome s said (instruction_of line)).said) (not_long a.short)
+        ∙ ap (λ (j : Instruction). (outcome s said j).said) (sym a.is)
 
 -- ---- a line that does not ask to save
 
--- a moment with other entries
-abbrev pub with_entries : DialogMoment → List Entry → DialogMoment
-with_entries moment entries = record moment { entries = entries }
+-- a moment where something else was said
+abbrev pub with_said : DialogMoment → Said → DialogMoment
+with_said moment said = record moment { said = said }
 
 module _ (s : Subject) (start : Start) (old : LineAt) where
   -- such a line leaves the keeper as it is
-  passes_plain : (entries : List Entry) → ends_session old.line ≡ false → file_asked old.line ≡ None
-      → entries ≡ entries_after_line s old.moment.entries old.line
-      → Passes s start old.moment (one_line old.line []) (with_entries old.moment entries)
-  passes_plain entries on none are = record {
+  passes_plain : (said : Said) → ends_session old.line ≡ false → file_asked old.line ≡ None
+      → said ≡ said_after_line s old.moment.said old.line
+      → Passes s start old.moment (one_line old.line []) (with_said old.moment said)
+  passes_plain said on none are = record {
     on = one_on old.line false on;
-    entries_are = are;
-    answered = ap length (sym (one_asked s start old.moment.entries old.line None on none));
+    said_is = are;
+    answered = ap length (sym (one_asked s start old.moment.said old.line None on none));
     files_are = refl;
     counts_are = refl;
   }
 
   -- memory ran out before the keeper was asked
-  pub breaks_off : (entries : List Entry) → BreaksOff s start old.moment old.line (with_entries old.moment entries)
-  breaks_off entries = record { saves = []; answered = omega arith; files_are = refl; counts_are = inl refl }
+  pub breaks_off : (said : Said) → BreaksOff s start old.moment old.line (with_said old.moment said)
+  breaks_off said = record { saves = []; answered = omega arith; files_are = refl; counts_are = inl refl }
 
-  pub replies_so : (entries : List Entry) (reply : List ℕ) (c : DialogCommand) → Asks old.line (Instruction.Command c)
-      → replied entries reply ≡ command_outcome s old.moment.entries c → AnswersLine s start old (Ok reply) (with_entries old.moment entries)
-  replies_so entries reply c a is =
+  pub replies_so : (said : Said) (reply : List ℕ) (c : DialogCommand) → Asks old.line (Instruction.Command c)
+      → replied said reply ≡ command_outcome s old.moment.said c → AnswersLine s start old (Ok reply) (with_said old.moment said)
+  replies_so said reply c a is =
       let i : Instruction = Instruction.Command c in
       let none : file_asked old.line ≡ None = asked_by old.line i a None refl in (
         [],
-        passes_plain entries (ends_by old.line i a false refl) none
-            (ap (λ (o : LineOutcome). o.entries) is ∙ sym (entries_by old.line i a s old.moment.entries)),
-        ap (λ (o : LineOutcome). o.reply) is ∙ sym (plain_by old.line i a s old.moment.entries) ∙ sym (plainly s start old.moment.entries old.line true none),
+        passes_plain said (ends_by old.line i a false refl) none
+            (ap (λ (o : LineOutcome). o.said) is ∙ sym (said_by_line old.line i a s old.moment.said)),
+        ap (λ (o : LineOutcome). o.reply) is ∙ sym (plain_by old.line i a s old.moment.said) ∙ sym (plainly s start old.moment.said old.line true none),
       )
 
   pub too_long_so : (reply : List ℕ) → line_bytes < length old.line → reply ≡ codes "line too long\n" → AnswersLine s start old (Ok reply) old.moment
@@ -81,26 +80,26 @@ module _ (s : Subject) (start : Start) (old : LineAt) where
       let e : is_too_long old.line ≡ true = lt-ltb line_bytes (length old.line) long in
       let none : file_asked old.line ≡ None = ap (λ (b : Bool). if b then None else saved_file (instruction_of old.line)) e in (
         [],
-        passes_plain old.moment.entries (ap (λ (b : Bool). if b then false else is_quit (instruction_of old.line)) e) none
-            (sym (ap (λ (b : Bool). if b then old.moment.entries else (outcome s old.moment.entries (instruction_of old.line)).entries) e)),
-        is ∙ sym (ap (λ (b : Bool). if b then codes "line too long\n" else (outcome s old.moment.entries (instruction_of old.line)).reply) e)
-            ∙ sym (plainly s start old.moment.entries old.line true none),
+        passes_plain old.moment.said (ap (λ (b : Bool). if b then false else is_quit (instruction_of old.line)) e) none
+            (sym (ap (λ (b : Bool). if b then old.moment.said else (outcome s old.moment.said (instruction_of old.line)).said) e)),
+        is ∙ sym (ap (λ (b : Bool). if b then codes "line too long\n" else (outcome s old.moment.said (instruction_of old.line)).reply) e)
+            ∙ sym (plainly s start old.moment.said old.line true none),
       )
 
 -- ---- a line that asks to save
 
 -- a save of the moment's session, and the same moment but for the keeper
-pub record Keeps (start : Start) (old new : DialogMoment) (file : List ℕ) (r : Result (List ℕ) Ending) : Type 0 where
-  pub goes : SaveGoes (record { file = file; text = saved_text start old.entries }) old r new
-  pub entries : new.entries ≡ old.entries
+pub record Keeps (s : Subject) (start : Start) (old new : DialogMoment) (file : List ℕ) (r : Result (List ℕ) Ending) : Type 0 where
+  pub goes : SaveGoes (record { file = file; text = saved_text s start old.said }) old r new
+  pub said : new.said ≡ old.said
 
 module _ (s : Subject) (start : Start) (old : LineAt) where
   pub saves_so : (new : DialogMoment) (r : Result (List ℕ) Ending) (file : List ℕ) → Asks old.line (Instruction.Save file)
-      → Keeps start old.moment new file r → AnswersLine s start old r new
+      → Keeps s start old.moment new file r → AnswersLine s start old r new
   saves_so new r file a k = by r k.goes
     where
-      entries : List Entry
-      entries = old.moment.entries
+      said : Said
+      said = old.moment.said
 
       on : ends_session old.line ≡ false
       on = ends_by old.line (Instruction.Save file) a false refl
@@ -109,22 +108,22 @@ module _ (s : Subject) (start : Start) (old : LineAt) where
       named = asked_by old.line (Instruction.Save file) a (Some file) refl
 
       save : Save
-      save = record { file = file; text = saved_text start entries }
+      save = record { file = file; text = saved_text s start said }
 
-      asked : saves_asked s start entries (old.line ∷ []) ≡ save ∷ []
-      asked = one_asked s start entries old.line (Some file) on named
+      asked : saves_asked s start said (old.line ∷ []) ≡ save ∷ []
+      asked = one_asked s start said old.line (Some file) on named
 
       by : (r : Result (List ℕ) Ending) → SaveGoes save old.moment r new → AnswersLine s start old r new
       by (Ok reply) g = (
         g.0 ∷ [],
         record {
           on = one_on old.line false on;
-          entries_are = k.entries ∙ sym (entries_by old.line (Instruction.Save file) a s entries);
+          said_is = k.said ∙ sym (said_by_line old.line (Instruction.Save file) a s said);
           answered = sym (ap length asked);
           files_are = subst (λ (saves : List Save). FilesAfter (g.0 ∷ []) saves old.moment.files new.files) (sym asked) g.2;
           counts_are = g.3;
         },
-        g.1 ∙ sym (ap (λ (o : Option (List ℕ)). reply_or_save o g.0 (plain_reply s entries old.line)) named),
+        g.1 ∙ sym (ap (λ (o : Option (List ℕ)). reply_or_save o g.0 (plain_reply s said old.line)) named),
       )
       by (Err Ending.Memory) g = record {
         saves = g.0;

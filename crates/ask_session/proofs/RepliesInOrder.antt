@@ -3,10 +3,9 @@ use Rattle.std.proofs.Common.{if◌then◌else◌, ◌++◌, ◌+◌, ◌||◌, 
 use Rattle.std.proofs.Common.{arith, false, length, refl, subst, sym, true}
 use Rattle.std.proofs.lemmas.{Bool.or_parts, List.length-append}
 use Rattle.edge_ports.specs.{Counts.KeeperCounts, Counts.counts_stored, Files.FileMap, declared.ports.StoreFault.StoreFault}
-use Rattle.answer_book.specs.declared.entries.Entry.{Entry}
-use Rattle.dialog_replies.specs.{Subject.Subject, declared.start.Start.Start}
-use Rattle.ask_session.specs.{Dialog.saves_after_line, Turned.DialogMoment, Turned.Passes, Turned.Talk, Turned.entries_through}
-use Rattle.ask_session.specs.Dialog.{ends_among, ends_session, entries_after_line, file_asked, next_save, plain_reply, replies, reply_or_save, reply_to}
+use Rattle.dialog_replies.specs.{Said.Said, Subject.Subject, declared.start.Start.Start}
+use Rattle.ask_session.specs.{Dialog.saves_after_line, Turned.DialogMoment, Turned.Passes, Turned.Talk, Turned.said_through}
+use Rattle.ask_session.specs.Dialog.{ends_among, ends_session, file_asked, line_replies, line_reply, next_save, plain_reply, reply_or_save, said_after_line}
 use Rattle.ask_session.specs.Saves.{FilesAfter, Save, counts_saved, save_of, saves_asked}
 
 -- ---- lines that end the session, and lines that do not
@@ -73,110 +72,110 @@ files_longer {saves = stored ∷ saves} {asked = save ∷ asked} {after = after}
 module _ (s : Subject) where
   -- ---- the replies to one line and to those after it
 
-  pub replied : (entries : List Entry) (saves : List Bool) (line : List ℕ) (ls : List (List ℕ)) → ends_session line ≡ false
-      → replies s entries saves (line ∷ ls)
-      ≡ reply_to s entries (next_save saves) line ++ replies s (entries_after_line s entries line) (saves_after_line (file_asked line) saves) ls
-  replied entries saves line ls e = ap (λ (b : Bool). if b then [] else reply_to s entries (next_save saves) line
-      ++ replies s (entries_after_line s entries line) (saves_after_line (file_asked line) saves) ls) e
+  pub replied : (said : Said) (saves : List Bool) (line : List ℕ) (ls : List (List ℕ)) → ends_session line ≡ false
+      → line_replies s said saves (line ∷ ls)
+      ≡ line_reply s said (next_save saves) line ++ line_replies s (said_after_line s said line) (saves_after_line (file_asked line) saves) ls
+  replied said saves line ls e = ap (λ (b : Bool). if b then [] else line_reply s said (next_save saves) line
+      ++ line_replies s (said_after_line s said line) (saves_after_line (file_asked line) saves) ls) e
 
-  pub quitted : (entries : List Entry) (saves : List Bool) (line : List ℕ) (ls : List (List ℕ)) → ends_session line ≡ true
-      → replies s entries saves (line ∷ ls) ≡ []
-  quitted entries saves line ls e = ap (λ (b : Bool). if b then [] else reply_to s entries (next_save saves) line
-      ++ replies s (entries_after_line s entries line) (saves_after_line (file_asked line) saves) ls) e
+  pub quitted : (said : Said) (saves : List Bool) (line : List ℕ) (ls : List (List ℕ)) → ends_session line ≡ true
+      → line_replies s said saves (line ∷ ls) ≡ []
+  quitted said saves line ls e = ap (λ (b : Bool). if b then [] else line_reply s said (next_save saves) line
+      ++ line_replies s (said_after_line s said line) (saves_after_line (file_asked line) saves) ls) e
 
-  pub through_append : (entries : List Entry) (ls ms : List (List ℕ))
-      → entries_through s entries (ls ++ ms) ≡ entries_through s (entries_through s entries ls) ms
-  through_append entries [] ms = refl
-  through_append entries (l ∷ ls) ms = through_append (entries_after_line s entries l) ls ms
+  pub through_append : (said : Said) (ls ms : List (List ℕ))
+      → said_through s said (ls ++ ms) ≡ said_through s (said_through s said ls) ms
+  through_append said [] ms = refl
+  through_append said (l ∷ ls) ms = through_append (said_after_line s said l) ls ms
 
   -- nothing is replied after a line that ends the session
-  pub replies_ended : (entries : List Entry) (saves : List Bool) (ls ms : List (List ℕ)) → ends_among ls ≡ true
-      → replies s entries saves (ls ++ ms) ≡ replies s entries saves ls
-  replies_ended entries saves [] ms e = absurd (let x : ⊥ = cc in x)
-  replies_ended entries saves (l ∷ ls) ms e =
-      by (replies_ended (entries_after_line s entries l) (saves_after_line (file_asked l) saves) ls ms) (ends_session l) refl e
+  pub replies_ended : (said : Said) (saves : List Bool) (ls ms : List (List ℕ)) → ends_among ls ≡ true
+      → line_replies s said saves (ls ++ ms) ≡ line_replies s said saves ls
+  replies_ended said saves [] ms e = absurd (let x : ⊥ = cc in x)
+  replies_ended said saves (l ∷ ls) ms e =
+      by (replies_ended (said_after_line s said l) (saves_after_line (file_asked l) saves) ls ms) (ends_session l) refl e
     where
-      by : (ends_among ls ≡ true → replies s (entries_after_line s entries l) (saves_after_line (file_asked l) saves) (ls ++ ms)
-          ≡ replies s (entries_after_line s entries l) (saves_after_line (file_asked l) saves) ls)
-          → (b : Bool) → ends_session l ≡ b → b || ends_among ls ≡ true → replies s entries saves (l ∷ (ls ++ ms)) ≡ replies s entries saves (l ∷ ls)
-      by ih true is f = quitted entries saves l (ls ++ ms) is ∙ sym (quitted entries saves l ls is)
+      by : (ends_among ls ≡ true → line_replies s (said_after_line s said l) (saves_after_line (file_asked l) saves) (ls ++ ms)
+          ≡ line_replies s (said_after_line s said l) (saves_after_line (file_asked l) saves) ls)
+          → (b : Bool) → ends_session l ≡ b → b || ends_among ls ≡ true → line_replies s said saves (l ∷ (ls ++ ms)) ≡ line_replies s said saves (l ∷ ls)
+      by ih true is f = quitted said saves l (ls ++ ms) is ∙ sym (quitted said saves l ls is)
       by ih false is f =
-          replied entries saves l (ls ++ ms) is
-          ∙ ap (λ (t : List ℕ). reply_to s entries (next_save saves) l ++ t) (ih f)
-          ∙ sym (replied entries saves l ls is)
+          replied said saves l (ls ++ ms) is
+          ∙ ap (λ (t : List ℕ). line_reply s said (next_save saves) l ++ t) (ih f)
+          ∙ sym (replied said saves l ls is)
 
   -- the replies to the first lines are the first of the replies
-  pub replies_front : (entries : List Entry) (saves : List Bool) (ls ms : List (List ℕ))
-      → (rest : List ℕ) × (replies s entries saves (ls ++ ms) ≡ replies s entries saves ls ++ rest)
-  replies_front entries saves [] ms = (replies s entries saves ms, refl)
-  replies_front entries saves (l ∷ ls) ms =
-      by (replies_front (entries_after_line s entries l) (saves_after_line (file_asked l) saves) ls ms) (ends_session l) refl
+  pub replies_front : (said : Said) (saves : List Bool) (ls ms : List (List ℕ))
+      → (rest : List ℕ) × (line_replies s said saves (ls ++ ms) ≡ line_replies s said saves ls ++ rest)
+  replies_front said saves [] ms = (line_replies s said saves ms, refl)
+  replies_front said saves (l ∷ ls) ms =
+      by (replies_front (said_after_line s said l) (saves_after_line (file_asked l) saves) ls ms) (ends_session l) refl
     where
-      by : ((rest : List ℕ) × (replies s (entries_after_line s entries l) (saves_after_line (file_asked l) saves) (ls ++ ms)
-          ≡ replies s (entries_after_line s entries l) (saves_after_line (file_asked l) saves) ls ++ rest))
-          → (b : Bool) → ends_session l ≡ b → (rest : List ℕ) × (replies s entries saves (l ∷ (ls ++ ms)) ≡ replies s entries saves (l ∷ ls) ++ rest)
-      by ih true is = ([], quitted entries saves l (ls ++ ms) is ∙ ap (λ (t : List ℕ). t ++ []) (sym (quitted entries saves l ls is)))
+      by : ((rest : List ℕ) × (line_replies s (said_after_line s said l) (saves_after_line (file_asked l) saves) (ls ++ ms)
+          ≡ line_replies s (said_after_line s said l) (saves_after_line (file_asked l) saves) ls ++ rest))
+          → (b : Bool) → ends_session l ≡ b → (rest : List ℕ) × (line_replies s said saves (l ∷ (ls ++ ms)) ≡ line_replies s said saves (l ∷ ls) ++ rest)
+      by ih true is = ([], quitted said saves l (ls ++ ms) is ∙ ap (λ (t : List ℕ). t ++ []) (sym (quitted said saves l ls is)))
       by ih false is = (
         ih.0,
-        replied entries saves l (ls ++ ms) is
-            ∙ ap (λ (t : List ℕ). reply_to s entries (next_save saves) l ++ t) ih.1
-            ∙ sym (append_assoc (reply_to s entries (next_save saves) l)
-            (replies s (entries_after_line s entries l) (saves_after_line (file_asked l) saves) ls) ih.0)
-            ∙ ap (λ (t : List ℕ). t ++ ih.0) (sym (replied entries saves l ls is)),
+        replied said saves l (ls ++ ms) is
+            ∙ ap (λ (t : List ℕ). line_reply s said (next_save saves) l ++ t) ih.1
+            ∙ sym (append_assoc (line_reply s said (next_save saves) l)
+            (line_replies s (said_after_line s said l) (saves_after_line (file_asked l) saves) ls) ih.0)
+            ∙ ap (λ (t : List ℕ). t ++ ih.0) (sym (replied said saves l ls is)),
       )
 
   module _ (start : Start) where
     -- ---- what one line asks to save, and those after it
 
-    asked_on : (entries : List Entry) (line : List ℕ) (ls : List (List ℕ)) → ends_session line ≡ false
-        → saves_asked s start entries (line ∷ ls)
-        ≡ save_of start entries (file_asked line) ++ saves_asked s start (entries_after_line s entries line) ls
-    asked_on entries line ls e =
-        ap (λ (b : Bool). if b then [] else save_of start entries (file_asked line) ++ saves_asked s start (entries_after_line s entries line) ls) e
+    asked_on : (said : Said) (line : List ℕ) (ls : List (List ℕ)) → ends_session line ≡ false
+        → saves_asked s start said (line ∷ ls)
+        ≡ save_of s start said (file_asked line) ++ saves_asked s start (said_after_line s said line) ls
+    asked_on said line ls e =
+        ap (λ (b : Bool). if b then [] else save_of s start said (file_asked line) ++ saves_asked s start (said_after_line s said line) ls) e
 
-    pub asked_quit : (entries : List Entry) (line : List ℕ) (ls : List (List ℕ)) → ends_session line ≡ true → saves_asked s start entries (line ∷ ls) ≡ []
-    asked_quit entries line ls e =
-        ap (λ (b : Bool). if b then [] else save_of start entries (file_asked line) ++ saves_asked s start (entries_after_line s entries line) ls) e
+    pub asked_quit : (said : Said) (line : List ℕ) (ls : List (List ℕ)) → ends_session line ≡ true → saves_asked s start said (line ∷ ls) ≡ []
+    asked_quit said line ls e =
+        ap (λ (b : Bool). if b then [] else save_of s start said (file_asked line) ++ saves_asked s start (said_after_line s said line) ls) e
 
-    pub one_asked : (entries : List Entry) (line : List ℕ) (file : Option (List ℕ)) → ends_session line ≡ false → file_asked line ≡ file
-        → saves_asked s start entries (line ∷ []) ≡ save_of start entries file
-    one_asked entries line file e f =
-        asked_on entries line [] e ∙ append-nil (save_of start entries (file_asked line)) ∙ ap (save_of start entries) f
+    pub one_asked : (said : Said) (line : List ℕ) (file : Option (List ℕ)) → ends_session line ≡ false → file_asked line ≡ file
+        → saves_asked s start said (line ∷ []) ≡ save_of s start said file
+    one_asked said line file e f =
+        asked_on said line [] e ∙ append-nil (save_of s start said (file_asked line)) ∙ ap (save_of s start said) f
 
-    pub asked_append : (entries : List Entry) (ls ms : List (List ℕ)) → ends_among ls ≡ false
-        → saves_asked s start entries (ls ++ ms) ≡ saves_asked s start entries ls ++ saves_asked s start (entries_through s entries ls) ms
-    asked_append entries [] ms e = refl
-    asked_append entries (l ∷ ls) ms e =
+    pub asked_append : (said : Said) (ls ms : List (List ℕ)) → ends_among ls ≡ false
+        → saves_asked s start said (ls ++ ms) ≡ saves_asked s start said ls ++ saves_asked s start (said_through s said ls) ms
+    asked_append said [] ms e = refl
+    asked_append said (l ∷ ls) ms e =
         let both = or_parts (ends_session l) (ends_among ls) e in
-        let after : List Entry = entries_after_line s entries l in
-        let first : List Save = save_of start entries (file_asked l) in
-        asked_on entries l (ls ++ ms) both.0
+        let after : Said = said_after_line s said l in
+        let first : List Save = save_of s start said (file_asked l) in
+        asked_on said l (ls ++ ms) both.0
         ∙ ap (λ (t : List Save). first ++ t) (asked_append after ls ms both.1)
-        ∙ sym (append_assoc first (saves_asked s start after ls) (saves_asked s start (entries_through s after ls) ms))
-        ∙ ap (λ (t : List Save). t ++ saves_asked s start (entries_through s after ls) ms) (sym (asked_on entries l ls both.0))
+        ∙ sym (append_assoc first (saves_asked s start after ls) (saves_asked s start (said_through s after ls) ms))
+        ∙ ap (λ (t : List Save). t ++ saves_asked s start (said_through s after ls) ms) (sym (asked_on said l ls both.0))
 
-    pub asked_ended : (entries : List Entry) (ls ms : List (List ℕ)) → ends_among ls ≡ true
-        → saves_asked s start entries (ls ++ ms) ≡ saves_asked s start entries ls
-    asked_ended entries [] ms e = absurd (let x : ⊥ = cc in x)
-    asked_ended entries (l ∷ ls) ms e = by (asked_ended (entries_after_line s entries l) ls ms) (ends_session l) refl e
+    pub asked_ended : (said : Said) (ls ms : List (List ℕ)) → ends_among ls ≡ true
+        → saves_asked s start said (ls ++ ms) ≡ saves_asked s start said ls
+    asked_ended said [] ms e = absurd (let x : ⊥ = cc in x)
+    asked_ended said (l ∷ ls) ms e = by (asked_ended (said_after_line s said l) ls ms) (ends_session l) refl e
       where
         by : (ends_among ls ≡ true
-            → saves_asked s start (entries_after_line s entries l) (ls ++ ms) ≡ saves_asked s start (entries_after_line s entries l) ls)
-            → (b : Bool) → ends_session l ≡ b → b || ends_among ls ≡ true → saves_asked s start entries (l ∷ (ls ++ ms)) ≡ saves_asked s start entries (l ∷ ls)
-        by ih true is f = asked_quit entries l (ls ++ ms) is ∙ sym (asked_quit entries l ls is)
+            → saves_asked s start (said_after_line s said l) (ls ++ ms) ≡ saves_asked s start (said_after_line s said l) ls)
+            → (b : Bool) → ends_session l ≡ b → b || ends_among ls ≡ true → saves_asked s start said (l ∷ (ls ++ ms)) ≡ saves_asked s start said (l ∷ ls)
+        by ih true is f = asked_quit said l (ls ++ ms) is ∙ sym (asked_quit said l ls is)
         by ih false is f =
-            asked_on entries l (ls ++ ms) is
-            ∙ ap (λ (t : List Save). save_of start entries (file_asked l) ++ t) (ih f)
-            ∙ sym (asked_on entries l ls is)
+            asked_on said l (ls ++ ms) is
+            ∙ ap (λ (t : List Save). save_of s start said (file_asked l) ++ t) (ih f)
+            ∙ sym (asked_on said l ls is)
 
     -- what the first lines ask to save comes first
-    pub asked_front : (entries : List Entry) (ls ms : List (List ℕ))
-        → (rest : List Save) × (saves_asked s start entries (ls ++ ms) ≡ saves_asked s start entries ls ++ rest)
-    asked_front entries ls ms = by (ends_among ls) refl
+    pub asked_front : (said : Said) (ls ms : List (List ℕ))
+        → (rest : List Save) × (saves_asked s start said (ls ++ ms) ≡ saves_asked s start said ls ++ rest)
+    asked_front said ls ms = by (ends_among ls) refl
       where
-        by : (b : Bool) → ends_among ls ≡ b → (rest : List Save) × (saves_asked s start entries (ls ++ ms) ≡ saves_asked s start entries ls ++ rest)
-        by true e = ([], asked_ended entries ls ms e ∙ sym (append-nil (saves_asked s start entries ls)))
-        by false e = (saves_asked s start (entries_through s entries ls) ms, asked_append entries ls ms e)
+        by : (b : Bool) → ends_among ls ≡ b → (rest : List Save) × (saves_asked s start said (ls ++ ms) ≡ saves_asked s start said ls ++ rest)
+        by true e = ([], asked_ended said ls ms e ∙ sym (append-nil (saves_asked s start said ls)))
+        by false e = (saves_asked s start (said_through s said ls) ms, asked_append said ls ms e)
 
     -- ---- the replies to lines whose saves got their answers, and to those after them
 
@@ -184,61 +183,61 @@ module _ (s : Subject) where
     record Parted (file : Option (List ℕ)) (saves : List Bool) (later : List Save) : Type 0 where
       left : length (saves_after_line file saves) ≡ length later
       after : (more : List Bool) → saves_after_line file (saves ++ more) ≡ saves_after_line file saves ++ more
-      same : (more : List Bool) (entries : List Entry) (line : List ℕ) → file_asked line ≡ file
-          → reply_to s entries (next_save (saves ++ more)) line ≡ reply_to s entries (next_save saves) line
+      same : (more : List Bool) (said : Said) (line : List ℕ) → file_asked line ≡ file
+          → line_reply s said (next_save (saves ++ more)) line ≡ line_reply s said (next_save saves) line
 
-    pub plainly : (entries : List Entry) (line : List ℕ) (stored : Bool) → file_asked line ≡ None → reply_to s entries stored line ≡ plain_reply s entries line
-    plainly entries line stored e = ap (λ (file : Option (List ℕ)). reply_or_save file stored (plain_reply s entries line)) e
+    pub plainly : (said : Said) (line : List ℕ) (stored : Bool) → file_asked line ≡ None → line_reply s said stored line ≡ plain_reply s said line
+    plainly said line stored e = ap (λ (file : Option (List ℕ)). reply_or_save file stored (plain_reply s said line)) e
 
-    parted : (entries : List Entry) (file : Option (List ℕ)) (saves : List Bool) (later : List Save)
-        → length saves ≡ length (save_of start entries file ++ later) → Parted file saves later
-    parted entries None saves later e = record {
+    parted : (said : Said) (file : Option (List ℕ)) (saves : List Bool) (later : List Save)
+        → length saves ≡ length (save_of s start said file ++ later) → Parted file saves later
+    parted said None saves later e = record {
       left = e;
       after = λ more. refl;
       same = λ more es line f. plainly es line (next_save (saves ++ more)) f ∙ sym (plainly es line (next_save saves) f);
     }
-    parted entries (Some file) [] later e = absurd (omega (arith, e))
-    parted entries (Some file) (stored ∷ saves) later e = record {
+    parted said (Some file) [] later e = absurd (omega (arith, e))
+    parted said (Some file) (stored ∷ saves) later e = record {
       left = let same : length saves ≡ length later = omega (arith, e) in same;
       after = λ more. refl;
       same = λ more es line f. refl;
     }
 
     module _ (more : List Bool) (ms : List (List ℕ)) where
-      pub replies_append : (entries : List Entry) (saves : List Bool) (ls : List (List ℕ)) → ends_among ls ≡ false
-          → length saves ≡ length (saves_asked s start entries ls)
-          → replies s entries (saves ++ more) (ls ++ ms) ≡ replies s entries saves ls ++ replies s (entries_through s entries ls) more ms
-      replies_append entries saves [] e each = ap (λ (answers : List Bool). replies s entries (answers ++ more) ms) (no_saves saves each)
-      replies_append entries saves (l ∷ ls) e each =
+      pub replies_append : (said : Said) (saves : List Bool) (ls : List (List ℕ)) → ends_among ls ≡ false
+          → length saves ≡ length (saves_asked s start said ls)
+          → line_replies s said (saves ++ more) (ls ++ ms) ≡ line_replies s said saves ls ++ line_replies s (said_through s said ls) more ms
+      replies_append said saves [] e each = ap (λ (answers : List Bool). line_replies s said (answers ++ more) ms) (no_saves saves each)
+      replies_append said saves (l ∷ ls) e each =
           let both = or_parts (ends_session l) (ends_among ls) e in
-          let after : List Entry = entries_after_line s entries l in
+          let after : Said = said_after_line s said l in
           let file : Option (List ℕ) = file_asked l in
-          let p = parted entries file saves (saves_asked s start after ls) (each ∙ ap length (asked_on entries l ls both.0)) in
-          let first : List ℕ = reply_to s entries (next_save saves) l in
+          let p = parted said file saves (saves_asked s start after ls) (each ∙ ap length (asked_on said l ls both.0)) in
+          let first : List ℕ = line_reply s said (next_save saves) l in
           let later : List Bool = saves_after_line file saves in
-          let rest : List ℕ = replies s (entries_through s after ls) more ms in
-          replied entries (saves ++ more) l (ls ++ ms) both.0
-          ∙ ap (λ (t : List ℕ). t ++ replies s after (saves_after_line file (saves ++ more)) (ls ++ ms)) (p.same more entries l refl)
-          ∙ ap (λ (answers : List Bool). first ++ replies s after answers (ls ++ ms)) (p.after more)
+          let rest : List ℕ = line_replies s (said_through s after ls) more ms in
+          replied said (saves ++ more) l (ls ++ ms) both.0
+          ∙ ap (λ (t : List ℕ). t ++ line_replies s after (saves_after_line file (saves ++ more)) (ls ++ ms)) (p.same more said l refl)
+          ∙ ap (λ (answers : List Bool). first ++ line_replies s after answers (ls ++ ms)) (p.after more)
           ∙ ap (λ (t : List ℕ). first ++ t) (replies_append after later ls both.1 p.left)
-          ∙ sym (append_assoc first (replies s after later ls) rest)
-          ∙ ap (λ (t : List ℕ). t ++ rest) (sym (replied entries saves l ls both.0))
+          ∙ sym (append_assoc first (line_replies s after later ls) rest)
+          ∙ ap (λ (t : List ℕ). t ++ rest) (sym (replied said saves l ls both.0))
 
     -- ---- lines that were answered, and then others
 
     pub passes_more : {old between new : DialogMoment} (talk more : Talk) → Passes s start old talk between → Passes s start between more new
         → Passes s start old (record { lines = talk.lines ++ more.lines; saves = talk.saves ++ more.saves }) new
     passes_more {old} {between} {new} talk more p q =
-        let through : List Entry = entries_through s old.entries talk.lines in
-        let asked : List Save = saves_asked s start old.entries talk.lines in
+        let through : Said = said_through s old.said talk.lines in
+        let asked : List Save = saves_asked s start old.said talk.lines in
         let others : List Save = saves_asked s start through more.lines in
-        let all : saves_asked s start old.entries (talk.lines ++ more.lines) ≡ asked ++ others = asked_append old.entries talk.lines more.lines p.on in
-        let same : saves_asked s start between.entries more.lines ≡ others =
-        ap (λ (es : List Entry). saves_asked s start es more.lines) p.entries_are in
+        let all : saves_asked s start old.said (talk.lines ++ more.lines) ≡ asked ++ others = asked_append old.said talk.lines more.lines p.on in
+        let same : saves_asked s start between.said more.lines ≡ others =
+        ap (λ (es : Said). saves_asked s start es more.lines) p.said_is in
         record {
           on = on_append talk.lines more.lines false p.on q.on;
-          entries_are = q.entries_are ∙ ap (λ (es : List Entry). entries_through s es more.lines) p.entries_are
-              ∙ sym (through_append old.entries talk.lines more.lines);
+          said_is = q.said_is ∙ ap (λ (es : Said). said_through s es more.lines) p.said_is
+              ∙ sym (through_append old.said talk.lines more.lines);
           answered =
               let both : length (talk.saves ++ more.saves) ≡ length asked + length others =
               omega (arith, length-append talk.saves more.saves, p.answered, q.answered, ap length same) in

@@ -3,11 +3,11 @@ use Rattle.std.proofs.Common.{◌++◌, ◌≡◌, [], ℕ, Bool, IsSome, List, 
 use Rattle.std.specs.Option.{option_map}
 use Rattle.edge_ports.proofs.PiecesAddUp.{gave_more, gave_nothing, gave_prefix_after, gave_prefix_before, gave_prefix_whole, took_nothing}
 use Rattle.edge_ports.specs.Told.{GaveAll, GavePrefix}
-use Rattle.dialog_replies.specs.{Fit.misfit, Lines.misfit_line, Replies.opening, Start.entries_at_start, Subject.Subject}
+use Rattle.dialog_replies.specs.{Fit.misfit, Lines.misfit_line, Replies.opening_of, Start.said_at_start, Subject.Subject}
 use Rattle.dialog_replies.specs.declared.{misfits.Misfit.Misfit, start.Start.Start}
-use Rattle.ask_session.specs.{Dialog.replies, Dialog.said, Dialog.said_if_fits, Outside.Outside, Turned.Talked, Went.Went, declared.dialog.Ending.Ending}
+use Rattle.ask_session.specs.{Outside.Outside, Reached.Reached, Reached.telling, Reached.telling_from, Turned.Talked, Went.Went, declared.dialog.Ending.Ending}
+use Rattle.ask_session.specs.Dialog.{all_printed, line_replies, printed_if_fits}
 use Rattle.ask_session.specs.Heard.{GaveBy, Heard, IsHeard, RefusedBy, lines_in}
-use Rattle.ask_session.specs.Reached.{Reached, telling, telling_from}
 
 -- nothing was heard
 abbrev pub nothing : Heard
@@ -39,19 +39,19 @@ module _ (s : Subject) (start : Start) where
     ended = tt;
     refused = tt;
     answered = omega arith;
-    gave = nothing_is_prefix outside.streams.given (said s start [] (lines_in nothing));
+    gave = nothing_is_prefix outside.streams.given (all_printed s start [] (lines_in nothing));
     reached = record {
       count = 0;
       within = omega arith;
       answered = inl refl;
-      gave = nothing_is_prefix outside.streams.given (said s start [] []);
+      gave = nothing_is_prefix outside.streams.given (all_printed s start [] []);
     };
     files = refl;
     counts = inl refl;
   }
 
   -- the screen failed in a first part of what was to be said
-  pub screen_at_once : (outside : Outside) (given : Option (List ℕ)) (text rest : List ℕ) → said s start [] (lines_in nothing) ≡ text ++ rest
+  pub screen_at_once : (outside : Outside) (given : Option (List ℕ)) (text rest : List ℕ) → all_printed s start [] (lines_in nothing) ≡ text ++ rest
       → GavePrefix outside.streams.given given text → Went s start outside Ending.Screen (with_given outside given)
   screen_at_once outside given text rest is gave = record {
     heard = nothing;
@@ -73,9 +73,10 @@ module _ (s : Subject) (start : Start) where
 
   -- ---- a saved session that does not fit
 
-  pub said_misfit : (why : Misfit) (saves : List Bool) (lines : List (List ℕ)) → misfit s start ≡ Some why → said s start saves lines ≡ misfit_line why
-  said_misfit why saves lines unfit =
-      ap (λ (m : Option Misfit). said_if_fits m (opening s (entries_at_start start) ++ replies s (entries_at_start start) saves lines)) unfit
+  pub printed_misfit : (why : Misfit) (saves : List Bool) (lines : List (List ℕ)) → misfit s start ≡ Some why
+      → all_printed s start saves lines ≡ misfit_line why
+  printed_misfit why saves lines unfit =
+      ap (λ (m : Option Misfit). printed_if_fits m (opening_of s start ++ line_replies s (said_at_start start) saves lines)) unfit
 
   pub refused_so : (outside : Outside) (given : Option (List ℕ)) (why : Misfit) → misfit s start ≡ Some why
       → GaveAll outside.streams.given given (misfit_line why) → Went s start outside Ending.Refused (with_given outside given)
@@ -86,13 +87,13 @@ module _ (s : Subject) (start : Start) where
     ended = (refl, refl);
     refused = subst IsSome (sym unfit) refl;
     answered = refl;
-    gave = subst (λ (t : List ℕ). GaveAll outside.streams.given given t) (sym (said_misfit why [] (lines_in nothing) unfit)) gave;
+    gave = subst (λ (t : List ℕ). GaveAll outside.streams.given given t) (sym (printed_misfit why [] (lines_in nothing) unfit)) gave;
     reached = record {
       count = 0;
       within = omega arith;
       answered = inl refl;
-      gave = gave_prefix_whole outside.streams.given given (said s start [] [])
-          (subst (λ (t : List ℕ). GaveAll outside.streams.given given t) (sym (said_misfit why [] [] unfit)) gave);
+      gave = gave_prefix_whole outside.streams.given given (all_printed s start [] [])
+          (subst (λ (t : List ℕ). GaveAll outside.streams.given given t) (sym (printed_misfit why [] [] unfit)) gave);
     };
     files = refl;
     counts = refl;
@@ -100,10 +101,10 @@ module _ (s : Subject) (start : Start) where
 
   -- ---- the opening, and the dialog
 
-  pub said_fit : (saves : List Bool) (lines : List (List ℕ)) → misfit s start ≡ None
-      → said s start saves lines ≡ opening s (entries_at_start start) ++ replies s (entries_at_start start) saves lines
-  said_fit saves lines fits =
-      ap (λ (m : Option Misfit). said_if_fits m (opening s (entries_at_start start) ++ replies s (entries_at_start start) saves lines)) fits
+  pub printed_fit : (saves : List Bool) (lines : List (List ℕ)) → misfit s start ≡ None
+      → all_printed s start saves lines ≡ opening_of s start ++ line_replies s (said_at_start start) saves lines
+  printed_fit saves lines fits =
+      ap (λ (m : Option Misfit). printed_if_fits m (opening_of s start ++ line_replies s (said_at_start start) saves lines)) fits
 
   -- what a dialog gave after the opening
   module _ (k0 k1 k2 : Option (List ℕ)) (a b : List ℕ) where
@@ -127,18 +128,18 @@ module _ (s : Subject) (start : Start) where
   -- the opening of a session that fits was given
   pub record Opened (before : Outside) (given : Option (List ℕ)) : Type 0 where
     pub fits : misfit s start ≡ None
-    pub gave : GaveAll before.streams.given given (opening s (entries_at_start start))
+    pub gave : GaveAll before.streams.given given (opening_of s start)
 
   -- as many lines, with the opening before them
   reached_after_opening : (given : Option (List ℕ)) (before after : Outside) → Opened before given → (saves : List Bool) (lines : List (List ℕ))
-      → Reached (telling_from s start (entries_at_start start)) lines saves given after.streams.given
+      → Reached (telling_from s start (said_at_start start)) lines saves given after.streams.given
       → Reached (telling s start) lines saves before.streams.given after.streams.given
   reached_after_opening given before after o saves lines r = record {
     count = r.count;
     within = r.within;
     answered = r.answered;
-    gave = subst (λ (text : List ℕ). GavePrefix before.streams.given after.streams.given text) (sym (said_fit saves (take r.count lines) o.fits))
-        (gave_prefix_after before.streams.given (opening s (entries_at_start start)) o.gave r.gave);
+    gave = subst (λ (text : List ℕ). GavePrefix before.streams.given after.streams.given text) (sym (printed_fit saves (take r.count lines) o.fits))
+        (gave_prefix_after before.streams.given (opening_of s start) o.gave r.gave);
   }
 
   pub went_so : (given : Option (List ℕ)) (before after : Outside) (e : Ending) → Opened before given → Talked s start (with_given before given) e after
@@ -150,9 +151,9 @@ module _ (s : Subject) (start : Start) where
     ended = t.ended;
     refused = fit_by e (misfit s start) t.not_refused o.fits;
     answered = t.answered;
-    gave = subst (λ (text : List ℕ). GaveBy e before.streams.given after.streams.given text) (sym (said_fit t.saves (lines_in t.heard) o.fits))
-        (gave_after_opening before.streams.given given after.streams.given (opening s (entries_at_start start))
-        (replies s (entries_at_start start) t.saves (lines_in t.heard)) e o.gave t.gave);
+    gave = subst (λ (text : List ℕ). GaveBy e before.streams.given after.streams.given text) (sym (printed_fit t.saves (lines_in t.heard) o.fits))
+        (gave_after_opening before.streams.given given after.streams.given (opening_of s start)
+        (line_replies s (said_at_start start) t.saves (lines_in t.heard)) e o.gave t.gave);
     reached = reached_after_opening given before after o t.saves (lines_in t.heard) t.reached;
     files = t.files;
     counts = t.counts;

@@ -6,12 +6,12 @@ use Rattle.std.specs.Io.KnownBytes.{IsAtEnd}
 use Rattle.edge_ports.proofs.{HandedLinesAreHeard.heard_longer, PiecesAddUp.gave_prefix_before, PiecesAddUp.gave_prefix_whole, SameBytesCome.told_still}
 use Rattle.edge_ports.specs.{Counts.Counted, Files.FileMap, Limits.console_bytes, Told.GaveAll, Told.GavePrefix}
 use Rattle.edge_ports.specs.Lines.{lines_heard, lines_of, whole_lines}
-use Rattle.dialog_replies.specs.{Fit.misfit, Lines.misfit_line, Replies.opening, Start.entries_at_start, Subject.Subject}
+use Rattle.dialog_replies.specs.{Fit.misfit, Lines.misfit_line, Replies.opening_of, Start.said_at_start, Subject.Subject}
 use Rattle.dialog_replies.specs.declared.{misfits.Misfit.Misfit, start.Start.Start}
 use Rattle.ask_session.proofs.RepliesInOrder.{Stored, asked_ended, asked_front, ended_append, files_longer, replies_ended, replies_front}
 use Rattle.ask_session.specs.{Outside.Outside, Saves.AreAnswered, Saves.FilesAfter, Saves.Save, Saves.saves_in, Went.Went, declared.dialog.Ending.Ending}
 use Rattle.ask_session.specs.Console.{EndsInTime, FirstAnswered, GaveOf, GoesOn, NotRisen}
-use Rattle.ask_session.specs.Dialog.{ends_among, replies, said, said_if_fits, transcript}
+use Rattle.ask_session.specs.Dialog.{all_printed, ends_among, line_replies, printed_if_fits, transcript}
 use Rattle.ask_session.specs.Heard.{EndedBy, GaveBy, Heard, IsHeard, RefusedBy, is_console, is_screen, lines_in}
 use Rattle.ask_session.specs.Reached.{AnswersFirst, Reached, Telling, telling}
 
@@ -24,13 +24,13 @@ pub record Closed (e : Ending) (console console' screen screen' : ℕ) : Type 0 
 
 -- ---- what is said of more lines
 
-said_longer : (m : Option Misfit) (text more rest : List ℕ) → more ≡ text ++ rest → (back : List ℕ) × (said_if_fits m more ≡ said_if_fits m text ++ back)
+said_longer : (m : Option Misfit) (text more rest : List ℕ) → more ≡ text ++ rest → (back : List ℕ) × (printed_if_fits m more ≡ printed_if_fits m text ++ back)
 said_longer (Some why) text more rest e = ([], sym (append-nil (misfit_line why)))
 said_longer None text more rest e = (rest, e)
 
-said_refused : (m : Option Misfit) (text more : List ℕ) → IsSome m → said_if_fits m more ≡ said_if_fits m text
-said_refused (Some why) text more some = refl
-said_refused None text more some = absurd (let x : ⊥ = cc in x)
+printed_refused : (m : Option Misfit) (text more : List ℕ) → IsSome m → printed_if_fits m more ≡ printed_if_fits m text
+printed_refused (Some why) text more some = refl
+printed_refused None text more some = absurd (let x : ⊥ = cc in x)
 
 none_is_some : {m : Option Misfit} → m ≡ None → IsSome m → ⊥
 none_is_some {m} none some = is_none (subst IsSome none some)
@@ -69,22 +69,22 @@ reached_more {saves} {given} {given'} t ls ms all e r =
     subst (λ (lines : List (List ℕ)). Reached t lines saves given given') (sym e) longer
 
 module _ (s : Subject) (start : Start) where
-  abbrev said_of : List Bool → List (List ℕ) → List ℕ
-  said_of saves lines = opening s (entries_at_start start) ++ replies s (entries_at_start start) saves lines
+  abbrev printed_of : List Bool → List (List ℕ) → List ℕ
+  printed_of saves lines = opening_of s start ++ line_replies s (said_at_start start) saves lines
 
   -- what is said of the first lines is the first part of what is said
-  said_front : (saves : List Bool) (ls ms : List (List ℕ)) → (back : List ℕ) × (said s start saves (ls ++ ms) ≡ said s start saves ls ++ back)
-  said_front saves ls ms =
-      let r = replies_front s (entries_at_start start) saves ls ms in
-      said_longer (misfit s start) (said_of saves ls) (said_of saves (ls ++ ms)) r.0
-      (ap (λ (text : List ℕ). opening s (entries_at_start start) ++ text) r.1
-      ∙ sym (append_assoc (opening s (entries_at_start start)) (replies s (entries_at_start start) saves ls) r.0))
+  printed_front : (saves : List Bool) (ls ms : List (List ℕ)) → (back : List ℕ) × (all_printed s start saves (ls ++ ms) ≡ all_printed s start saves ls ++ back)
+  printed_front saves ls ms =
+      let r = replies_front s (said_at_start start) saves ls ms in
+      said_longer (misfit s start) (printed_of saves ls) (printed_of saves (ls ++ ms)) r.0
+      (ap (λ (text : List ℕ). opening_of s start ++ text) r.1
+      ∙ sym (append_assoc (opening_of s start) (line_replies s (said_at_start start) saves ls) r.0))
 
   -- and all of it, where one of them ends the session
-  said_ended : (saves : List Bool) (ls ms : List (List ℕ)) → ends_among ls ≡ true → said s start saves (ls ++ ms) ≡ said s start saves ls
-  said_ended saves ls ms e =
-      ap (λ (text : List ℕ). said_if_fits (misfit s start) (opening s (entries_at_start start) ++ text))
-      (replies_ended s (entries_at_start start) saves ls ms e)
+  printed_ended : (saves : List Bool) (ls ms : List (List ℕ)) → ends_among ls ≡ true → all_printed s start saves (ls ++ ms) ≡ all_printed s start saves ls
+  printed_ended saves ls ms e =
+      ap (λ (text : List ℕ). printed_if_fits (misfit s start) (opening_of s start ++ text))
+      (replies_ended s (said_at_start start) saves ls ms e)
 
   module _ (left left' : Option (List ℕ)) (bytes : List ℕ) (told : left ≡ Some bytes) where
     -- the bytes heard are the first of those told
@@ -110,18 +110,18 @@ module _ (s : Subject) (start : Start) where
 
     -- where the dialog is done, what is said and saved of them is that of all lines
     record AsAll (x : Heard) : Type 0 where
-      text : (saves : List Bool) → transcript s start saves bytes ≡ said s start saves (lines_in x)
+      text : (saves : List Bool) → transcript s start saves bytes ≡ all_printed s start saves (lines_in x)
       asked : saves_in s start (lines_of bytes) ≡ saves_in s start (lines_in x)
 
     as_all : (x : Heard) → IsHeard left left' x → EndedBy Ending.Done x → AsAll x
     as_all x h (inl ended) =
         let same : lines_of bytes ≡ lines_in x = ap lines_of (none_after x h ended) ∙ sym (ap (λ (b : Bool). lines_heard b x.bytes) ended) in
-        record { text = λ saves. ap (said s start saves) same; asked = ap (saves_in s start) same }
+        record { text = λ saves. ap (all_printed s start saves) same; asked = ap (saves_in s start) same }
     as_all x h (inr quit) =
         let lines = first_lines x h x.ended refl in
         record {
-          text = λ saves. ap (said s start saves) lines.1 ∙ said_ended saves (lines_in x) lines.0 quit;
-          asked = ap (saves_in s start) lines.1 ∙ asked_ended s start (entries_at_start start) (lines_in x) lines.0 quit;
+          text = λ saves. ap (all_printed s start saves) lines.1 ∙ printed_ended saves (lines_in x) lines.0 quit;
+          asked = ap (saves_in s start) lines.1 ∙ asked_ended s start (said_at_start start) (lines_in x) lines.0 quit;
         }
 
     -- ---- what was given and saved
@@ -129,7 +129,7 @@ module _ (s : Subject) (start : Start) where
     more_asked : (x : Heard) → IsHeard left left' x → (rest : List Save) × (saves_in s start (lines_of bytes) ≡ saves_in s start (lines_in x) ++ rest)
     more_asked x h =
         let lines = first_lines x h x.ended refl in
-        let more = asked_front s start (entries_at_start start) (lines_in x) lines.0 in
+        let more = asked_front s start (said_at_start start) (lines_in x) lines.0 in
         (more.0, ap (saves_in s start) lines.1 ∙ more.1)
 
     files_told : {before after : Option FileMap} (saves : List Bool) (x : Heard) → IsHeard left left' x → length saves ≤ length (saves_in s start (lines_in x))
@@ -153,17 +153,17 @@ module _ (s : Subject) (start : Start) where
     first_answered Ending.Memory saves x h a = first_few saves x h a.1
 
     module _ (given given' : Option (List ℕ)) (saves : List Bool) (x : Heard) (h : IsHeard left left' x) where
-      part_of : GavePrefix given given' (said s start saves (lines_in x)) → GavePrefix given given' (transcript s start saves bytes)
+      part_of : GavePrefix given given' (all_printed s start saves (lines_in x)) → GavePrefix given given' (transcript s start saves bytes)
       part_of g =
           let lines = first_lines x h x.ended refl in
-          let r = said_front saves (lines_in x) lines.0 in
-          subst (λ (text : List ℕ). GavePrefix given given' text) (sym (ap (said s start saves) lines.1 ∙ r.1))
-          (gave_prefix_before given given' (said s start saves (lines_in x)) r.0 g)
+          let r = printed_front saves (lines_in x) lines.0 in
+          subst (λ (text : List ℕ). GavePrefix given given' text) (sym (ap (all_printed s start saves) lines.1 ∙ r.1))
+          (gave_prefix_before given given' (all_printed s start saves (lines_in x)) r.0 g)
 
-      whole_part : GaveAll given given' (said s start saves (lines_in x)) → GavePrefix given given' (transcript s start saves bytes)
-      whole_part g = part_of (gave_prefix_whole given given' (said s start saves (lines_in x)) g)
+      whole_part : GaveAll given given' (all_printed s start saves (lines_in x)) → GavePrefix given given' (transcript s start saves bytes)
+      whole_part g = part_of (gave_prefix_whole given given' (all_printed s start saves (lines_in x)) g)
 
-      pub transcript_given : (e : Ending) → GaveBy e given given' (said s start saves (lines_in x)) → EndedBy e x → RefusedBy e (misfit s start)
+      pub transcript_given : (e : Ending) → GaveBy e given given' (all_printed s start saves (lines_in x)) → EndedBy e x → RefusedBy e (misfit s start)
           → GaveOf e given given' (transcript s start saves bytes)
       transcript_given Ending.Done g w r = subst (λ (text : List ℕ). GaveAll given given' text) (sym ((as_all x h w).text saves)) g
       transcript_given Ending.Console g w r = whole_part g
@@ -171,7 +171,7 @@ module _ (s : Subject) (start : Start) where
       transcript_given Ending.Spent g w r = whole_part g
       transcript_given Ending.Memory g w r = part_of g
       transcript_given Ending.Refused g w r = subst (λ (text : List ℕ). GaveAll given given' text)
-          (said_refused (misfit s start) (said_of saves (lines_of bytes)) (said_of saves (lines_in x)) r) g
+          (printed_refused (misfit s start) (printed_of saves (lines_of bytes)) (printed_of saves (lines_in x)) r) g
 
     -- what the contract says where the console tells its bytes
     pub told_so : (before after : Outside) (e : Ending) (w : Went s start before e after) → IsHeard left left' w.heard

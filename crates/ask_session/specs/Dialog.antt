@@ -2,9 +2,8 @@
 use Rattle.std.specs.Prelude.{if◌then◌else◌, ◌++◌, ◌∷◌, [], ℕ, Bool, List, None, Option, Some, codes, false, length}
 use Rattle.std.specs.{Prelude.nat_lt, Prelude.true, List.list_any}
 use Rattle.edge_ports.specs.{Limits.line_bytes, Lines.lines_of}
-use Rattle.answer_book.specs.declared.entries.Entry.{Entry}
-use Rattle.dialog_replies.specs.{Fit.misfit, Instructions.instruction_of, Lines.misfit_line, Replies.opening}
-use Rattle.dialog_replies.specs.{Replies.outcome, Start.entries_at_start, Subject.Subject}
+use Rattle.dialog_replies.specs.{Fit.misfit, Instructions.instruction_of, Lines.misfit_line, Replies.opening_of}
+use Rattle.dialog_replies.specs.{Replies.outcome, Said.Said, Start.said_at_start, Subject.Subject}
 use Rattle.dialog_replies.specs.declared.{misfits.Misfit.Misfit, start.Start.Start}
 use Rattle.dialog_replies.specs.declared.instructions.Instruction.{Instruction, TheVariants.Quit, TheVariants.Save}
 
@@ -50,44 +49,43 @@ saves_after_line None saves = saves
 saves_after_line (Some file) [] = []
 saves_after_line (Some file) (stored ∷ saves) = saves
 
--- ---- the reply to a line, and the entries after it
+-- ---- the reply to a line, and what was said after it
 
 -- where it does not ask to save
-abbrev pub plain_reply : Subject → List Entry → (line : List ℕ) → List ℕ
-plain_reply s entries line =
-    if is_too_long line then codes "line too long\n" else (outcome s entries (instruction_of line)).reply
+abbrev pub plain_reply : Subject → Said → (line : List ℕ) → List ℕ
+plain_reply s said line =
+    if is_too_long line then codes "line too long\n" else (outcome s said (instruction_of line)).reply
 
 abbrev pub reply_or_save : (file : Option (List ℕ)) → (stored : Bool) → List ℕ → List ℕ
 reply_or_save None stored reply = reply
 reply_or_save (Some file) stored reply = save_reply stored file
 
-abbrev pub reply_to : Subject → List Entry → (stored : Bool) → (line : List ℕ) → List ℕ
-reply_to s entries stored line = reply_or_save (file_asked line) stored (plain_reply s entries line)
+abbrev pub line_reply : Subject → Said → (stored : Bool) → (line : List ℕ) → List ℕ
+line_reply s said stored line = reply_or_save (file_asked line) stored (plain_reply s said line)
 
-abbrev pub entries_after_line : Subject → List Entry → List ℕ → List Entry
-entries_after_line s entries line =
-    if is_too_long line then entries else (outcome s entries (instruction_of line)).entries
+abbrev pub said_after_line : Subject → Said → List ℕ → Said
+said_after_line s said line =
+    if is_too_long line then said else (outcome s said (instruction_of line)).said
 
 -- the replies to the lines of a console, in order, up to `quit`
-abbrev pub replies : Subject → List Entry → (saves : List Bool) → (lines : List (List ℕ)) → List ℕ
-replies s entries saves [] = []
-replies s entries saves (line ∷ lines) =
-    if ends_session line then [] else reply_to s entries (next_save saves) line
-    ++ replies s (entries_after_line s entries line) (saves_after_line (file_asked line) saves) lines
+abbrev pub line_replies : Subject → Said → (saves : List Bool) → (lines : List (List ℕ)) → List ℕ
+line_replies s said saves [] = []
+line_replies s said saves (line ∷ lines) =
+    if ends_session line then [] else line_reply s said (next_save saves) line
+    ++ line_replies s (said_after_line s said line) (saves_after_line (file_asked line) saves) lines
 
 -- ---- what is printed
 
 -- of a saved session that does not fit, the line on it and nothing else
-abbrev pub said_if_fits : Option Misfit → List ℕ → List ℕ
-said_if_fits (Some misfit) text = misfit_line misfit
-said_if_fits None text = text
+abbrev pub printed_if_fits : Option Misfit → List ℕ → List ℕ
+printed_if_fits (Some misfit) text = misfit_line misfit
+printed_if_fits None text = text
 
 -- the opening, and the replies
-abbrev pub said : Subject → Start → (saves : List Bool) → (lines : List (List ℕ)) → List ℕ
-said s start saves lines =
-    said_if_fits (misfit s start)
-    (opening s (entries_at_start start) ++ replies s (entries_at_start start) saves lines)
+abbrev pub all_printed : Subject → Start → (saves : List Bool) → (lines : List (List ℕ)) → List ℕ
+all_printed s start saves lines =
+    printed_if_fits (misfit s start) (opening_of s start ++ line_replies s (said_at_start start) saves lines)
 
 -- the whole of what is printed where the console has these bytes
 abbrev pub transcript : Subject → Start → (saves : List Bool) → (bytes : List ℕ) → List ℕ
-transcript s start saves bytes = said s start saves (lines_of bytes)
+transcript s start saves bytes = all_printed s start saves (lines_of bytes)

@@ -1,30 +1,38 @@
 -- What the lines of a console do to the entries, read as acts: an entry stands if one of these made it and none took it
 -- back. No list of entries with flags is kept here, as a book keeps one.
 use Rattle.std.specs.Prelude.{if◌then◌else◌, ◌∷◌, ◌≡◌, [], ℕ, List, None, Option, Some, length, option_map}
-use Rattle.answer_book.specs.declared.entries.{Entry.Entry, Judgement.Judgement}
+use Rattle.answer_book.specs.declared.entries.Judgement.{Judgement}
 use Rattle.optimal_query.specs.Accepted.{CommandAct, act_of, acts_giving, and_then, entries_after, standing_after}
 use Rattle.optimal_query.specs.Laws.{state_in}
 use Rattle.optimal_query.specs.Standing.{Command, Judge, TakeBack, TakeBackLast, Trust}
 use Rattle.optimal_query.specs.declared.state.SearchState.{SearchState, TheVariants.Ask}
 use Rattle.dialog_replies.specs.{Instructions.instruction_of, Subject.Subject, Subject.routine_named}
+use Rattle.dialog_replies.specs.Said.{KeptReplies, Said, kept_on}
 use Rattle.dialog_replies.specs.declared.instructions.{DialogCommand.DialogCommand, Instruction.Instruction}
-use Rattle.ask_session.specs.{Dialog.is_too_long, Turned.entries_through}
+use Rattle.ask_session.specs.{Dialog.is_too_long, Turned.said_through}
 
 -- a judgement on the call that is asked about, if one is
 abbrev pub judgement_on : Judgement → SearchState → Option Command
 judgement_on judgement (Ask call weight suspects left) = Some (Judge call judgement)
 judgement_on judgement state = None
 
--- the command to a search that an instruction is after these acts, if it is one
-abbrev pub command_in : Subject → List CommandAct → Instruction → Option Command
-command_in s acts (Instruction.Command (DialogCommand.Judge judgement None)) =
+-- the judgement that was kept of the question, on the call that is asked about, if there are both
+abbrev pub judgement_kept : Subject → KeptReplies → SearchState → Option Command
+judgement_kept s kept (Ask call weight suspects left) = option_map (Judge call) (kept_on s kept call)
+judgement_kept s kept state = None
+
+-- the command to a search that an instruction is after these acts, if it is one, where these replies are kept
+abbrev pub command_in : Subject → KeptReplies → List CommandAct → Instruction → Option Command
+command_in s kept acts (Instruction.Command (DialogCommand.Judge judgement None)) =
     judgement_on judgement (state_in s.tree (standing_after acts))
-command_in s acts (Instruction.Command (DialogCommand.Judge judgement (Some call))) = Some (Judge call judgement)
-command_in s acts (Instruction.Command (DialogCommand.TrustNamed name)) = option_map Trust (routine_named s name)
-command_in s acts (Instruction.Command (DialogCommand.Trust routine)) = Some (Trust routine)
-command_in s acts (Instruction.Command (DialogCommand.TakeBack None)) = Some TakeBackLast
-command_in s acts (Instruction.Command (DialogCommand.TakeBack (Some number))) = Some (TakeBack number)
-command_in s acts instruction = None
+command_in s kept acts (Instruction.Command (DialogCommand.Judge judgement (Some call))) = Some (Judge call judgement)
+command_in s kept acts (Instruction.Command DialogCommand.Same) =
+    judgement_kept s kept (state_in s.tree (standing_after acts))
+command_in s kept acts (Instruction.Command (DialogCommand.TrustNamed name)) = option_map Trust (routine_named s name)
+command_in s kept acts (Instruction.Command (DialogCommand.Trust routine)) = Some (Trust routine)
+command_in s kept acts (Instruction.Command (DialogCommand.TakeBack None)) = Some TakeBackLast
+command_in s kept acts (Instruction.Command (DialogCommand.TakeBack (Some number))) = Some (TakeBack number)
+command_in s kept acts instruction = None
 
 -- what it does; nothing where it is refused
 abbrev pub act_by : Subject → List CommandAct → Option Command → Option CommandAct
@@ -32,17 +40,18 @@ act_by s acts None = None
 act_by s acts (Some command) = act_of (length s.tree.routine) s.routines acts command
 
 -- these acts and that of a line
-abbrev pub acts_after_line : Subject → List CommandAct → (line : List ℕ) → List CommandAct
-acts_after_line s acts line =
-    and_then acts (act_by s acts (if is_too_long line then None else command_in s acts (instruction_of line)))
+abbrev pub acts_after_line : Subject → KeptReplies → List CommandAct → (line : List ℕ) → List CommandAct
+acts_after_line s kept acts line =
+    and_then acts (act_by s acts (if is_too_long line then None else command_in s kept acts (instruction_of line)))
 
-abbrev pub acts_after_lines : Subject → List CommandAct → (lines : List (List ℕ)) → List CommandAct
-acts_after_lines s acts [] = acts
-acts_after_lines s acts (line ∷ lines) = acts_after_lines s (acts_after_line s acts line) lines
+abbrev pub acts_after_lines : Subject → KeptReplies → List CommandAct → (lines : List (List ℕ)) → List CommandAct
+acts_after_lines s kept acts [] = acts
+acts_after_lines s kept acts (line ∷ lines) = acts_after_lines s kept (acts_after_line s kept acts line) lines
 
 -- After these lines the entries are those that the acts make which gave the first ones, and those of the lines; an
 -- entry stands there if no act took it back.
 abbrev pub EntriesFollowLines : Subject → Type 0
 EntriesFollowLines s =
-    (first : List Entry) (lines : List (List ℕ))
-    → entries_through s first lines ≡ entries_after (acts_after_lines s (acts_giving first) lines)
+    (first : Said) (lines : List (List ℕ))
+    → (said_through s first lines).entries
+    ≡ entries_after (acts_after_lines s first.replies (acts_giving first.entries) lines)

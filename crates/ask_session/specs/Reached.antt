@@ -1,9 +1,8 @@
 -- How far a dialog came.
 use Rattle.std.specs.Prelude.{◌+◌, ◌<◌, ◌≡◌, ◌≤◌, ◌⊎◌, ℕ, Bool, List, Option, length, take}
 use Rattle.edge_ports.specs.Told.{GavePrefix}
-use Rattle.answer_book.specs.declared.entries.Entry.{Entry}
-use Rattle.dialog_replies.specs.{Subject.Subject, declared.start.Start.Start}
-use Rattle.ask_session.specs.{Dialog.replies, Dialog.said, Saves.Save, Saves.saves_asked, Saves.saves_in}
+use Rattle.dialog_replies.specs.{Said.Said, Subject.Subject, declared.start.Start.Start}
+use Rattle.ask_session.specs.{Dialog.all_printed, Dialog.line_replies, Saves.Save, Saves.saves_asked, Saves.saves_in}
 
 -- what is said of lines, by the answers to those that ask to save, and what they ask to save
 pub record Telling : Type 0 where
@@ -12,11 +11,11 @@ pub record Telling : Type 0 where
 
 -- of the lines of a session, its opening included
 abbrev pub telling : Subject → Start → Telling
-telling s start = record { text = said s start; asked = saves_in s start }
+telling s start = record { text = all_printed s start; asked = saves_in s start }
 
--- of lines that are replied from these entries on
-abbrev pub telling_from : Subject → Start → List Entry → Telling
-telling_from s start entries = record { text = replies s entries; asked = saves_asked s start entries }
+-- of lines that are replied from what was said on
+abbrev pub telling_from : Subject → Start → Said → Telling
+telling_from s start said = record { text = line_replies s said; asked = saves_asked s start said }
 
 -- These are the answers to the saves among the first lines, so many of them; or to that of the line after them too.
 abbrev pub AnswersFirst : Telling → (lines : List (List ℕ)) → (count : ℕ) → (saves : List Bool) → Type 0

@@ -3,9 +3,9 @@ use Rattle.std.specs.Prelude.{if◌then◌else◌, ◌++◌, ◌∷◌, ◌≡�
 use Rattle.std.specs.Prelude.{false, length, true}
 use Rattle.edge_ports.specs.{Counts.KeeperCounts, Counts.counts_stored, declared.ports.StoreFault.StoreFault}
 use Rattle.edge_ports.specs.Files.{FileMap, KeepsOthers, StoresFile}
-use Rattle.answer_book.specs.declared.entries.Entry.{Entry}
-use Rattle.dialog_replies.specs.{Start.entries_at_start, Start.saved_text, Subject.Subject, declared.start.Start.Start}
-use Rattle.ask_session.specs.Dialog.{ends_session, entries_after_line, file_asked}
+use Rattle.dialog_replies.specs.{Said.Said, Subject.Subject, declared.start.Start.Start}
+use Rattle.dialog_replies.specs.Start.{said_at_start, saved_text}
+use Rattle.ask_session.specs.Dialog.{ends_session, file_asked, said_after_line}
 use Rattle.ask_session.specs.declared.dialog.Ending.{Ending}
 
 -- a file that is to be stored: its name, and the session's text
@@ -13,20 +13,20 @@ pub record Save : Type 0 where
   pub file : List ℕ
   pub text : List ℕ
 
--- what a line asks to save: the entries of that moment
-abbrev pub save_of : Start → List Entry → (file : Option (List ℕ)) → List Save
-save_of start entries (Some file) = record { file = file; text = saved_text start entries } ∷ []
-save_of start entries None = []
+-- what a line asks to save: the session of that moment
+abbrev pub save_of : Subject → Start → Said → (file : Option (List ℕ)) → List Save
+save_of s start said (Some file) = record { file = file; text = saved_text s start said } ∷ []
+save_of s start said None = []
 
 -- what the lines of a console ask to save, in order, up to `quit`
-abbrev pub saves_asked : Subject → Start → List Entry → (lines : List (List ℕ)) → List Save
-saves_asked s start entries [] = []
-saves_asked s start entries (line ∷ lines) =
-    if ends_session line then [] else save_of start entries (file_asked line)
-    ++ saves_asked s start (entries_after_line s entries line) lines
+abbrev pub saves_asked : Subject → Start → Said → (lines : List (List ℕ)) → List Save
+saves_asked s start said [] = []
+saves_asked s start said (line ∷ lines) =
+    if ends_session line then [] else save_of s start said (file_asked line)
+    ++ saves_asked s start (said_after_line s said line) lines
 
 abbrev pub saves_in : Subject → Start → (lines : List (List ℕ)) → List Save
-saves_in s start lines = saves_asked s start (entries_at_start start) lines
+saves_in s start lines = saves_asked s start (said_at_start start) lines
 
 -- the file was stored, or of its name nothing is known; all others stay
 abbrev pub FileAfter : (stored : Bool) → Save → (before now : Option FileMap) → Type 0

@@ -3,17 +3,16 @@ use Rattle.std.specs.Prelude.{◌++◌, ◌<◌, ◌∷◌, ◌≡◌, ◌≤◌
 use Rattle.std.specs.Prelude.{length, true}
 use Rattle.edge_ports.specs.{Counts.KeeperCounts, Files.FileMap, Limits.console_bytes, Told.GaveAll, Told.GavePrefix}
 use Rattle.edge_ports.specs.Lines.{LinesState, handed_lines, lines_heard}
-use Rattle.answer_book.specs.declared.entries.Entry.{Entry}
-use Rattle.dialog_replies.specs.{Start.entries_at_start, Subject.Subject, declared.start.Start.Start}
+use Rattle.dialog_replies.specs.{Said.Said, Start.said_at_start, Subject.Subject, declared.start.Start.Start}
 use Rattle.ask_session.specs.{Dialog.save_reply, Outside.Outside, declared.dialog.Ending.Ending}
-use Rattle.ask_session.specs.Dialog.{ends_among, ends_session, entries_after_line, next_save, replies, reply_to}
+use Rattle.ask_session.specs.Dialog.{ends_among, ends_session, line_replies, line_reply, next_save, said_after_line}
 use Rattle.ask_session.specs.Heard.{EndedBy, GaveBy, Heard, IsHeard, is_console, is_screen, lines_in}
 use Rattle.ask_session.specs.Reached.{Reached, telling_from}
 use Rattle.ask_session.specs.Saves.{AreAnswered, CountsAfter, FilesAfter, Save, counts_saved, saves_asked, saves_in}
 
--- the entries, and the keeper's files and counts, at one moment of a dialog
+-- what was said, and the keeper's files and counts, at one moment of a dialog
 pub record DialogMoment : Type 0 where
-  pub entries : List Entry
+  pub said : Said
   pub files : Option FileMap
   pub counts : KeeperCounts
 
@@ -40,25 +39,25 @@ pub record Talk : Type 0 where
 abbrev pub one_line : List ℕ → List Bool → Talk
 one_line line saves = record { lines = line ∷ []; saves = saves }
 
--- the entries after lines none of which ends the session
-abbrev pub entries_through : Subject → List Entry → List (List ℕ) → List Entry
-entries_through s entries [] = entries
-entries_through s entries (line ∷ lines) = entries_through s (entries_after_line s entries line) lines
+-- what was said after lines none of which ends the session
+abbrev pub said_through : Subject → Said → List (List ℕ) → Said
+said_through s said [] = said
+said_through s said (line ∷ lines) = said_through s (said_after_line s said line) lines
 
 -- these lines were answered, and none of them ends the session
 pub record Passes (s : Subject) (start : Start) (old : DialogMoment) (talk : Talk) (new : DialogMoment) : Type 0 where
   pub on : ends_among talk.lines ≡ false
-  pub entries_are : new.entries ≡ entries_through s old.entries talk.lines
-  pub answered : length talk.saves ≡ length (saves_asked s start old.entries talk.lines)
-  pub files_are : FilesAfter talk.saves (saves_asked s start old.entries talk.lines) old.files new.files
+  pub said_is : new.said ≡ said_through s old.said talk.lines
+  pub answered : length talk.saves ≡ length (saves_asked s start old.said talk.lines)
+  pub files_are : FilesAfter talk.saves (saves_asked s start old.said talk.lines) old.files new.files
   pub counts_are : new.counts ≡ counts_saved talk.saves old.counts
 
 -- memory ran out at this line, after the answer to its save or before
 pub record BreaksOff (s : Subject) (start : Start) (old : DialogMoment) (line : List ℕ) (new : DialogMoment) : Type 0
   where
     pub saves : List Bool
-    pub answered : length saves ≤ length (saves_asked s start old.entries (line ∷ []))
-    pub files_are : FilesAfter saves (saves_asked s start old.entries (line ∷ [])) old.files new.files
+    pub answered : length saves ≤ length (saves_asked s start old.said (line ∷ []))
+    pub files_are : FilesAfter saves (saves_asked s start old.said (line ∷ [])) old.files new.files
     pub counts_are : CountsAfter Ending.Memory saves old.counts new.counts
 
 -- the reply to a save, or that memory ran out
@@ -79,7 +78,7 @@ SaveGoes save old (Err Ending.Refused) new = ⊥
 abbrev pub AnswersLine : Subject → Start → LineAt → Result (List ℕ) Ending → DialogMoment → Type 0
 AnswersLine s start old (Ok reply) new =
     (saves : List Bool) × Passes s start old.moment (one_line old.line saves) new
-    × (reply ≡ reply_to s old.moment.entries (next_save saves) old.line)
+    × (reply ≡ line_reply s old.moment.said (next_save saves) old.line)
 AnswersLine s start old (Err Ending.Memory) new = BreaksOff s start old.moment old.line new
 AnswersLine s start old (Err Ending.Done) new = (ends_session old.line ≡ true) × (new ≡ old.moment)
 AnswersLine s start old (Err Ending.Console) new = ⊥
@@ -138,9 +137,9 @@ pub record Answered (s : Subject) (start : Start) (first now : DialogStage) : Ty
   pub passes : Passes s start first.progress.moment
       (record { lines = handed_lines now.progress.lines; saves = saves }) now.progress.moment
   pub gave : GaveAll first.given now.given
-      (replies s first.progress.moment.entries saves (handed_lines now.progress.lines))
+      (line_replies s first.progress.moment.said saves (handed_lines now.progress.lines))
 
--- the lines of the console were answered, from the entries at the start on
+-- the lines of the console were answered, from what was said at the start on
 pub record Talked (s : Subject) (start : Start) (before : Outside) (e : Ending) (after : Outside) : Type 0 where
   pub heard : Heard
   pub saves : List Bool
@@ -149,8 +148,8 @@ pub record Talked (s : Subject) (start : Start) (before : Outside) (e : Ending) 
   pub not_refused : e ≡ Ending.Refused → ⊥
   pub answered : AreAnswered e saves (saves_in s start (lines_in heard))
   pub gave : GaveBy e before.streams.given after.streams.given
-      (replies s (entries_at_start start) saves (lines_in heard))
-  pub reached : Reached (telling_from s start (entries_at_start start)) (lines_in heard) saves before.streams.given
+      (line_replies s (said_at_start start) saves (lines_in heard))
+  pub reached : Reached (telling_from s start (said_at_start start)) (lines_in heard) saves before.streams.given
       after.streams.given
   pub files : FilesAfter saves (saves_in s start (lines_in heard)) before.files after.files
   pub counts : CountsAfter e saves before.counts after.counts

@@ -4,17 +4,16 @@ ghost use Rattle.std.specs.{Prelude.length, Io.KnownBytes.IsAtEnd};
 ghost use Rattle.edge_ports.specs.{Limits.line_bytes, Lines.Moves, Told.GaveAll, Told.GavePrefix, Turns.IsConsistent};
 ghost use Rattle.edge_ports.specs.Counts.{Counted, counts_stored};
 ghost use Rattle.edge_ports.specs.declared.ports.StoreFault.TheVariants as store;
-ghost use Rattle.dialog_replies.specs.{Kept.IsSearchOf, Start.entries_at_start, Start.saved_text, Subject.Subject};
-ghost use Rattle.dialog_replies.specs.declared.start.Start.{Start as StartValue};
+ghost use Rattle.dialog_replies.specs.{Kept.IsDialogOf, Kept.said_in_dialog, Start.said_at_start, Start.saved_text};
+ghost use Rattle.dialog_replies.specs.{Subject.Subject, declared.start.Start.Start as StartValue};
 ghost use Rattle.ask_session.specs.{Dialog.save_reply, Heard.is_console, Heard.is_screen, Saves.FileAfter};
 ghost use Rattle.ask_session.specs.{Saves.counts_saved, Turned.console_failed, Turned.screen_failed};
 ghost use Rattle.ask_session.specs.Turned.{AnswersLine, LineAt, NextReply, ReplyGiven, SaveGoes, Talked};
 
 use dialog_replies::{
-    Debugged, FileName, Instruction, Start, answer, instruction_in, session_text_of,
+    Debugged, Dialog, FileName, Instruction, Start, answer, instruction_in, session_text_of,
 };
 use edge_ports::{Bytes, Keeper, LineFault, Lines, Sink, Source, StoreFault, Turn, write_all};
-use optimal_query::Debug;
 use std::alloc::{AllocError, AllocFailed, Global};
 
 /// How a dialog ended.
@@ -91,19 +90,24 @@ fn save_reply(alloc: Global, stored: bool, file: &FileName<'_>) -> Result<Bytes,
 }
 
 /// Saves the session of the moment in this file, and answers the reply.
-fn save<K: Keeper>(
+fn save<D: Debugged, K: Keeper>(
     alloc: Global,
+    run: &D,
     start: &Start,
     keeper: &mut K,
-    debug: &Debug,
+    dialog: &mut Dialog,
     file: &FileName<'_>,
 ) -> Result<Bytes, Ending>
-    ensures goes { SaveGoes (record { file = file.now; text = saved_text start.now debug.now.book.entries })
-        (record { entries = debug.now.book.entries; files = K.files keeper.old; counts = K.counts keeper.old })
+    requires dialog { IsDialogOf (D.subject run.now) dialog.old }
+    ensures goes { SaveGoes
+        (record { file = file.now; text = saved_text (D.subject run.now) start.now (said_in_dialog dialog.old) })
+        (record { said = said_in_dialog dialog.old; files = K.files keeper.old; counts = K.counts keeper.old })
         result
-        (record { entries = debug.now.book.entries; files = K.files keeper.new; counts = K.counts keeper.new }) }
+        (record { said = said_in_dialog dialog.new; files = K.files keeper.new; counts = K.counts keeper.new }) }
+    ensures said { said_in_dialog dialog.new ≡ said_in_dialog dialog.old }
+    ensures dialog { IsDialogOf (D.subject run.now) dialog.new }
 {
-    let Ok(text) = session_text_of(alloc, start, debug) else {
+    let Ok(text) = session_text_of(alloc, run, start, dialog) else {
         return Err(Ending::Memory);
     };
     match store_text(alloc, keeper, file.as_str(), text.as_slice()) {
@@ -118,28 +122,28 @@ fn answer_line<D: Debugged, K: Keeper>(
     run: &D,
     start: &Start,
     keeper: &mut K,
-    debug: &mut Debug,
+    dialog: &mut Dialog,
     line: &[u8],
 ) -> Result<Bytes, Ending>
-    requires search { IsSearchOf (D.subject run.now) debug.old }
+    requires dialog { IsDialogOf (D.subject run.now) dialog.old }
     requires short { length line.now ≤ line_bytes }
     ensures answers { AnswersLine (D.subject run.now) start.now
         (record {
           line = line.now;
           moment = record {
-            entries = debug.old.book.entries;
+            said = said_in_dialog dialog.old;
             files = K.files keeper.old;
             counts = K.counts keeper.old;
           };
         })
         result
-        (record { entries = debug.new.book.entries; files = K.files keeper.new; counts = K.counts keeper.new }) }
-    ensures search { IsSearchOf (D.subject run.now) debug.new }
+        (record { said = said_in_dialog dialog.new; files = K.files keeper.new; counts = K.counts keeper.new }) }
+    ensures dialog { IsDialogOf (D.subject run.now) dialog.new }
 {
     match instruction_in(line) {
         Instruction::Quit => Err(Ending::Done),
-        Instruction::Save(file) => save(alloc, start, keeper, debug, &file),
-        Instruction::Command(command) => match answer(alloc, run, debug, command) {
+        Instruction::Save(file) => save(alloc, run, start, keeper, dialog, &file),
+        Instruction::Command(command) => match answer(alloc, run, dialog, command) {
             Ok(reply) => Ok(reply),
             Err(_) => Err(Ending::Memory),
         },
@@ -166,15 +170,15 @@ fn next_reply<D: Debugged, K: Keeper, I: Source>(
     run: &D,
     start: &Start,
     keeper: &mut K,
-    debug: &mut Debug,
+    dialog: &mut Dialog,
     lines: &mut Lines,
     console: &mut I,
 ) -> Result<Bytes, Ending>
-    requires search { IsSearchOf (D.subject run.now) debug.old }
+    requires dialog { IsDialogOf (D.subject run.now) dialog.old }
     ensures reply { NextReply (D.subject run.now) start.now
         (record {
           moment = record {
-            entries = debug.old.book.entries;
+            said = said_in_dialog dialog.old;
             files = K.files keeper.old;
             counts = K.counts keeper.old;
           };
@@ -183,7 +187,7 @@ fn next_reply<D: Debugged, K: Keeper, I: Source>(
         result
         (record {
           moment = record {
-            entries = debug.new.book.entries;
+            said = said_in_dialog dialog.new;
             files = K.files keeper.new;
             counts = K.counts keeper.new;
           };
@@ -195,11 +199,11 @@ fn next_reply<D: Debugged, K: Keeper, I: Source>(
     ensures faults { Counted (console_failed result) (I.faults console.old) (I.faults console.new) }
     ensures not_screen { screen_failed result ≡ false }
     ensures consistent { IsConsistent lines.new }
-    ensures search { IsSearchOf (D.subject run.now) debug.new }
+    ensures dialog { IsDialogOf (D.subject run.now) dialog.new }
     ensures handed { OnOk result (lines.old.handed < lines.new.handed) }
 {
     match lines.next(console) {
-        Ok(Turn::Line) => answer_line(alloc, run, start, keeper, debug, lines.line()),
+        Ok(Turn::Line) => answer_line(alloc, run, start, keeper, dialog, lines.line()),
         Ok(Turn::TooLong) => too_long(alloc),
         Ok(Turn::End) => Err(Ending::Done),
         Err(LineFault::Failed) => Err(Ending::Console),
@@ -228,17 +232,17 @@ fn turn<D: Debugged, K: Keeper, I: Source, O: Sink>(
     run: &D,
     start: &Start,
     keeper: &mut K,
-    debug: &mut Debug,
+    dialog: &mut Dialog,
     lines: &mut Lines,
     console: &mut I,
     screen: &mut O,
 ) -> Result<(), Ending>
-    requires search { IsSearchOf (D.subject run.now) debug.old }
+    requires dialog { IsDialogOf (D.subject run.now) dialog.old }
     ensures turned { ReplyGiven (D.subject run.now) start.now
         (record {
           progress = record {
             moment = record {
-              entries = debug.old.book.entries;
+              said = said_in_dialog dialog.old;
               files = K.files keeper.old;
               counts = K.counts keeper.old;
             };
@@ -250,7 +254,7 @@ fn turn<D: Debugged, K: Keeper, I: Source, O: Sink>(
         (record {
           progress = record {
             moment = record {
-              entries = debug.new.book.entries;
+              said = said_in_dialog dialog.new;
               files = K.files keeper.new;
               counts = K.counts keeper.new;
             };
@@ -266,29 +270,29 @@ fn turn<D: Debugged, K: Keeper, I: Source, O: Sink>(
     ensures last { IsTrue (screen_failed result) → IsTrue (O.last_failed screen.new) }
     ensures loan { O.loan screen.new ≡ O.loan screen.old }
     ensures consistent { IsConsistent lines.new }
-    ensures search { IsSearchOf (D.subject run.now) debug.new }
+    ensures dialog { IsDialogOf (D.subject run.now) dialog.new }
     ensures handed { OnOk result (lines.old.handed < lines.new.handed) }
 {
-    match next_reply(alloc, run, start, keeper, debug, lines, console) {
+    match next_reply(alloc, run, start, keeper, dialog, lines, console) {
         Ok(reply) => give_reply(screen, reply.as_slice()),
         Err(ending) => Err(ending),
     }
 }
 
-/// Answers the lines of the console, up to `quit` or its end. It takes memory for the entries, for each reply and for
-/// each file that is stored.
+/// Answers the lines of the console, up to `quit` or its end. It takes memory for notes, for the digests of questions,
+/// for each reply and for each file that is stored.
 pub fn answer_lines<D: Debugged, K: Keeper, I: Source, O: Sink>(
     alloc: Global,
     run: &D,
     start: &Start,
     keeper: &mut K,
-    debug: &mut Debug,
+    dialog: &mut Dialog,
     lines: &mut Lines,
     console: &mut I,
     screen: &mut O,
 ) -> Ending
-    requires search { IsSearchOf (D.subject run.now) debug.old }
-    requires first { debug.old.book.entries ≡ entries_at_start start.now }
+    requires dialog { IsDialogOf (D.subject run.now) dialog.old }
+    requires first { said_in_dialog dialog.old ≡ said_at_start start.now }
     requires fresh { lines.old ≡ record { taken = []; handed = 0; ended = false; line = [] } }
     // What was heard of the console, what the screen got by how the dialog ended, and why it ended; and what became of
     // the keeper.
@@ -313,7 +317,7 @@ pub fn answer_lines<D: Debugged, K: Keeper, I: Source, O: Sink>(
     ensures loan { O.loan screen.new ≡ O.loan screen.old }
 {
     'lines: loop {
-        match turn(alloc, run, start, keeper, debug, lines, console, screen) {
+        match turn(alloc, run, start, keeper, dialog, lines, console, screen) {
             Ok(()) => {}
             Err(ending) => return ending,
         }

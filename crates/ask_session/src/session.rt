@@ -46,15 +46,22 @@ fn hold_session<D: Debugged, K: Keeper, I: Source, O: Sink>(
     let Ok(mut lines) = Lines::new(alloc) else {
         return Ending::Memory;
     };
-    let Ok(mut debug) = resume(alloc, run, start) else {
+    let Ok(mut dialog) = resume(alloc, run, start) else {
         return Ending::Memory;
     };
-    let Ok(opening) = open(alloc, run, &debug) else {
+    let Ok(opening) = open(alloc, run, start, &mut dialog) else {
         return Ending::Memory;
     };
     match write_all(screen, opening.as_slice()) {
         Ok(()) => answer_lines(
-            alloc, run, start, keeper, &mut debug, &mut lines, console, screen,
+            alloc,
+            run,
+            start,
+            keeper,
+            &mut dialog,
+            &mut lines,
+            console,
+            screen,
         ),
         Err(_) => Ending::Screen,
     }
@@ -100,9 +107,10 @@ fn hold_if_fit<D: Debugged, K: Keeper, I: Source, O: Sink>(
 
 /// A session about a run. It gives the card of call 0 and a report to the screen, as the saved session's entries
 /// stand, and then the reply to each line of the console, up to `quit` or the console's end. A line that asks for it
-/// stores the session of that moment. What the session gives is a function of the run's columns, names and texts, of
-/// the start, of the console's bytes, and of whether each file was stored. A saved session that does not fit the run is
-/// refused by one line.
+/// stores the session of that moment. Where the saved session is of another run, the replies alone that it keeps are
+/// gone on with, and a line before the card says so. What the session gives is a function of the run's columns, names
+/// and texts, of the start, of the console's bytes, and of whether each file was stored. A saved session that does not
+/// fit the run is refused by one line.
 ///
 /// A store that runs out of memory ends the session with `Memory`.
 pub fn converse<D: Debugged, K: Keeper, I: Source, O: Sink>(

@@ -1,11 +1,11 @@
 -- Fields of a record that a name does not go on with.
-use Rattle.std.proofs.Common.{◌+◌, ◌-◌, ◌∙◌, ◌≡◌, ◌≤◌, ℕ, Bool, List, None, Option, Some, ap, arith, false, is_some, refl, sym, true}
-use Rattle.core_program.specs.ProgramRows.{ProgramRows, row_at, type_at}
+use Rattle.std.proofs.Common.{◌+◌, ◌-◌, ◌∙◌, ◌≡◌, ◌≤◌, ℕ, Bool, List, None, Option, Some, ap, arith, codes, false, is_some, refl, sym, true}
+use Rattle.core_program.specs.ProgramRows.{ProgramRows, row_at, text_at, type_at}
 use Rattle.core_program.specs.declared.rows.{NameRow.NameRow, Row.Row, TypeRow.TypeRow}
-use Rattle.cell_names.proofs.{CellsAlike.moved_none, NamesPassed.nothing_by}
-use Rattle.cell_names.specs.NamedBy.{after_part, leads_by, leads_on}
+use Rattle.cell_names.proofs.{CellsAlike.moved_none, NameParts.then_both, NamesPassed.neither, NamesPassed.nothing_by}
+use Rattle.cell_names.specs.NamedBy.{after_part, leads_by, leads_on, then_part}
 use Rattle.cell_names.specs.Names.{Scene, field_step, record_step, selector_text, step_by, step_down, typed_step}
-use Rattle.cell_names.specs.Walks.{goes_by, is_selected, is_selected_at, moved, record_in, record_of}
+use Rattle.cell_names.specs.Walks.{goes_by, is_selected, is_selected_at, may_select, moved, record_in, record_of}
 use Rattle.cell_names.specs.declared.{names.Held.Held, names.Spot.Spot, names.Step.Step, places.PlacedPart.PlacedPart}
 
 typed_record : (s : Scene) (of' place owner : ℕ) (t : Option TypeRow) → record_in of' t ≡ Some owner
@@ -66,3 +66,19 @@ no_field s at owner name last is none go k below =
     ap (leads_by s.program go name) (step_in_record s at owner k is)
     ∙ not_gone s.program go name (record_step s.program (at.place + k) (s.finding.component owner (at.place + k)))
     (by_field s.program (at.place + k) (s.finding.component owner (at.place + k)) name ∙ none k below)
+
+by_texts : (p : ProgramRows) (number place : ℕ) (r : Row) (name : List ℕ)
+    → is_some (then_part (text_at p number) (after_part (codes ".") name)) ≡ false → is_some (after_part (codes ".case") name) ≡ false
+    → goes_by p (field_step number place r) name ≡ false
+by_texts p number place (Row.Name (NameRow.Field of' offset holder)) name field tag =
+    ap is_some (then_both (codes ".") (text_at p number) (Some name)) ∙ field
+by_texts p number place (Row.Name (NameRow.Tag of' offset holder variants)) name field tag =
+    ap is_some (then_both (codes ".") (text_at p number) (Some name)) ∙ field
+by_texts p number place (Row.Part r) name field tag = tag
+by_texts p number place r name field tag = refl
+
+-- a name does not go on where no text fits
+pub not_selected : (p : ProgramRows) (part : PlacedPart) (name : List ℕ) → may_select p part.number name ≡ false → is_selected p (Some part) name ≡ false
+not_selected p part name e =
+    let both = neither (is_some (then_part (text_at p part.number) (after_part (codes ".") name))) (is_some (after_part (codes ".case") name)) e in
+    by_texts p part.number (0 - part.place) (row_at p part.number) name both.0 both.1

@@ -1,6 +1,6 @@
 -- Names of cells: the variable, whose it is, and the selectors on the way down to the cell (ISO 7185, 6.5).
-use Rattle.std.specs.Prelude.{if◌then◌else◌, ◌%◌, ◌++◌, ◌+ℤ◌, ◌-◌, ◌/◌, ◌==◌, ◌≡◌, [], ℕ, ℤ, Bool, List, None, Option}
-use Rattle.std.specs.Prelude.{Some, codes, decimal, false, nat_le, pos, slice_get, suc, zero}
+use Rattle.std.specs.Prelude.{if◌then◌else◌, ◌%◌, ◌&&◌, ◌++◌, ◌+ℤ◌, ◌-◌, ◌/◌, ◌==◌, ◌≡◌, [], ℕ, ℤ, Bool, List, None}
+use Rattle.std.specs.Prelude.{Option, Some, codes, decimal, false, nat_le, nat_lt, pos, slice_get, suc, zero}
 use Rattle.cell_value.specs.Effects.{heap_start}
 use Rattle.core_program.specs.ProgramRows.{ProgramRows, name_of, routine_at, row_at, size_of, text_at, type_at}
 use Rattle.core_program.specs.declared.program.Routine.{Routine}
@@ -196,6 +196,15 @@ root_at s address =
     if nat_le heap_start address then heap_root address (s.finding.block address)
     else stack_root s address (s.opened address)
 
+abbrev pub begins_there : (address : ℕ) → Option PlacedPart → Bool
+begins_there address None = false
+begins_there address (Some part) = part.place == address
+
+-- whether the cell at an address is the first one of the frame of an open call: its link to the frame in which its
+-- routine was declared
+abbrev pub is_link : Scene → (address : ℕ) → Bool
+is_link s address = nat_lt address heap_start && begins_there address (s.opened address)
+
 -- whose a variable of a call is, where it is none of call 0
 abbrev pub whose_text : ProgramRows → (call routine : ℕ) → List ℕ
 whose_text p call routine = if call == 0 then [] else name_of p routine ++ codes "#" ++ decimal call ++ codes "."
@@ -212,10 +221,15 @@ cell_text s wanted r = origin_text s.program r.origin ++ (way_down s wanted r.sp
 abbrev pub cell_held : Scene → (wanted : Option ℕ) → Root → Held
 cell_held s wanted r = (way_down s wanted r.spot).end.held
 
-abbrev pub root_text : Scene → (wanted : Option ℕ) → Option Root → List ℕ
-root_text s wanted None = []
-root_text s wanted (Some r) = cell_text s wanted r
+-- what stands for the name of a cell that has none; no name begins with a word and a blank
+abbrev pub address_text : (address : ℕ) → List ℕ
+address_text address = codes "cell " ++ decimal address
+
+-- the name of what has an address
+abbrev pub root_text : Scene → (wanted : Option ℕ) → (address : ℕ) → Option Root → List ℕ
+root_text s wanted address None = address_text address
+root_text s wanted address (Some r) = cell_text s wanted r
 
 -- the name of the variable of a type that has an address: the first one of that type on the way down to the cell there
 abbrev pub variable_name : Scene → (of' address : ℕ) → List ℕ
-variable_name s of' address = root_text s (Some of') (root_at s address)
+variable_name s of' address = root_text s (Some of') address (root_at s address)

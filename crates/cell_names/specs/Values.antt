@@ -93,6 +93,11 @@ text_by_type p of' (Some (TypeRow.Set packed base)) v = set_value_text p base v
 text_by_type p of' (Some (TypeRow.Pointer domain)) v = pointer_text v
 text_by_type p of' t v = unknown
 
+-- a value of which no type is known: a number or a pointer
+abbrev pub untyped_text : Value → List ℕ
+untyped_text (Value.Number number) = signed_decimal number
+untyped_text v = pointer_text v
+
 -- a value of a type
 abbrev pub typed_text : ProgramRows → (of' : ℕ) → Value → List ℕ
 typed_text p of' v = text_by_type p of' (type_at p of') v

@@ -4,7 +4,7 @@ use Rattle.std.specs.Prelude.{None, Option, Some, codes, false, is_some, min, na
 use Rattle.std.specs.Prelude.{suc, true, zero}
 use Rattle.core_program.specs.ProgramRows.{ProgramRows, size_of, text_at, type_at}
 use Rattle.core_program.specs.declared.rows.TypeRow.{TypeRow}
-use Rattle.cell_names.specs.NamedBy.{after_part, block_text, call_text, is_named_by, is_over}
+use Rattle.cell_names.specs.NamedBy.{after_part, block_text, call_text, is_named_by, is_over, then_part}
 use Rattle.cell_names.specs.Names.{Scene, is_result, least_in, record_step, root, root_at, selector_text, spot, step}
 use Rattle.cell_names.specs.Values.{bounds_of, within_bounds}
 use Rattle.cell_names.specs.declared.{places.PlacedPart.PlacedPart, walks.Components.Components, walks.Walked.Walked}
@@ -89,6 +89,11 @@ record_of p h = None
 abbrev pub goes_by : ProgramRows → Option Step → (name : List ℕ) → Bool
 goes_by p None name = false
 goes_by p (Some s) name = is_some (after_part (selector_text p s.selector) name)
+
+-- whether it may: it has the text of a token after a `.`, or `.case`
+abbrev pub may_select : ProgramRows → (token : ℕ) → (name : List ℕ) → Bool
+may_select p token name =
+    is_some (then_part (text_at p token) (after_part (codes ".") name)) || is_some (after_part (codes ".case") name)
 
 abbrev pub is_selected : ProgramRows → Option PlacedPart → (name : List ℕ) → Bool
 is_selected p part name = goes_by p (record_step p 0 part) name

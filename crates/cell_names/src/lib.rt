@@ -16,9 +16,10 @@ mod walks;
 
 pub use finding::NameFinder;
 pub use names::{
-    Held, Local, Origin, Root, Scene, Spot, local_at, result_of, root_at, write_root, write_way,
+    Held, Local, Origin, Root, Scene, Spot, is_link, local_at, result_of, root_at, write_address,
+    write_root, write_way,
 };
 pub use pieces::{write_long, write_number, write_quoted, write_quoted_items};
 pub use places::{PlacedPart, PlacedParts};
-pub use values::write_typed;
+pub use values::{write_typed, write_untyped};
 pub use walks::{Walked, walk};

@@ -2,11 +2,11 @@
 
 ghost use Rattle.std.specs.Prelude.{◌++◌, ◌≡◌, IfOk, OnOk, Some, slice_get};
 ghost use Rattle.core_program.specs.ProgramRows.{type_at};
-ghost use Rattle.cell_names.specs.Names.{WentDown, cell_held, cell_text, component_step, field_step, heap_root};
-ghost use Rattle.cell_names.specs.Names.{is_of_type, is_result, is_wanted, least_in, local_at, local_in, local_root};
-ghost use Rattle.cell_names.specs.Names.{named_local, next_step, origin_text, part_local, record_step, result_local};
-ghost use Rattle.cell_names.specs.Names.{result_of, root_at, root_in, scene_in, selector_text, stack_root, step_down};
-ghost use Rattle.cell_names.specs.Names.{typed_step, way_down, whose_text};
+ghost use Rattle.cell_names.specs.Names.{WentDown, address_text, begins_there, cell_held, cell_text, component_step};
+ghost use Rattle.cell_names.specs.Names.{field_step, heap_root, is_link, is_of_type, is_result, is_wanted, least_in};
+ghost use Rattle.cell_names.specs.Names.{local_at, local_in, local_root, named_local, next_step, origin_text};
+ghost use Rattle.cell_names.specs.Names.{part_local, record_step, result_local, result_of, root_at, root_in, scene_in};
+ghost use Rattle.cell_names.specs.Names.{selector_text, stack_root, step_down, typed_step, way_down, whose_text};
 
 use crate::finding::NameFinder;
 use crate::pieces::write_number;
@@ -453,6 +453,32 @@ pub fn root_at(scene: &Scene, address: u32) -> Option<Root>
     } else {
         stack_root(scene, address, scene.opened.find(address))
     }
+}
+
+/// Whether a part begins at an address.
+fn begins_there(address: u32, part: Option<PlacedPart>) -> bool
+    ensures { result ≡ begins_there address part }
+{
+    match part {
+        None => false,
+        Some(part) => part.place == address,
+    }
+}
+
+/// Whether the cell at an address is the first one of the frame of an open call: its link to the frame in which its
+/// routine was declared.
+pub fn is_link(scene: &Scene, address: u32) -> bool
+    ensures { result ≡ is_link (scene_in scene.now) address }
+{
+    address < 524_288 && begins_there(address, scene.opened.find(address))
+}
+
+/// Appends what stands for the name of a cell that has none.
+pub fn write_address(out: &mut Bytes, address: u32) -> Result<(), AllocError>
+    ensures { OnOk result (out.new ≡ out.old ++ address_text address) }
+{
+    out.append(b"cell ")?;
+    write_number(out, address)
 }
 
 /// Appends whose a variable of a call is, where it is none of call 0.

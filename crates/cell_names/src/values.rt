@@ -4,9 +4,9 @@ ghost use Rattle.std.specs.Prelude.{◌&&◌, ◌++◌, ◌+◌, ◌<◌, ◌≡
 ghost use Rattle.cell_value.specs.Sets.{has};
 ghost use Rattle.cell_names.specs.Values.{bounds_of, constant_text, constant_token, host_text, member_text};
 ghost use Rattle.cell_names.specs.Values.{members_from, members_text, number_text, ordinal_text, pointer_text};
-ghost use Rattle.cell_names.specs.Values.{set_text, set_value_text, typed_text};
+ghost use Rattle.cell_names.specs.Values.{set_text, set_value_text, typed_text, untyped_text};
 
-use crate::pieces::{write_char, write_integer, write_number};
+use crate::pieces::{write_char, write_integer, write_long, write_number};
 use cell_value::{SetBits, Value, holds};
 use core_program::Program;
 use core_program::rows::{BOOLEAN, CHAR, INTEGER, TypeRow};
@@ -231,6 +231,16 @@ fn write_pointer(out: &mut Bytes, value: Value) -> Result<(), AllocError>
             write_number(out, address.saturating_sub(524_287))
         }
         _ => out.append(b"?"),
+    }
+}
+
+/// Appends a value of which no type is known: a number or a pointer.
+pub fn write_untyped(out: &mut Bytes, value: Value) -> Result<(), AllocError>
+    ensures { OnOk result (out.new ≡ out.old ++ untyped_text value) }
+{
+    match value {
+        Value::Number(number) => write_long(out, number),
+        _ => write_pointer(out, value),
     }
 }
 

@@ -4,13 +4,13 @@
 ghost use Rattle.std.specs.Prelude.{◌+ℤ◌, ◌+◌, ◌<◌, ◌≡◌, ◌≤◌, ℕ, Bool, IfSome, List, Some, false, is_some, length};
 ghost use Rattle.std.specs.{Prelude.option_copied, Prelude.pos, Prelude.slice_get, Prelude.true, Option.MatchOption};
 ghost use Rattle.cell_names.specs.{Finding.finding_in, Names.stack_root, Names.step_down, Places.is_begun_by};
-ghost use Rattle.cell_names.specs.{Walks.record_of, declared.names.Spot.Spot as SpotValue};
+ghost use Rattle.cell_names.specs.{Walks.moved_step, Walks.record_of, declared.names.Spot.Spot as SpotValue};
 ghost use Rattle.cell_names.specs.NamedBy.{after_part, leads_by, leads_within};
 ghost use Rattle.cell_names.specs.Names.{heap_root, least_in, local_at, local_in, most_types, root_in, scene_in};
 ghost use Rattle.cell_names.specs.Walks.{NoneAfter, NoneFrom, Walks, WalksOver, before_result, components_of};
 ghost use Rattle.cell_names.specs.Walks.{ends_or_dots, index_text, is_indexed, is_local_at, is_named_root, is_of_block};
 ghost use Rattle.cell_names.specs.Walks.{is_of_call, is_of_frame, is_of_heap, is_of_local, is_selected, is_selected_at};
-ghost use Rattle.cell_names.specs.Walks.{left_of_component, limited, moved, moved_local, moved_root, moved_step};
+ghost use Rattle.cell_names.specs.Walks.{left_of_component, limited, may_select, moved, moved_local, moved_root};
 
 use crate::name_parts::{
     then_block, then_call, then_index, then_origin, then_part, then_selector, then_sign, then_whose,
@@ -217,14 +217,33 @@ fn record_of(program: &Program, held: Held) -> Option<u32>
     }
 }
 
+/// Whether a name may go on with the field or tag of a number: its text comes next, or the text of a tag without one.
+#[inline]
+fn may_select(program: &Program, number: u32, name: &[u8]) -> bool
+    ensures { result ≡ may_select program.now number name.now }
+{
+    let left = then_sign(Some(name), b'.');
+    then_part(left, program.text(number)).is_some() || then_part(Some(name), b".case").is_some()
+}
+
 /// Whether a name goes on with a field or a tag of a record.
+fn selects(program: &Program, part: PlacedPart, name: &[u8]) -> bool
+    ensures { result ≡ is_selected program.now (Some part) name.now }
+{
+    match record_step(program, 0, Some(part)) {
+        None => false,
+        Some(step) => then_selector(Some(name), program, step.selector).is_some(),
+    }
+}
+
+/// The same of what was found. No row is read where its text does not fit.
 #[inline]
 fn is_selected(program: &Program, part: Option<PlacedPart>, name: &[u8]) -> bool
     ensures { result ≡ is_selected program.now part name.now }
 {
-    match record_step(program, 0, part) {
+    match part {
         None => false,
-        Some(step) => then_selector(Some(name), program, step.selector).is_some(),
+        Some(part) => may_select(program, part.number, name) && selects(program, part, name),
     }
 }
 

@@ -25,7 +25,7 @@ meaning words = meant (map string_bytes words)
 
 -- the most bytes of a session's file
 abbrev pub session_bytes : ℕ
-session_bytes = 16777216
+session_bytes = 67108864
 
 -- ---- files that were fetched
 

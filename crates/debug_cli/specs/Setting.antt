@@ -49,7 +49,8 @@ module _ {words : Words} {files : Option FileMap} {left : Option (List ℕ)} whe
   telling_of (InFiles r means told) = telling (subject_in told.begun) (start_in told.begun)
   telling_of (IsMade number means x) = telling_made x
 
-  -- The status that is to come: of a session that fits the run, by whether the console ends in time.
+  -- The status that is to come: of a session that fits the run or gives its replies alone, by whether the console ends
+  -- in time.
   abbrev pub ComesTo : Setting words files left → Status → Type 0
   ComesTo (InFiles r means told) Status.Done =
       (misfit (subject_in told.begun) (start_in told.begun) ≡ None) × EndsInTime told.console

@@ -55,6 +55,7 @@ field_key SessionField.Source = codes "source"
 field_key SessionField.Input = codes "input"
 field_key SessionField.Budget = codes "budget"
 field_key SessionField.Entries = codes "entries"
+field_key SessionField.Replies = codes "replies"
 
 -- the line on a file that is no session
 abbrev pub session_line : LoadFault → List ℕ

@@ -24,7 +24,7 @@ use std::alloc::Global;
 pub const SOURCE_BYTES: u64 = 1_048_576;
 
 /// The most bytes of a session's file.
-pub const SESSION_BYTES: u64 = 16_777_216;
+pub const SESSION_BYTES: u64 = 67_108_864;
 
 /// What a request names: the source's bytes and the program that they are, the input's bytes, and the session that is
 /// gone on with, if there is one.

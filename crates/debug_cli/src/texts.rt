@@ -97,6 +97,7 @@ fn field_key(field: SessionField) -> &'static str
         SessionField::Input => "input",
         SessionField::Budget => "budget",
         SessionField::Entries => "entries",
+        SessionField::Replies => "replies",
     }
 }
 

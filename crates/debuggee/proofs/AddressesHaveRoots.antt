@@ -1,17 +1,17 @@
 -- Whose frame has an address of the stack while a call runs.
 use Rattle.std.proofs.Common.{if◌then◌else◌, ◌&&◌, ◌++◌, ◌+◌, ◌-◌, ◌<◌, ◌==◌, ◌∙◌, ◌∷◌, ◌≡◌, ◌≤◌, [], ℕ, Bool, List, None, Option, Some, ap, append-nil, arith}
-use Rattle.std.proofs.Common.{cond, false, filter, length, nat_le, nat_lt, refl, subst, suc, sym, true, zero}
+use Rattle.std.proofs.Common.{cond, false, filter, inl, inr, length, nat_le, nat_lt, refl, subst, suc, sym, true, zero}
 use Rattle.std.proofs.lemmas.{Bool.Decides.nat_tests, List.Elements.filter-append, Option.slice_get-map, Option.slice_get_within}
 use Rattle.std.specs.{List.slice_get, Option.IsSome, Option.option_map}
 use Rattle.cell_value.specs.Effects.{heap_start, last_of}
 use Rattle.core_program.specs.{ProgramRows.ProgramRows, ProgramRows.routine_at, WholeTables.WholeTables, declared.program.Routine.Routine}
 use Rattle.call_tree.specs.declared.records.Call.{Call}
 use Rattle.cell_names.specs.{Layouts.part, Places.is_begun, Places.last_at}
-use Rattle.cell_names.specs.Names.{Scene, heap_root, local_at, local_root, root_at, root_in, stack_root}
+use Rattle.cell_names.specs.Names.{Scene, begins_there, heap_root, is_link, local_at, local_root, root_at, root_in, stack_root}
 use Rattle.cell_names.specs.declared.{names.Local.Local, names.Root.Root, places.PlacedPart.PlacedPart}
 use Rattle.question_text.specs.{Cards.Recorded, Cards.scene_of, Frames.frame_by, Frames.opened_by, Frames.opened_from}
-use Rattle.debuggee.proofs.{FramesFollow.BeginsAt, FramesFollow.EndsAt, FramesFollow.IsFramed, PlacesHaveNames.link_unnamed, PlacesHaveNames.local_there}
-use Rattle.debuggee.specs.LeftOut.{FramesAreFilled, begins_there, is_link}
+use Rattle.debuggee.proofs.{FramesFollow.BeginsAt, FramesFollow.EndsAt, FramesFollow.IsFramed, PlacesHaveNames.place_named}
+use Rattle.debuggee.specs.LeftOut.{LiesUnfilled}
 
 -- ---- one part more
 
@@ -90,58 +90,64 @@ module _ (p : ProgramRows) (calls : List Call) where
 
 -- ---- addresses
 
-module _ (k : Recorded) (whole : WholeTables k.program) (filled : FramesAreFilled k.program) (number : ℕ) where
+module _ (k : Recorded) (whole : WholeTables k.program) (number : ℕ) where
   abbrev scene : Scene
   scene = scene_of k number
 
   -- the root of an address of the stack
   pub data OnStack (a : ℕ) (o : Option Root) : Type 0 where
-    Named : IsSome o → OnStack a o
-    Link : begins_there a (scene.opened a) ≡ true → o ≡ None → OnStack a o
+    HasName : IsSome o → OnStack a o
+    Begins : begins_there a (scene.opened a) ≡ true → OnStack a o
+    NoName : LiesUnfilled scene a → OnStack a o
 
   local_some : (call routine : ℕ) (o : Option Local) → IsSome o → IsSome (local_root call routine o)
   local_some call routine None h = absurd (let z : false ≡ true = h in cc)
   local_some call routine (Some l) h = refl
 
+  routine_of : (number : ℕ) (call : Call) → slice_get k.calls number ≡ Some call → slice_get scene.routines number ≡ Some call.routine
+  routine_of number call e = slice_get-map (λ (c : Call). c.routine) k.calls number ∙ ap (option_map (λ (c : Call). c.routine)) e
+
   root_of : (a : ℕ) (found : PlacedPart) (call : Call) → slice_get k.calls found.number ≡ Some call
       → stack_root scene a (Some found) ≡ local_root found.number call.routine (local_at scene call.routine (a - found.place))
-  root_of a found call e =
-      ap (λ o. root_in scene found.number (a - found.place) o)
-      (slice_get-map (λ (c : Call). c.routine) k.calls found.number ∙ ap (option_map (λ (c : Call). c.routine)) e)
+  root_of a found call e = ap (λ o. root_in scene found.number (a - found.place) o) (routine_of found.number call e)
 
   on_stack : (a : ℕ) → Found k.program k.calls a (scene.opened a) → OnStack a (stack_root scene a (scene.opened a))
   on_stack a f = subst (λ o. OnStack a (stack_root scene a o)) (sym f.is)
       (subst (OnStack a) (sym (root_of a f.found f.call f.stands)) (by (f.found.place == a) refl))
     where
       by : (b : Bool) → (f.found.place == a) ≡ b → OnStack a (local_root f.found.number f.call.routine (local_at scene f.call.routine (a - f.found.place)))
-      by true q =
-          let same : f.found.place ≡ a = grind (arith, nat_tests) in
-          let none : a - f.found.place ≡ 0 = omega (arith, same) in
-          Link (ap (begins_there a) f.is ∙ q)
-          (ap (λ n. local_root f.found.number f.call.routine (local_at scene f.call.routine n)) none
-          ∙ ap (local_root f.found.number f.call.routine) (link_unnamed k number f.call.routine))
+      by true q = Begins (ap (begins_there a) f.is ∙ q)
       by false q =
           let other : f.found.place ≡ a → ⊥ = grind (arith, nat_tests) in
           let low = f.low in
           let high = f.high in
           let some : 0 < a - f.found.place = grind (arith, low, other) in
-          Named (local_some f.found.number f.call.routine (local_at scene f.call.routine (a - f.found.place))
-          (local_there k number whole f.call.routine (a - f.found.place) f.routine f.has some
-          (filled f.call.routine (a - f.found.place) f.routine f.has some (omega (arith, low, high)))))
+          elim (place_named k number whole f.call.routine (a - f.found.place) f.routine f.has some (omega (arith, low, high))) [
+            | inl h ↦ HasName (local_some f.found.number f.call.routine (local_at scene f.call.routine (a - f.found.place)) h)
+            | inr u ↦ NoName (record {
+              part = f.found;
+              opened = f.is;
+              number = f.call.routine;
+              routine = routine_of f.found.number f.call f.stands;
+              unfilled = u;
+            })
+          ]
 
   -- the root of an address of a call's reads or changes
   pub data Rooted (a : ℕ) (o : Option Root) : Type 0 where
     HasRoot : IsSome o → Rooted a o
-    IsLink : is_link scene a ≡ true → o ≡ None → Rooted a o
-    NoBlock : heap_start ≤ a → scene.finding.block a ≡ None → o ≡ None → Rooted a o
+    IsLink : is_link scene a ≡ true → Rooted a o
+    IsUnfilled : LiesUnfilled scene a → Rooted a o
+    NoBlock : heap_start ≤ a → scene.finding.block a ≡ None → Rooted a o
 
   on_heap : (a : ℕ) → heap_start ≤ a → (o : Option PlacedPart) → scene.finding.block a ≡ o → Rooted a (heap_root a o)
-  on_heap a l None e = NoBlock l e refl
+  on_heap a l None e = NoBlock l e
   on_heap a l (Some x) e = HasRoot refl
 
   lower : (a : ℕ) (o : Option Root) → nat_lt a heap_start ≡ true → OnStack a o → Rooted a o
-  lower a o l (Named h) = HasRoot h
-  lower a o l (Link h e) = IsLink (ap (λ b. b && begins_there a (scene.opened a)) l ∙ h) e
+  lower a o l (HasName h) = HasRoot h
+  lower a o l (Begins h) = IsLink (ap (λ b. b && begins_there a (scene.opened a)) l ∙ h)
+  lower a o l (NoName u) = IsUnfilled u
 
   pub rooted : (c : Call) → slice_get k.calls number ≡ Some c → ((n : ℕ) (c : Call) → slice_get k.calls n ≡ Some c → IsFramed k.program k.calls n c)
       → (a : ℕ) → (a < heap_start → a < c.entry.top) → Rooted a (root_at scene a)

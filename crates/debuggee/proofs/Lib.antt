@@ -6,6 +6,6 @@ pub mod PlacesHaveNames
 pub mod AddressesHaveRoots
 pub mod ResultsAreOfFunctions
 pub mod HeapCellsHaveBlocks
+pub mod CellsHaveNames
 pub mod CardsLeaveOut
 pub mod TracesHaveLines
-pub mod FramesInTurn

@@ -1,6 +1,6 @@
 -- A place of a frame that is filled has a name.
-use Rattle.std.proofs.Common.{if◌then◌else◌, ◌++◌, ◌<◌, ◌==◌, ◌||◌, ◌∙◌, ◌∷◌, ◌≡◌, [], ℕ, Bool, List, None, Option, Some, arith, cond, false, filter}
-use Rattle.std.proofs.Common.{filter_map, is_some, option_to_list, refl, subst, suc, sym, true, zero}
+use Rattle.std.proofs.Common.{if◌then◌else◌, ◌++◌, ◌<◌, ◌==◌, ◌||◌, ◌∙◌, ◌∷◌, ◌≡◌, ◌⊎◌, [], ℕ, Bool, List, None, Option, Some, arith, cond, false, filter}
+use Rattle.std.proofs.Common.{filter_map, inl, inr, is_some, option_to_list, refl, subst, suc, sym, true, zero}
 use Rattle.std.{proofs.lemmas.Bool.Decides.nat_tests, specs.List.cons_option, specs.Option.IsSome}
 use Rattle.cell_value.specs.Effects.{last_of}
 use Rattle.core_program.{proofs.OutcomesCompose.none_some, proofs.OutcomesCompose.some_same, specs.Headings.signature_in, specs.ProgramRows.ProgramRows}
@@ -11,7 +11,7 @@ use Rattle.cell_names.specs.Layouts.{frame_parts, frame_parts_in, heading_part, 
 use Rattle.cell_names.specs.Layouts.{parts_after, parts_at, section_after, section_of, section_parts, sections_parts}
 use Rattle.cell_names.specs.Names.{is_result, local_at, local_in, named_local, part_local, result_local, result_of}
 use Rattle.question_text.specs.Cards.{Recorded, scene_of}
-use Rattle.debuggee.specs.LeftOut.{is_filled}
+use Rattle.debuggee.specs.LeftOut.{Unfilled, is_filled}
 
 abbrev Every : (PlacedPart → Type 0) → List PlacedPart → Type 0
 Every P [] = Unit {0}
@@ -129,7 +129,7 @@ module _ (p : ProgramRows) where
 
 module _ (k : Recorded) (number : ℕ) where
   -- a place that is filled
-  pub local_there : WholeTables k.program → (routine place : ℕ) (r : Routine) → routine_at k.program routine ≡ Some r → 0 < place
+  local_there : WholeTables k.program → (routine place : ℕ) (r : Routine) → routine_at k.program routine ≡ Some r → 0 < place
       → is_filled k.program routine place r ≡ true → IsSome (local_at (scene_of k number) routine place)
   unfolding local_at
   local_there whole routine place r e some h =
@@ -148,11 +148,11 @@ module _ (k : Recorded) (number : ℕ) where
           (let g : (is_result r.result place || is_some (finds (frame_parts p routine) place)) ≡ true = h in
           subst (λ b. (b || is_some (finds (frame_parts p routine) place)) ≡ true) s g)
 
-  -- the first place of a frame is its link's, which has no name
-  pub link_unnamed : (routine : ℕ) → local_at (scene_of k number) routine 0 ≡ None
-  unfolding local_at
-  link_unnamed routine = by (routine_at k.program routine)
+  -- a place of a frame, but not that of the link: it has a name, unless it is not filled
+  pub place_named : WholeTables k.program → (routine place : ℕ) (r : Routine) → routine_at k.program routine ≡ Some r → 0 < place → place < r.cells
+      → IsSome (local_at (scene_of k number) routine place) ⊎ Unfilled k.program routine place
+  place_named whole routine place r e some inside = by (is_filled k.program routine place r) refl
     where
-      by : (o : Option Routine) → local_in (scene_of k number) routine 0 o ≡ None
-      by None = refl
-      by (Some r) = refl
+      by : (b : Bool) → is_filled k.program routine place r ≡ b → IsSome (local_at (scene_of k number) routine place) ⊎ Unfilled k.program routine place
+      by true h = inl (local_there whole routine place r e some h)
+      by false h = inr (record { routine = r; is = e; after_link = some; inside = inside; unfilled = h })

@@ -12,7 +12,7 @@ use Rattle.call_tree.specs.declared.records.Call as table
 use Rattle.program_run.specs.{History.recording_of, Table.table_row}
 use Rattle.body_replay.specs.Replays.{kept_event, work_at, work_of}
 use Rattle.question_text.specs.{Cards.Recorded, Lines.call_text, Traces.child_line, Traces.event_line}
-use Rattle.debuggee.proofs.{CallsAreNumbered.calls_kept, CardsLeaveOut.recorded_of}
+use Rattle.debuggee.proofs.{CallsAreNumbered.calls_kept, CellsHaveNames.recorded_of}
 use Rattle.debuggee.specs.{Execution.Supply, Execution.execution_of, LeftOut.IsLine}
 
 get_taken : {A : Type 0} (n : ℕ) (xs : List A) (i : ℕ) (x : A) → slice_get (take n xs) i ≡ Some x → slice_get xs i ≡ Some x

@@ -3,8 +3,8 @@ use Rattle.std.specs.Prelude.{[], ℕ, List, None, Some, length, map}
 use Rattle.core_program.specs.{ProgramRows.name_of, Replay.Replayed, Run.run, Run.way_out}
 use Rattle.call_tree.specs.Recording.{lasts_of, parents_of, routines_of}
 use Rattle.body_replay.specs.{Agreement.carries, Replays.kept_event, Replays.work_of}
-use Rattle.question_text.specs.{Cards.Recorded, Cards.card, Traces.trace_text, Trees.tree_text}
-use Rattle.question_text.specs.States.{has_cell, state_text}
+use Rattle.question_text.specs.{States.has_cell, States.state_text, Traces.trace_text, Trees.tree_text}
+use Rattle.question_text.specs.Cards.{Recorded, card, question}
 use Rattle.dialog_replies.specs.Subject.{Subject}
 use Rattle.debuggee.specs.Execution.{Execution}
 
@@ -20,9 +20,9 @@ trace h k =
     let p = h.recorded.program in
     trace_of_work h.recorded k (work_of p (run p h.supply.input h.supply.budget) k)
 
--- the columns of its calls, the routines of its program by number and name, the cards and traces of its calls, the
--- lines on the cells before and after each, whether one may stand where another was entered, and the lines of all calls
--- with what is said of each
+-- the columns of its calls, the routines of its program by number and name, the cards, questions and traces of its
+-- calls, the lines on the cells before and after each, whether one may stand where another was entered, and the lines
+-- of all calls with what is said of each
 abbrev pub subject_of : Execution → Subject
 subject_of h = record {
   tree = record {
@@ -33,6 +33,7 @@ subject_of h = record {
   routines = length h.recorded.program.routines;
   name = name_of h.recorded.program;
   card = card h.recorded;
+  question = question h.recorded;
   trace = trace h;
   has_cell = has_cell h.recorded;
   state = state_text h.recorded;

@@ -2,7 +2,6 @@
 //! refused; and from a program and its input to the calls of its run.
 #![tactic(auto)]
 
-mod filled;
 mod laws;
 mod refusal;
 mod runs;

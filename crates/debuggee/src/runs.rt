@@ -15,7 +15,7 @@ use dialog_replies::Debugged;
 use edge_ports::{Bytes, Memory};
 use pas_lexer::Tokens;
 use program_run::History;
-use question_text::{Recorded, write_call, write_state, write_trace, write_tree};
+use question_text::{Recorded, write_call, write_question, write_state, write_trace, write_tree};
 use std::alloc::Global;
 
 /// A source that was run: its tokens, the program that they are, and its run.
@@ -78,6 +78,10 @@ impl<'a> Debugged for Debuggee<'a> {
 
     fn write_card(&self, alloc: Global, out: &mut Bytes, call: u32) -> Result<(), Memory> {
         write_call(alloc, out, &self.recorded(), call)
+    }
+
+    fn write_question(&self, alloc: Global, out: &mut Bytes, call: u32) -> Result<(), Memory> {
+        write_question(alloc, out, &self.recorded(), call)
     }
 
     fn write_trace(&self, alloc: Global, out: &mut Bytes, call: u32) -> Result<(), Memory> {

@@ -4,12 +4,11 @@ ghost use Rattle.pas_lexer.specs.{Lexed.Lexed, Limits.source_bytes, declared.kin
 ghost use Rattle.pas_lexer.specs.Division.{IsFault, IsLexed, line_at};
 ghost use Rattle.core_program.specs.ProgramRows.{ProgramRows};
 ghost use Rattle.program_run.specs.History.{IsOfRun};
-ghost use Rattle.debuggee.specs.{Execution.execution, Execution.execution_of, LeftOut.FramesAreFilled};
 ghost use Rattle.debuggee.specs.{Limits.input_bytes, Limits.most_steps, Program.fault_of_check};
+ghost use Rattle.debuggee.specs.Execution.{execution, execution_of};
 ghost use Rattle.debuggee.specs.Program.{IsMisfit, IsProgram, IsRead, IsRefused, IsUnlexed, IsUnread, Keeps, TokensAre};
 ghost use Rattle.debuggee.specs.declared.source.SourceFault.TheVariants.{Memory, Refused};
 
-use crate::filled::frames_are_filled;
 use crate::refusal::SourceRefusal;
 use crate::runs::Debuggee;
 use cell_names::NameFinder;
@@ -146,8 +145,7 @@ pub fn read_source(alloc: Global, source: &[u8]) -> Result<SourceProgram, Source
     Ok(SourceProgram { tokens, program })
 }
 
-/// The run of a program, with an input and a budget of steps. It takes memory, also for the names of cells. Where a
-/// cell of a frame had no name and were no link, the answer would be the same; no program is known that has one.
+/// The run of a program, with an input and a budget of steps. It takes memory, also for the names of cells.
 pub fn run_program<'a>(
     alloc: Global,
     source: SourceProgram,
@@ -162,8 +160,6 @@ pub fn run_program<'a>(
     // All that is kept of the run is that of the program's run: the calls with what was there at their entry and exit,
     // the log, the items of the input, and what was given out.
     ensures history { IfOk result (λ debuggee. IsOfRun source.program input.now budget debuggee.history) }
-    // Each cell of a frame but its link has a name.
-    ensures filled { IfOk result (λ debuggee. FramesAreFilled source.program) }
 {
     every_program_runs();
     every_run_has_a_call();
@@ -173,9 +169,6 @@ pub fn run_program<'a>(
     program.is_whole();
     let history = run(alloc, &program, input, budget)?;
     let names = NameFinder::new(alloc, &program, tokens.len(), &history.log)?;
-    if !frames_are_filled(alloc, &program, &names) {
-        return Err(AllocError);
-    }
     Ok(Debuggee {
         tokens,
         program,

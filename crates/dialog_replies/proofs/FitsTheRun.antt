@@ -8,7 +8,7 @@ use Rattle.answer_book.specs.declared.entries.{Entry.Entry, What.What, What.TheV
 use Rattle.optimal_query.specs.Search.{search_over}
 use Rattle.session_file.specs.declared.session.Session.{Session}
 use Rattle.dialog_replies.proofs.ColumnsOfCalls.{calls_counted, new_is_search}
-use Rattle.dialog_replies.specs.{Kept.AreCallsOf, Kept.IsSearchOf, Subject.Subject, Subject.calls_recorded}
+use Rattle.dialog_replies.specs.{Kept.AreCallsOf, Kept.IsSearchOf, Start.has_replies_alone, Subject.Subject, Subject.calls_recorded}
 use Rattle.dialog_replies.specs.Fit.{entries_misfit, misfit, named_beyond, saved_misfit, session_misfit}
 use Rattle.dialog_replies.specs.declared.{misfits.Misfit.Misfit, start.Start.Start}
 use Rattle.dialog_replies.specs.declared.misfits.Misfit.TheVariants.{Budget, Call, Input, Routine, Source}
@@ -48,11 +48,17 @@ session_named s start session none =
     let entries = same (start.budget == session.budget) (Budget start.budget session.budget) _ budget in
     all_named s 1 session.entries entries
 
--- the entries of the session that is gone on with
-pub entries_named : (s : Subject) (start : Start) (session : Session) → start.saved ≡ Some session → misfit s start ≡ None
-    → AreNamed (calls_recorded s) s.routines session.entries
+-- the session that is gone on with
+pub saved_fits : (s : Subject) (start : Start) (session : Session) → start.saved ≡ Some session → misfit s start ≡ None
+    → saved_misfit s start (Some session) ≡ None
 unfolding misfit
-entries_named s start session is fits = session_named s start session (sym (ap (saved_misfit s start) is) ∙ fits)
+saved_fits s start session is fits = sym (ap (saved_misfit s start) is) ∙ fits
+
+-- and its entries, where it gives them
+pub entries_named : (s : Subject) (start : Start) (session : Session) → has_replies_alone start session ≡ false
+    → saved_misfit s start (Some session) ≡ None → AreNamed (calls_recorded s) s.routines session.entries
+entries_named s start session all fits =
+    session_named s start session (sym (ap (λ (alone : Bool). if alone then None else session_misfit s start session) all) ∙ fits)
 
 -- the calls and routines that there are are those of the run
 pub named_in_run : (s : Subject) (run : Recording) (entries : List Entry) → AreCallsOf s run → AreNamed (calls_recorded s) s.routines entries

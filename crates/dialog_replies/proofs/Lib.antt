@@ -3,6 +3,7 @@ mod EntriesInTurn
 mod FitsTheRun
 pub mod LinesInTurn
 mod MisfitsInTurn
+mod RepliesInTurn
 pub mod NamedCalls
 pub mod RisingCalls
 pub mod WordsInTurn

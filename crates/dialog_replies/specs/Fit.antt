@@ -4,7 +4,7 @@ use Rattle.std.specs.{Option.option_or, Str.bytes_eq}
 use Rattle.answer_book.specs.declared.entries.Entry.{Entry}
 use Rattle.answer_book.specs.declared.entries.What.{What, TheVariants.Judged, TheVariants.Trusted}
 use Rattle.session_file.specs.declared.session.Session.{Session}
-use Rattle.dialog_replies.specs.Subject.{Subject, calls_recorded}
+use Rattle.dialog_replies.specs.{Start.has_replies_alone, Subject.Subject, Subject.calls_recorded}
 use Rattle.dialog_replies.specs.declared.{misfits.Misfit.Misfit, start.Start.Start}
 use Rattle.dialog_replies.specs.declared.misfits.Misfit.TheVariants.{Budget, Call, Input, Routine, Source}
 
@@ -27,9 +27,11 @@ session_misfit s start session =
     else if not (start.budget == session.budget) then Some (Budget start.budget session.budget)
     else entries_misfit s 1 session.entries
 
+-- a session that gives its replies alone always fits: its entries are not looked at
 abbrev pub saved_misfit : Subject → Start → Option Session → Option Misfit
 saved_misfit s start None = None
-saved_misfit s start (Some session) = session_misfit s start session
+saved_misfit s start (Some session) =
+    if has_replies_alone start session then None else session_misfit s start session
 
 -- why the saved session does not fit the run; none where it fits, or there is no saved session
 unfoldable pub misfit : Subject → Start → Option Misfit

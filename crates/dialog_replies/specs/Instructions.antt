@@ -1,6 +1,7 @@
 -- What a line of the console asks for.
 use Rattle.std.specs.Prelude.{if◌then◌else◌, ◌∷◌, [], ℕ, List, None, Option, Some}
 use Rattle.std.specs.Str.{is_utf8}
+use Rattle.kept_replies.specs.Notes.{is_note}
 use Rattle.dialog_replies.specs.{Keywords.keyword_of, Numbers.number_of, Numbers.routine_number}
 use Rattle.dialog_replies.specs.Words.{after_blanks, after_word, before_blanks, words}
 use Rattle.dialog_replies.specs.declared.{instructions.Instruction.Instruction, keywords.Keyword.Keyword}
@@ -30,9 +31,13 @@ abbrev pub carry_in : (call onto : List ℕ) → Instruction
 carry_in call onto =
     with_number (number_of call) (λ call. with_number (number_of onto) (λ onto. ask.Command (commands.Carry call onto)))
 
--- a cell's name is the rest of a line, since it may have blanks inside, as `a[' ']`
-abbrev pub cell_in : (rest : List ℕ) → List ℕ
-cell_in rest = before_blanks (after_blanks rest)
+-- a cell's name is the rest of a line without blanks at its ends, since it may have blanks inside, as `a[' ']`
+abbrev pub rest_in : (rest : List ℕ) → List ℕ
+rest_in rest = before_blanks (after_blanks rest)
+
+-- a note is the rest of a line as well, from 32 to 126 each byte
+abbrev pub note_by : (entry : ℕ) → (text : List ℕ) → Instruction
+note_by entry text = if is_note text then ask.Command (commands.Note entry text) else ask.Command commands.Other
 
 -- by the first word and those after it, and by what follows the second word
 abbrev pub instruction_by : Keyword → List (List ℕ) → (rest : List ℕ) → Instruction
@@ -45,11 +50,14 @@ instruction_by key.Back (entry ∷ []) rest =
     with_number (number_of entry) (λ number. ask.Command (commands.TakeBack (Some number)))
 instruction_by key.Show (call ∷ []) rest = with_number (number_of call) (λ number. ask.Command (commands.Show number))
 instruction_by key.State (call ∷ name ∷ names) rest =
-    with_number (number_of call) (λ number. ask.Command (commands.State number (cell_in rest)))
+    with_number (number_of call) (λ number. ask.Command (commands.State number (rest_in rest)))
 instruction_by key.Trace (call ∷ []) rest = with_number (number_of call) (λ number. ask.Command (commands.Trace number))
 instruction_by key.Carry (call ∷ onto ∷ []) rest = carry_in call onto
 instruction_by key.Tree [] rest = ask.Command commands.Tree
 instruction_by key.Save (file ∷ []) rest = save_in file
+instruction_by key.Same [] rest = ask.Command commands.Same
+instruction_by key.Note (entry ∷ word ∷ others) rest =
+    with_number (number_of entry) (λ number. note_by number (rest_in rest))
 instruction_by key.Quit [] rest = ask.Quit
 instruction_by keyword others rest = ask.Command commands.Other
 

@@ -2,8 +2,8 @@
 use Rattle.std.specs.{Prelude.if◌then◌else◌, Prelude.ℕ, Prelude.List, Prelude.codes, Str.bytes_eq}
 use Rattle.answer_book.specs.declared.entries.Judgement.TheVariants.{Right, Unknown, Wrong}
 use Rattle.dialog_replies.specs.declared.keywords.Keyword.{Keyword}
-use Rattle.dialog_replies.specs.declared.keywords.Keyword.TheVariants.{Back, Carry, Judge, Other, Quit, Save, Show}
-use Rattle.dialog_replies.specs.declared.keywords.Keyword.TheVariants.{State, Trace, Tree, Trust}
+use Rattle.dialog_replies.specs.declared.keywords.Keyword.TheVariants.{Back, Carry, Judge, Note, Other, Quit, Same}
+use Rattle.dialog_replies.specs.declared.keywords.Keyword.TheVariants.{Save, Show, State, Trace, Tree, Trust}
 
 abbrev pub keyword_of : List ℕ → Keyword
 keyword_of word =
@@ -18,4 +18,6 @@ keyword_of word =
     else (if bytes_eq word (codes "carry") then Carry
     else (if bytes_eq word (codes "tree") then Tree
     else (if bytes_eq word (codes "save") then Save
-    else (if bytes_eq word (codes "quit") then Quit else Other)))))))))))
+    else (if bytes_eq word (codes "same") then Same
+    else (if bytes_eq word (codes "note") then Note
+    else (if bytes_eq word (codes "quit") then Quit else Other)))))))))))))

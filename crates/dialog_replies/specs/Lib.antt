@@ -5,6 +5,7 @@ pub mod Keywords
 pub mod Lines
 pub mod Numbers
 pub mod Replies
+pub mod Said
 pub mod Start
 pub mod Subject
 pub mod Texts

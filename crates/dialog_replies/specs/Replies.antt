@@ -1,23 +1,24 @@
 -- What each line of the dialog is replied, and the entries after it.
-use Rattle.std.specs.Prelude.{if◌then◌else◌, ◌++◌, [], ℕ, Bool, Err, List, None, Ok, Option, Result, Some, codes}
-use Rattle.std.specs.Prelude.{decimal, nat_lt}
+use Rattle.std.specs.Prelude.{if◌then◌else◌, ◌&&◌, ◌++◌, [], ℕ, Bool, Err, List, None, Ok, Option, Result, Some, codes}
+use Rattle.std.specs.Prelude.{decimal, length, nat_le, nat_lt}
 use Rattle.answer_book.specs.Answers.{judge_answer, take_back_answer, take_back_last_answer, trust_answer}
 use Rattle.answer_book.specs.Entries.{entries_with, entries_without}
 use Rattle.answer_book.specs.declared.entries.{BookFault.BookFault, Entry.Entry, Judgement.Judgement}
 use Rattle.answer_book.specs.declared.entries.What.{What, TheVariants.Judged, TheVariants.Trusted}
 use Rattle.optimal_query.specs.declared.state.SearchState.{SearchState, TheVariants.Ask}
+use Rattle.kept_replies.specs.Notes.{with_note}
+use Rattle.dialog_replies.specs.{Said.Said, Said.kept_on, Texts.report, Texts.tree_text, declared.start.Start.Start}
+use Rattle.dialog_replies.specs.Start.{gives_replies_alone, said_at_start}
 use Rattle.dialog_replies.specs.Subject.{Subject, book_of, calls_recorded, routine_named, state_after}
-use Rattle.dialog_replies.specs.Texts.{report, tree_text}
 use Rattle.dialog_replies.specs.declared.instructions.{DialogCommand.DialogCommand, Instruction.Instruction}
-use Rattle.dialog_replies.specs.declared.instructions.DialogCommand.TheVariants as commands
 
--- the entries after a line, and its reply
+-- what was said after a line, and its reply
 pub record LineOutcome : Type 0 where
-  pub entries : List Entry
+  pub said : Said
   pub reply : List ℕ
 
-abbrev pub replied : List Entry → List ℕ → LineOutcome
-replied entries reply = record { entries = entries; reply = reply }
+abbrev pub replied : Said → List ℕ → LineOutcome
+replied said reply = record { said = said; reply = reply }
 
 -- ---- refusals, which change nothing
 
@@ -33,45 +34,71 @@ book_fault_text BookFault.Full = codes "book is full\n"
 
 -- ---- a new entry, if the book takes it
 
-abbrev pub entry_text : Subject → List Entry → ℕ → List ℕ
-entry_text s entries number = codes "entry " ++ decimal number ++ codes "\n" ++ report s entries
+-- the same with these entries
+abbrev pub with_entries_now : Said → List Entry → Said
+with_entries_now said entries = record said { entries = entries }
 
-abbrev pub adds : Subject → List Entry → What → Result ℕ BookFault → LineOutcome
-adds s entries what (Ok number) =
-    replied (entries_with entries what) (entry_text s (entries_with entries what) number)
-adds s entries what (Err why) = replied entries (book_fault_text why)
+abbrev pub entry_text : Subject → Said → ℕ → List ℕ
+entry_text s said number = codes "entry " ++ decimal number ++ codes "\n" ++ report s said
 
-abbrev pub judges : Subject → List Entry → Judgement → ℕ → LineOutcome
-judges s entries judgement call = adds s entries (Judged call judgement) (judge_answer (book_of s entries) call)
+abbrev pub adds : Subject → Said → What → Result ℕ BookFault → LineOutcome
+adds s said what (Ok number) =
+    replied (with_entries_now said (entries_with said.entries what))
+    (entry_text s (with_entries_now said (entries_with said.entries what)) number)
+adds s said what (Err why) = replied said (book_fault_text why)
+
+abbrev pub judges : Subject → Said → Judgement → ℕ → LineOutcome
+judges s said judgement call = adds s said (Judged call judgement) (judge_answer (book_of s said.entries) call)
 
 -- a judgement on the call that is asked about
-abbrev pub judges_asked : Subject → List Entry → Judgement → SearchState → LineOutcome
-judges_asked s entries judgement (Ask call weight suspects left) = judges s entries judgement call
-judges_asked s entries judgement state = replied entries (codes "no question\n")
+abbrev pub judges_asked : Subject → Said → Judgement → SearchState → LineOutcome
+judges_asked s said judgement (Ask call weight suspects left) = judges s said judgement call
+judges_asked s said judgement state = replied said (codes "no question\n")
 
-abbrev pub trust_outcome : Subject → List Entry → ℕ → LineOutcome
-trust_outcome s entries routine = adds s entries (Trusted routine) (trust_answer (book_of s entries) routine)
+-- the reply that was kept to the question, as a judgement on the call that is asked about
+abbrev pub judges_as_kept : Subject → Said → (call : ℕ) → Option Judgement → LineOutcome
+judges_as_kept s said call (Some judgement) = judges s said judgement call
+judges_as_kept s said call None = replied said (codes "no kept reply\n")
 
-abbrev pub trusts_named : Subject → List Entry → List ℕ → Option ℕ → LineOutcome
-trusts_named s entries name (Some routine) = trust_outcome s entries routine
-trusts_named s entries name None = replied entries (codes "no routine " ++ name ++ codes "\n")
+abbrev pub judges_same : Subject → Said → SearchState → LineOutcome
+judges_same s said (Ask call weight suspects left) = judges_as_kept s said call (kept_on s said.replies call)
+judges_same s said state = replied said (codes "no question\n")
+
+abbrev pub trust_outcome : Subject → Said → ℕ → LineOutcome
+trust_outcome s said routine = adds s said (Trusted routine) (trust_answer (book_of s said.entries) routine)
+
+abbrev pub trusts_named : Subject → Said → List ℕ → Option ℕ → LineOutcome
+trusts_named s said name (Some routine) = trust_outcome s said routine
+trusts_named s said name None = replied said (codes "no routine " ++ name ++ codes "\n")
 
 -- ---- an entry is taken back, if it stands
 
-abbrev pub back_text : Subject → List Entry → ℕ → List ℕ
-back_text s entries number = codes "back " ++ decimal number ++ codes "\n" ++ report s entries
+abbrev pub back_text : Subject → Said → ℕ → List ℕ
+back_text s said number = codes "back " ++ decimal number ++ codes "\n" ++ report s said
 
-abbrev pub without : Subject → List Entry → ℕ → LineOutcome
-without s entries number =
-    replied (entries_without entries number) (back_text s (entries_without entries number) number)
+abbrev pub without : Subject → Said → ℕ → LineOutcome
+without s said number =
+    replied (with_entries_now said (entries_without said.entries number))
+    (back_text s (with_entries_now said (entries_without said.entries number)) number)
 
-abbrev pub takes_back : Subject → List Entry → ℕ → Result (Unit {0}) BookFault → LineOutcome
-takes_back s entries number (Ok done) = without s entries number
-takes_back s entries number (Err why) = replied entries (book_fault_text why)
+abbrev pub takes_back : Subject → Said → ℕ → Result (Unit {0}) BookFault → LineOutcome
+takes_back s said number (Ok done) = without s said number
+takes_back s said number (Err why) = replied said (book_fault_text why)
 
-abbrev pub takes_back_last : Subject → List Entry → Result ℕ BookFault → LineOutcome
-takes_back_last s entries (Ok number) = without s entries number
-takes_back_last s entries (Err why) = replied entries (book_fault_text why)
+abbrev pub takes_back_last : Subject → Said → Result ℕ BookFault → LineOutcome
+takes_back_last s said (Ok number) = without s said number
+takes_back_last s said (Err why) = replied said (book_fault_text why)
+
+-- ---- a note is put on an entry, also on one that was taken back
+
+abbrev pub is_made : Said → (entry : ℕ) → Bool
+is_made said entry = nat_le 1 entry && nat_le entry (length said.entries)
+
+abbrev pub notes_entry : Said → (entry : ℕ) → (note : List ℕ) → LineOutcome
+notes_entry said entry note =
+    if is_made said entry then
+    replied (record said { notes = with_note said.notes entry note }) (codes "noted " ++ decimal entry ++ codes "\n")
+    else replied said (codes "no entry " ++ decimal entry ++ codes "\n")
 
 -- ---- what is asked for
 
@@ -105,30 +132,37 @@ carry_or_none s call onto =
     (if nat_lt onto (calls_recorded s) then carry_text (s.carries call onto) call onto else no_call onto)
     else no_call call
 
-unfoldable pub command_outcome : Subject → List Entry → DialogCommand → LineOutcome
-command_outcome s entries commands.Nothing = replied entries []
-command_outcome s entries (commands.Judge judgement None) = judges_asked s entries judgement (state_after s entries)
-command_outcome s entries (commands.Judge judgement (Some call)) = judges s entries judgement call
-command_outcome s entries (commands.TrustNamed name) = trusts_named s entries name (routine_named s name)
-command_outcome s entries (commands.Trust routine) = trust_outcome s entries routine
-command_outcome s entries (commands.TakeBack None) =
-    takes_back_last s entries (take_back_last_answer (book_of s entries))
-command_outcome s entries (commands.TakeBack (Some number)) =
-    takes_back s entries number (take_back_answer (book_of s entries) number)
-command_outcome s entries (commands.Show call) = replied entries (card_or_none s call)
-command_outcome s entries (commands.State call name) = replied entries (state_or_none s call name)
-command_outcome s entries (commands.Trace call) = replied entries (trace_or_none s call)
-command_outcome s entries (commands.Carry call onto) = replied entries (carry_or_none s call onto)
-command_outcome s entries commands.Tree = replied entries (tree_text s entries)
-command_outcome s entries commands.Other = replied entries (codes "not understood\n")
+unfoldable pub command_outcome : Subject → Said → DialogCommand → LineOutcome
+command_outcome s said DialogCommand.Nothing = replied said []
+command_outcome s said (DialogCommand.Judge judgement None) = judges_asked s said judgement (state_after s said.entries)
+command_outcome s said (DialogCommand.Judge judgement (Some call)) = judges s said judgement call
+command_outcome s said DialogCommand.Same = judges_same s said (state_after s said.entries)
+command_outcome s said (DialogCommand.TrustNamed name) = trusts_named s said name (routine_named s name)
+command_outcome s said (DialogCommand.Trust routine) = trust_outcome s said routine
+command_outcome s said (DialogCommand.TakeBack None) =
+    takes_back_last s said (take_back_last_answer (book_of s said.entries))
+command_outcome s said (DialogCommand.TakeBack (Some number)) =
+    takes_back s said number (take_back_answer (book_of s said.entries) number)
+command_outcome s said (DialogCommand.Note entry note) = notes_entry said entry note
+command_outcome s said (DialogCommand.Show call) = replied said (card_or_none s call)
+command_outcome s said (DialogCommand.State call name) = replied said (state_or_none s call name)
+command_outcome s said (DialogCommand.Trace call) = replied said (trace_or_none s call)
+command_outcome s said (DialogCommand.Carry call onto) = replied said (carry_or_none s call onto)
+command_outcome s said DialogCommand.Tree = replied said (tree_text s said.entries)
+command_outcome s said DialogCommand.Other = replied said (codes "not understood\n")
 
 -- What a line that saves is replied depends on the keeper, and is said where the session is held.
-abbrev pub outcome : Subject → List Entry → Instruction → LineOutcome
-outcome s entries (Instruction.Command command) = command_outcome s entries command
-outcome s entries (Instruction.Save file) = replied entries []
-outcome s entries Instruction.Quit = replied entries []
+abbrev pub outcome : Subject → Said → Instruction → LineOutcome
+outcome s said (Instruction.Command command) = command_outcome s said command
+outcome s said (Instruction.Save file) = replied said []
+outcome s said Instruction.Quit = replied said []
 
--- ---- what a session with these entries opens with: the card of call 0, and a report
+-- ---- what a session opens with, where this was said before: the card of call 0, and a report
 
-abbrev pub opening : Subject → List Entry → List ℕ
-opening s entries = s.card 0 ++ report s entries
+abbrev pub opening : Subject → Said → List ℕ
+opening s said = s.card 0 ++ report s said
+
+-- and before that, where a saved session of another run gives its replies alone, a line that says so
+abbrev pub opening_of : Subject → Start → List ℕ
+opening_of s start =
+    (if gives_replies_alone start then codes "replies only\n" else []) ++ opening s (said_at_start start)

@@ -8,7 +8,8 @@ use Rattle.answer_book.specs.declared.entries.Entry.{Entry}
 use Rattle.optimal_query.specs.{Laws.CallTree, Laws.doubts_in, Laws.state_in, declared.state.SearchState.SearchState}
 
 -- the columns of the calls of a run, how many routines the program has, and the name of each; the texts on each call:
--- its card, the lines of its trace, whether a cell has a name before or after it, and the lines on the cells of a name;
+-- its card, the question about it, which says neither its number nor the call that made it, the lines of its trace,
+-- whether a cell has a name before or after it, and the lines on the cells of a name;
 -- whether the record of a call may be put in place of its run where another call was entered; and the lines of all
 -- calls, with a mark for each
 pub record Subject : Type 0 where
@@ -16,6 +17,7 @@ pub record Subject : Type 0 where
   pub routines : ℕ
   pub name : ℕ → List ℕ
   pub card : ℕ → List ℕ
+  pub question : ℕ → List ℕ
   pub trace : ℕ → List ℕ
   pub has_cell : (call : ℕ) → (name : List ℕ) → Bool
   pub state : (call : ℕ) → (name : List ℕ) → List ℕ

@@ -1,9 +1,11 @@
 -- What is printed of calls, and of the state of the search.
-use Rattle.std.specs.Prelude.{◌++◌, ℕ, List, codes, decimal, slice_index}
+use Rattle.std.specs.Prelude.{◌++◌, [], ℕ, List, None, Option, Some, codes, decimal, slice_index}
 use Rattle.std.specs.List.{flat_map}
-use Rattle.answer_book.specs.declared.entries.Entry.{Entry}
+use Rattle.answer_book.specs.declared.entries.{Entry.Entry, Judgement.Judgement}
 use Rattle.optimal_query.specs.declared.state.SearchState.{SearchState}
 use Rattle.optimal_query.specs.declared.state.SearchState.TheVariants.{Ask, Found, Narrowed, NothingWrong, Unclear}
+use Rattle.session_file.specs.Text.{judgement_word}
+use Rattle.dialog_replies.specs.Said.{Said, kept_on}
 use Rattle.dialog_replies.specs.Subject.{Subject, doubts_after, marks_after, state_after}
 
 -- the routine of a call
@@ -32,17 +34,23 @@ doubt_line s call = codes "  doubt " ++ named_call s call ++ codes "\n"
 abbrev pub doubt_lines : Subject → List Entry → List ℕ
 doubt_lines s entries = flat_map (doubt_line s) (doubts_after s entries)
 
-abbrev pub report_on : Subject → List Entry → SearchState → List ℕ
-report_on s entries (Ask call weight suspects left) = question_line call suspects left ++ s.card call
-report_on s entries (Found call) = codes "found call " ++ named_call s call ++ codes "\n" ++ s.trace call
-report_on s entries (Narrowed call) =
-    codes "narrowed to call " ++ named_call s call ++ codes "\n" ++ doubt_lines s entries
-report_on s entries NothingWrong = codes "nothing wrong\n"
-report_on s entries Unclear = codes "unclear\n" ++ doubt_lines s entries
+-- the reply that was kept to a question
+abbrev pub kept_line : Option Judgement → List ℕ
+kept_line None = []
+kept_line (Some judgement) = codes "  kept " ++ judgement_word judgement ++ codes "\n"
 
--- the report after these entries
-unfoldable pub report : Subject → List Entry → List ℕ
-report s entries = report_on s entries (state_after s entries)
+abbrev pub report_on : Subject → Said → SearchState → List ℕ
+report_on s said (Ask call weight suspects left) =
+    question_line call suspects left ++ s.card call ++ kept_line (kept_on s said.replies call)
+report_on s said (Found call) = codes "found call " ++ named_call s call ++ codes "\n" ++ s.trace call
+report_on s said (Narrowed call) =
+    codes "narrowed to call " ++ named_call s call ++ codes "\n" ++ doubt_lines s said.entries
+report_on s said NothingWrong = codes "nothing wrong\n"
+report_on s said Unclear = codes "unclear\n" ++ doubt_lines s said.entries
+
+-- the report after what was said
+unfoldable pub report : Subject → Said → List ℕ
+report s said = report_on s said (state_after s said.entries)
 
 -- ---- the tree with its marks
 

@@ -1,17 +1,18 @@
 //! The replies to changes of the book.
 ghost use Rattle.std.specs.Prelude.{◌++◌, ◌≡◌, IfOk, decimal};
 ghost use Rattle.answer_book.specs.Answers.{take_back_answer, take_back_last_answer};
-ghost use Rattle.dialog_replies.specs.{Kept.IsSearchOf, Subject.book_of};
-ghost use Rattle.dialog_replies.specs.Replies.{adds, back_text, book_fault_text, entry_text, judges, replied};
-ghost use Rattle.dialog_replies.specs.Replies.{takes_back, takes_back_last, trust_outcome};
+ghost use Rattle.dialog_replies.specs.{Kept.IsDialogOf, Kept.said_in_dialog, Subject.book_of};
+ghost use Rattle.dialog_replies.specs.Replies.{adds, back_text, book_fault_text, entry_text, judges, notes_entry};
+ghost use Rattle.dialog_replies.specs.Replies.{replied, takes_back, takes_back_last, trust_outcome};
 
 use crate::calls::write_number;
 use crate::debugged::Debugged;
+use crate::dialogs::Dialog;
+use crate::instructions::NoteText;
 use crate::reports::write_report;
 use answer_book::{BookFault, Judgement};
 use cell_value::Steps;
 use edge_ports::{Bytes, Memory};
-use optimal_query::Debug;
 use std::alloc::Global;
 
 /// What the steps of the search are counted by.
@@ -56,14 +57,17 @@ pub fn refusal(alloc: Global, fault: BookFault) -> Result<Bytes, Memory>
 fn entry_made<D: Debugged>(
     alloc: Global,
     run: &D,
-    debug: &Debug,
+    dialog: &mut Dialog,
     number: u32,
 ) -> Result<Bytes, Memory>
-    requires { IsSearchOf (D.subject run.now) debug.now }
-    ensures { IfOk result (λ text. text ≡ entry_text (D.subject run.now) debug.now.book.entries number) }
+    requires dialog { IsDialogOf (D.subject run.now) dialog.old }
+    ensures text { IfOk result (λ text. text
+        ≡ entry_text (D.subject run.now) (said_in_dialog dialog.old) number) }
+    ensures said { said_in_dialog dialog.new ≡ said_in_dialog dialog.old }
+    ensures dialog { IsDialogOf (D.subject run.now) dialog.new }
 {
     let mut text = numbered_text(alloc, b"entry ", number, b"\n")?;
-    write_report(alloc, &mut text, run, debug)?;
+    write_report(alloc, &mut text, run, dialog)?;
     Ok(text)
 }
 
@@ -71,14 +75,17 @@ fn entry_made<D: Debugged>(
 fn taken_back<D: Debugged>(
     alloc: Global,
     run: &D,
-    debug: &Debug,
+    dialog: &mut Dialog,
     number: u32,
 ) -> Result<Bytes, Memory>
-    requires { IsSearchOf (D.subject run.now) debug.now }
-    ensures { IfOk result (λ text. text ≡ back_text (D.subject run.now) debug.now.book.entries number) }
+    requires dialog { IsDialogOf (D.subject run.now) dialog.old }
+    ensures text { IfOk result (λ text. text
+        ≡ back_text (D.subject run.now) (said_in_dialog dialog.old) number) }
+    ensures said { said_in_dialog dialog.new ≡ said_in_dialog dialog.old }
+    ensures dialog { IsDialogOf (D.subject run.now) dialog.new }
 {
     let mut text = numbered_text(alloc, b"back ", number, b"\n")?;
-    write_report(alloc, &mut text, run, debug)?;
+    write_report(alloc, &mut text, run, dialog)?;
     Ok(text)
 }
 
@@ -86,18 +93,18 @@ fn taken_back<D: Debugged>(
 pub fn judge<D: Debugged>(
     alloc: Global,
     run: &D,
-    debug: &mut Debug,
+    dialog: &mut Dialog,
     judgement: Judgement,
     call: u32,
 ) -> Result<Bytes, Memory>
-    requires search { IsSearchOf (D.subject run.now) debug.old }
-    ensures judged { IfOk result (λ text. replied debug.new.book.entries text
-        ≡ judges (D.subject run.now) debug.old.book.entries judgement call) }
-    ensures search { IsSearchOf (D.subject run.now) debug.new }
+    requires dialog { IsDialogOf (D.subject run.now) dialog.old }
+    ensures judged { IfOk result (λ text. replied (said_in_dialog dialog.new) text
+        ≡ judges (D.subject run.now) (said_in_dialog dialog.old) judgement call) }
+    ensures dialog { IsDialogOf (D.subject run.now) dialog.new }
 {
     let mut steps: Steps<Uncounted> = Steps::new();
-    match debug.judge(call, judgement, &mut steps) {
-        Ok(number) => entry_made(alloc, run, debug, number),
+    match dialog.debug.judge(call, judgement, &mut steps) {
+        Ok(number) => entry_made(alloc, run, dialog, number),
         Err(fault) => refusal(alloc, fault),
     }
 }
@@ -106,17 +113,17 @@ pub fn judge<D: Debugged>(
 pub fn trust<D: Debugged>(
     alloc: Global,
     run: &D,
-    debug: &mut Debug,
+    dialog: &mut Dialog,
     routine: u32,
 ) -> Result<Bytes, Memory>
-    requires search { IsSearchOf (D.subject run.now) debug.old }
-    ensures trusted { IfOk result (λ text. replied debug.new.book.entries text
-        ≡ trust_outcome (D.subject run.now) debug.old.book.entries routine) }
-    ensures search { IsSearchOf (D.subject run.now) debug.new }
+    requires dialog { IsDialogOf (D.subject run.now) dialog.old }
+    ensures trusted { IfOk result (λ text. replied (said_in_dialog dialog.new) text
+        ≡ trust_outcome (D.subject run.now) (said_in_dialog dialog.old) routine) }
+    ensures dialog { IsDialogOf (D.subject run.now) dialog.new }
 {
     let mut steps: Steps<Uncounted> = Steps::new();
-    match debug.trust(routine, &mut steps) {
-        Ok(number) => entry_made(alloc, run, debug, number),
+    match dialog.debug.trust(routine, &mut steps) {
+        Ok(number) => entry_made(alloc, run, dialog, number),
         Err(fault) => refusal(alloc, fault),
     }
 }
@@ -125,18 +132,18 @@ pub fn trust<D: Debugged>(
 pub fn take_back<D: Debugged>(
     alloc: Global,
     run: &D,
-    debug: &mut Debug,
+    dialog: &mut Dialog,
     number: u32,
 ) -> Result<Bytes, Memory>
-    requires search { IsSearchOf (D.subject run.now) debug.old }
-    ensures taken { IfOk result (λ text. replied debug.new.book.entries text
-        ≡ takes_back (D.subject run.now) debug.old.book.entries number
-        (take_back_answer (book_of (D.subject run.now) debug.old.book.entries) number)) }
-    ensures search { IsSearchOf (D.subject run.now) debug.new }
+    requires dialog { IsDialogOf (D.subject run.now) dialog.old }
+    ensures taken { IfOk result (λ text. replied (said_in_dialog dialog.new) text
+        ≡ takes_back (D.subject run.now) (said_in_dialog dialog.old) number
+        (take_back_answer (book_of (D.subject run.now) (said_in_dialog dialog.old).entries) number)) }
+    ensures dialog { IsDialogOf (D.subject run.now) dialog.new }
 {
     let mut steps: Steps<Uncounted> = Steps::new();
-    match debug.take_back(number, &mut steps) {
-        Ok(()) => taken_back(alloc, run, debug, number),
+    match dialog.debug.take_back(number, &mut steps) {
+        Ok(()) => taken_back(alloc, run, dialog, number),
         Err(fault) => refusal(alloc, fault),
     }
 }
@@ -145,17 +152,38 @@ pub fn take_back<D: Debugged>(
 pub fn take_back_last<D: Debugged>(
     alloc: Global,
     run: &D,
-    debug: &mut Debug,
+    dialog: &mut Dialog,
 ) -> Result<Bytes, Memory>
-    requires search { IsSearchOf (D.subject run.now) debug.old }
-    ensures taken { IfOk result (λ text. replied debug.new.book.entries text
-        ≡ takes_back_last (D.subject run.now) debug.old.book.entries
-        (take_back_last_answer (book_of (D.subject run.now) debug.old.book.entries))) }
-    ensures search { IsSearchOf (D.subject run.now) debug.new }
+    requires dialog { IsDialogOf (D.subject run.now) dialog.old }
+    ensures taken { IfOk result (λ text. replied (said_in_dialog dialog.new) text
+        ≡ takes_back_last (D.subject run.now) (said_in_dialog dialog.old)
+        (take_back_last_answer (book_of (D.subject run.now) (said_in_dialog dialog.old).entries))) }
+    ensures dialog { IsDialogOf (D.subject run.now) dialog.new }
 {
     let mut steps: Steps<Uncounted> = Steps::new();
-    match debug.take_back_last(&mut steps) {
-        Ok(number) => taken_back(alloc, run, debug, number),
+    match dialog.debug.take_back_last(&mut steps) {
+        Ok(number) => taken_back(alloc, run, dialog, number),
         Err(fault) => refusal(alloc, fault),
+    }
+}
+
+/// Puts a note on the entry of a number, if it was made.
+pub fn note<D: Debugged>(
+    alloc: Global,
+    run: &D,
+    dialog: &mut Dialog,
+    entry: u32,
+    note: &NoteText<'_>,
+) -> Result<Bytes, Memory>
+    requires dialog { IsDialogOf (D.subject run.now) dialog.old }
+    ensures noted { IfOk result (λ text. replied (said_in_dialog dialog.new) text
+        ≡ notes_entry (said_in_dialog dialog.old) entry note.now) }
+    ensures dialog { IsDialogOf (D.subject run.now) dialog.new }
+{
+    if 1 <= entry && entry <= dialog.debug.book().entries() {
+        dialog.notes.set(entry as usize, note.as_str())?;
+        numbered_text(alloc, b"noted ", entry, b"\n")
+    } else {
+        numbered_text(alloc, b"no entry ", entry, b"\n")
     }
 }

@@ -24,6 +24,11 @@ pub trait Debugged {
         requires { call < calls_recorded (subject self.now) }
         ensures { OnOk result (out.new ≡ out.old ++ (subject self.now).card call) };
 
+    /// Appends the text of the question about a call, which says neither its number nor the call that made it.
+    fn write_question(&self, alloc: Global, out: &mut Bytes, call: u32) -> Result<(), Memory>
+        requires { call < calls_recorded (subject self.now) }
+        ensures { OnOk result (out.new ≡ out.old ++ (subject self.now).question call) };
+
     /// Appends the lines of the trace of a call, the last of which says how the call ended.
     fn write_trace(&self, alloc: Global, out: &mut Bytes, call: u32) -> Result<(), Memory>
         requires { call < calls_recorded (subject self.now) }

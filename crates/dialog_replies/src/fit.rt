@@ -2,6 +2,7 @@
 ghost use Rattle.std.specs.Prelude.{◌<◌, ◌≡◌, IfOk, Some, length, option_map, slice_get};
 ghost use Rattle.dialog_replies.specs.Fit.{entries_misfit, misfit, named_beyond, session_misfit};
 ghost use Rattle.dialog_replies.specs.Lines.{misfit_line};
+ghost use Rattle.dialog_replies.specs.Start.{gives_replies_alone, has_replies_alone, is_of_run};
 
 use crate::debugged::Debugged;
 use crate::lines::line_of;
@@ -86,13 +87,43 @@ fn session_misfit<D: Debugged>(run: &D, start: &Start, session: &Session) -> Opt
     }
 }
 
+/// Whether a session is of this run.
+fn is_of_run(start: &Start, session: &Session) -> bool
+    ensures { result ≡ is_of_run start.now session.now }
+{
+    start.source == session.source && start.input == session.input && start.budget == session.budget
+}
+
+/// Whether a session, which is of another run, gives its replies alone. One of version 1 has none.
+pub(crate) fn has_replies_alone(start: &Start, session: &Session) -> bool
+    ensures { result ≡ has_replies_alone start.now session.now }
+{
+    session.version != 1 && !is_of_run(start, session)
+}
+
+/// Whether the saved session gives its replies alone.
+pub fn gives_replies_alone(start: &Start) -> bool
+    ensures { result ≡ gives_replies_alone start.now }
+{
+    match &start.saved {
+        Some(session) => has_replies_alone(start, session),
+        None => false,
+    }
+}
+
 /// Why the saved session does not fit the run.
 #[tactic(auto, unfolding(crate::specs::Fit::misfit))]
 fn misfit<D: Debugged>(run: &D, start: &Start) -> Option<Misfit>
     ensures { result ≡ misfit (D.subject run.now) start.now }
 {
     match &start.saved {
-        Some(session) => session_misfit(run, start, session),
+        Some(session) => {
+            if has_replies_alone(start, session) {
+                None
+            } else {
+                session_misfit(run, start, session)
+            }
+        }
         None => None,
     }
 }

@@ -1,8 +1,9 @@
 //! What a line of the console asks for.
-ghost use Rattle.std.specs.Prelude.{◌∷◌, ◌≡◌, [], ℕ, List};
+ghost use Rattle.std.specs.Prelude.{◌∷◌, ◌≡◌, [], ℕ, IsTrue, List};
+ghost use Rattle.kept_replies.specs.Notes.{is_note};
 ghost use Rattle.dialog_replies.specs.{Numbers.number_of, Words.after_word, Words.words};
-ghost use Rattle.dialog_replies.specs.Instructions.{carry_in, cell_in, instruction_by, instruction_of, save_in};
-ghost use Rattle.dialog_replies.specs.Instructions.{trust_in, with_number};
+ghost use Rattle.dialog_replies.specs.Instructions.{carry_in, instruction_by, instruction_of, note_by, rest_in};
+ghost use Rattle.dialog_replies.specs.Instructions.{save_in, trust_in, with_number};
 ghost use Rattle.dialog_replies.specs.declared.instructions.DialogCommand.TheVariants as commands;
 ghost use Rattle.dialog_replies.specs.declared.instructions.Instruction.TheVariants as ask;
 ghost use Rattle.dialog_replies.specs.declared.keywords.Keyword.TheVariants as key;
@@ -11,6 +12,7 @@ use crate::keywords::{Keyword, keyword_in};
 use crate::numbers::{number_in, routine_number};
 use crate::words::{after_blanks, before_blanks, first_word};
 use answer_book::Judgement;
+use kept_replies::note_in;
 use std::marker::Model;
 
 /// The name of a routine or of cells, as it was typed. Clauses see its bytes.
@@ -59,6 +61,33 @@ impl<'a> FileName<'a> {
     }
 }
 
+/// A note, as it was typed: 1 to 100 bytes from 32 to 126. Clauses see its bytes.
+#[derive(Drop)]
+pub struct NoteText<'a> {
+    text: &'a str,
+}
+
+impl<'a> Model for NoteText<'a> {
+    ghost use Rattle.std.specs.Prelude.{ℕ, IsTrue, List};
+    ghost use Rattle.kept_replies.specs.Notes.{is_note};
+
+    ghost Value = { List ℕ };
+
+    ghost view = { λ note. note.text.now };
+
+    ghost invariant = { λ note. IsTrue (is_note note.text.now) };
+}
+
+impl<'a> NoteText<'a> {
+    /// The note as a text.
+    pub fn as_str(&self) -> &str
+        ensures text { result.now ≡ self.now }
+        ensures note { IsTrue (is_note self.now) }
+    {
+        self.text
+    }
+}
+
 /// What a line of the console asks for.
 #[derive(Drop)]
 pub enum Instruction<'a> {
@@ -78,12 +107,16 @@ pub enum DialogCommand<'a> {
     /// `right`, `wrong` and `unknown`: a judgement on the call of this number, or on the one that is
     /// asked about.
     Judge(Judgement, Option<u32>),
+    /// `same`: the judgement that was kept of the question, on the call that is asked about.
+    Same,
     /// `trust NAME`: trust in the routine of this name.
     TrustNamed(Name<'a>),
     /// `trust #R`: trust in the routine of this number.
     Trust(u32),
     /// `back`: to take back the entry of this number, or the last one that stands.
     TakeBack(Option<u32>),
+    /// `note E TEXT`: a note on the entry of this number.
+    Note(u32, NoteText<'a>),
     /// `show K`: the card of the call of this number.
     Show(u32),
     /// `state K NAME`: what the cells of this name held before and after the call of this number.
@@ -106,6 +139,7 @@ fn alone<'a>(keyword: Keyword) -> Instruction<'a>
     match keyword {
         Keyword::Judge(judgement) => Instruction::Command(DialogCommand::Judge(judgement, None)),
         Keyword::Back => Instruction::Command(DialogCommand::TakeBack(None)),
+        Keyword::Same => Instruction::Command(DialogCommand::Same),
         Keyword::Tree => Instruction::Command(DialogCommand::Tree),
         Keyword::Quit => Instruction::Quit,
         Keyword::Trust
@@ -114,6 +148,7 @@ fn alone<'a>(keyword: Keyword) -> Instruction<'a>
         | Keyword::Trace
         | Keyword::Carry
         | Keyword::Save
+        | Keyword::Note
         | Keyword::Other => Instruction::Command(DialogCommand::Other),
     }
 }
@@ -161,16 +196,20 @@ fn with_operand<'a>(keyword: Keyword, operand: &'a [u8]) -> Instruction<'a>
             None => Instruction::Command(DialogCommand::Other),
         },
         Keyword::Save => save(operand),
-        Keyword::State | Keyword::Carry | Keyword::Tree | Keyword::Quit | Keyword::Other => {
-            Instruction::Command(DialogCommand::Other)
-        }
+        Keyword::State
+        | Keyword::Carry
+        | Keyword::Tree
+        | Keyword::Same
+        | Keyword::Note
+        | Keyword::Quit
+        | Keyword::Other => Instruction::Command(DialogCommand::Other),
     }
 }
 
 /// What `state` asks for with this word after it, and this after the word.
 fn state<'a>(call: &'a [u8], rest: &'a [u8]) -> Instruction<'a>
     ensures { result ≡ with_number (number_of call.now)
-        (λ number. ask.Command (commands.State number (cell_in rest.now))) }
+        (λ number. ask.Command (commands.State number (rest_in rest.now))) }
 {
     match number_in(call) {
         Some(number) => Instruction::Command(DialogCommand::State(
@@ -179,6 +218,26 @@ fn state<'a>(call: &'a [u8], rest: &'a [u8]) -> Instruction<'a>
                 bytes: before_blanks(after_blanks(rest)),
             },
         )),
+        None => Instruction::Command(DialogCommand::Other),
+    }
+}
+
+/// What `note` asks for with this number after it, and this text.
+fn note_on<'a>(entry: u32, text: &'a [u8]) -> Instruction<'a>
+    ensures { result ≡ note_by entry text.now }
+{
+    match note_in(text) {
+        Some(note) => Instruction::Command(DialogCommand::Note(entry, NoteText { text: note })),
+        None => Instruction::Command(DialogCommand::Other),
+    }
+}
+
+/// What `note` asks for with this word after it, and this after the word.
+fn note<'a>(entry: &'a [u8], rest: &'a [u8]) -> Instruction<'a>
+    ensures { result ≡ with_number (number_of entry.now) (λ number. note_by number (rest_in rest.now)) }
+{
+    match number_in(entry) {
+        Some(number) => note_on(number, before_blanks(after_blanks(rest))),
         None => Instruction::Command(DialogCommand::Other),
     }
 }
@@ -216,6 +275,7 @@ fn with_more<'a>(
 {
     match keyword {
         Keyword::State => state(operand, rest),
+        Keyword::Note => note(operand, rest),
         Keyword::Carry => carry_alone(operand, second, after),
         Keyword::Judge(_)
         | Keyword::Trust
@@ -224,6 +284,7 @@ fn with_more<'a>(
         | Keyword::Trace
         | Keyword::Tree
         | Keyword::Save
+        | Keyword::Same
         | Keyword::Quit
         | Keyword::Other => Instruction::Command(DialogCommand::Other),
     }

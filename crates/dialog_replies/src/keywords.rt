@@ -25,6 +25,10 @@ pub enum Keyword {
     Tree,
     /// `save`.
     Save,
+    /// `same`.
+    Same,
+    /// `note`.
+    Note,
     /// `quit`.
     Quit,
     /// Any other word.
@@ -57,6 +61,10 @@ pub fn keyword_in(word: &[u8]) -> Keyword
         Keyword::Tree
     } else if word == b"save".as_slice() {
         Keyword::Save
+    } else if word == b"same".as_slice() {
+        Keyword::Same
+    } else if word == b"note".as_slice() {
+        Keyword::Note
     } else if word == b"quit".as_slice() {
         Keyword::Quit
     } else {

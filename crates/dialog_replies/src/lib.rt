@@ -6,6 +6,7 @@
 mod calls;
 mod changes;
 mod debugged;
+mod dialogs;
 mod fit;
 mod instructions;
 mod keywords;
@@ -13,6 +14,7 @@ mod lines;
 mod marks;
 mod misfits;
 mod numbers;
+mod questions;
 mod replies;
 mod reports;
 mod resuming;
@@ -23,6 +25,7 @@ mod words;
 
 pub use calls::{write_named_call, write_number};
 pub use debugged::Debugged;
+pub use dialogs::Dialog;
 pub use fit::refusal;
 pub use instructions::{DialogCommand, FileName, Instruction, instruction_in};
 pub use replies::{answer, open};

@@ -1,29 +1,47 @@
 //! The reply to each line.
 ghost use Rattle.std.specs.Prelude.{if◌then◌else◌, ◌++◌, ◌<◌, ◌≡◌, IfOk, codes, nat_lt};
-ghost use Rattle.dialog_replies.specs.{Kept.IsSearchOf, Replies.trace_or_none, Replies.trusts_named, Texts.tree_text};
+ghost use Rattle.dialog_replies.specs.{Said.kept_on, Start.said_at_start, Texts.tree_text};
+ghost use Rattle.dialog_replies.specs.Kept.{IsDialogOf, IsSearchOf, said_in_dialog};
 ghost use Rattle.dialog_replies.specs.Replies.{card_or_none, carry_line, carry_or_none, carry_text, command_outcome};
-ghost use Rattle.dialog_replies.specs.Replies.{judges_asked, no_call, no_cell, opening, replied, state_or_none};
+ghost use Rattle.dialog_replies.specs.Replies.{judges_as_kept, judges_asked, judges_same, no_call, no_cell, opening_of};
+ghost use Rattle.dialog_replies.specs.Replies.{replied, state_or_none, trace_or_none, trusts_named};
 ghost use Rattle.dialog_replies.specs.Subject.{calls_recorded, routine_named, state_after};
 
 use crate::calls::{routine_named, write_number};
-use crate::changes::{judge, refusal, take_back, take_back_last, text_of, trust};
+use crate::changes::{judge, note, refusal, take_back, take_back_last, text_of, trust};
 use crate::debugged::Debugged;
+use crate::dialogs::Dialog;
+use crate::fit::gives_replies_alone;
 use crate::instructions::DialogCommand;
 use crate::marks::marks_now;
+use crate::questions::kept_reply;
 use crate::reports::{state_now, write_report};
+use crate::start::Start;
 use answer_book::{BookFault, Judgement};
 use edge_ports::{Bytes, Memory};
 use optimal_query::{Debug, SearchState};
 use std::alloc::Global;
 
-/// What a session opens with, as its entries stand: the card of call 0, and a report.
-pub fn open<D: Debugged>(alloc: Global, run: &D, debug: &Debug) -> Result<Bytes, Memory>
-    requires search { IsSearchOf (D.subject run.now) debug.now }
-    ensures { IfOk result (λ text. text ≡ opening (D.subject run.now) debug.now.book.entries) }
+/// What a session opens with, as its entries stand: a line where the saved session gives its replies alone, the card of
+/// call 0, and a report.
+pub fn open<D: Debugged>(
+    alloc: Global,
+    run: &D,
+    start: &Start,
+    dialog: &mut Dialog,
+) -> Result<Bytes, Memory>
+    requires dialog { IsDialogOf (D.subject run.now) dialog.old }
+    requires said { said_in_dialog dialog.old ≡ said_at_start start.now }
+    ensures text { IfOk result (λ text. text ≡ opening_of (D.subject run.now) start.now) }
+    ensures said { said_in_dialog dialog.new ≡ said_in_dialog dialog.old }
+    ensures dialog { IsDialogOf (D.subject run.now) dialog.new }
 {
     let mut text = Bytes::new(alloc);
+    if gives_replies_alone(start) {
+        text.append(b"replies only\n")?;
+    }
     run.write_card(alloc, &mut text, 0)?;
-    write_report(alloc, &mut text, run, debug)?;
+    write_report(alloc, &mut text, run, dialog)?;
     Ok(text)
 }
 
@@ -31,17 +49,54 @@ pub fn open<D: Debugged>(alloc: Global, run: &D, debug: &Debug) -> Result<Bytes,
 fn judge_asked<D: Debugged>(
     alloc: Global,
     run: &D,
-    debug: &mut Debug,
+    dialog: &mut Dialog,
     judgement: Judgement,
 ) -> Result<Bytes, Memory>
-    requires search { IsSearchOf (D.subject run.now) debug.old }
-    ensures judged { IfOk result (λ text. replied debug.new.book.entries text
-        ≡ judges_asked (D.subject run.now) debug.old.book.entries judgement
-        (state_after (D.subject run.now) debug.old.book.entries)) }
-    ensures search { IsSearchOf (D.subject run.now) debug.new }
+    requires dialog { IsDialogOf (D.subject run.now) dialog.old }
+    ensures judged { IfOk result (λ text. replied (said_in_dialog dialog.new) text
+        ≡ judges_asked (D.subject run.now) (said_in_dialog dialog.old) judgement
+        (state_after (D.subject run.now) (said_in_dialog dialog.old).entries)) }
+    ensures dialog { IsDialogOf (D.subject run.now) dialog.new }
 {
-    match state_now(run, debug) {
-        SearchState::Ask { call, .. } => judge(alloc, run, debug, judgement, call),
+    match state_now(run, &dialog.debug) {
+        SearchState::Ask { call, .. } => judge(alloc, run, dialog, judgement, call),
+        SearchState::Found(_)
+        | SearchState::Narrowed(_)
+        | SearchState::NothingWrong
+        | SearchState::Unclear => { text_of(alloc, b"no question\n") }
+    }
+}
+
+/// Judges a call as its question was replied before.
+fn judge_as_kept<D: Debugged>(
+    alloc: Global,
+    run: &D,
+    dialog: &mut Dialog,
+    call: u32,
+) -> Result<Bytes, Memory>
+    requires call { call < calls_recorded (D.subject run.now) }
+    requires dialog { IsDialogOf (D.subject run.now) dialog.old }
+    ensures judged { IfOk result (λ text. replied (said_in_dialog dialog.new) text
+        ≡ judges_as_kept (D.subject run.now) (said_in_dialog dialog.old) call
+        (kept_on (D.subject run.now) (said_in_dialog dialog.old).replies call)) }
+    ensures dialog { IsDialogOf (D.subject run.now) dialog.new }
+{
+    match kept_reply(alloc, run, dialog, call)? {
+        Some(judgement) => judge(alloc, run, dialog, judgement, call),
+        None => text_of(alloc, b"no kept reply\n"),
+    }
+}
+
+/// Judges the call that is asked about as its question was replied before.
+fn judge_same<D: Debugged>(alloc: Global, run: &D, dialog: &mut Dialog) -> Result<Bytes, Memory>
+    requires dialog { IsDialogOf (D.subject run.now) dialog.old }
+    ensures judged { IfOk result (λ text. replied (said_in_dialog dialog.new) text
+        ≡ judges_same (D.subject run.now) (said_in_dialog dialog.old)
+        (state_after (D.subject run.now) (said_in_dialog dialog.old).entries)) }
+    ensures dialog { IsDialogOf (D.subject run.now) dialog.new }
+{
+    match state_now(run, &dialog.debug) {
+        SearchState::Ask { call, .. } => judge_as_kept(alloc, run, dialog, call),
         SearchState::Found(_)
         | SearchState::Narrowed(_)
         | SearchState::NothingWrong
@@ -64,17 +119,17 @@ fn no_routine(alloc: Global, name: &[u8]) -> Result<Bytes, Memory>
 fn trust_named<D: Debugged>(
     alloc: Global,
     run: &D,
-    debug: &mut Debug,
+    dialog: &mut Dialog,
     name: &[u8],
 ) -> Result<Bytes, Memory>
-    requires search { IsSearchOf (D.subject run.now) debug.old }
-    ensures trusted { IfOk result (λ text. replied debug.new.book.entries text
-        ≡ trusts_named (D.subject run.now) debug.old.book.entries name.now
+    requires dialog { IsDialogOf (D.subject run.now) dialog.old }
+    ensures trusted { IfOk result (λ text. replied (said_in_dialog dialog.new) text
+        ≡ trusts_named (D.subject run.now) (said_in_dialog dialog.old) name.now
         (routine_named (D.subject run.now) name.now)) }
-    ensures search { IsSearchOf (D.subject run.now) debug.new }
+    ensures dialog { IsDialogOf (D.subject run.now) dialog.new }
 {
     match routine_named(run, name) {
-        Some(routine) => trust(alloc, run, debug, routine),
+        Some(routine) => trust(alloc, run, dialog, routine),
         None => no_routine(alloc, name),
     }
 }
@@ -208,27 +263,29 @@ fn tree_of<D: Debugged>(alloc: Global, run: &D, debug: &Debug) -> Result<Bytes, 
 pub fn answer<D: Debugged>(
     alloc: Global,
     run: &D,
-    debug: &mut Debug,
+    dialog: &mut Dialog,
     command: DialogCommand<'_>,
 ) -> Result<Bytes, Memory>
-    requires search { IsSearchOf (D.subject run.now) debug.old }
-    ensures outcome { IfOk result (λ text. replied debug.new.book.entries text
-        ≡ command_outcome (D.subject run.now) debug.old.book.entries command.entry) }
-    ensures search { IsSearchOf (D.subject run.now) debug.new }
+    requires dialog { IsDialogOf (D.subject run.now) dialog.old }
+    ensures outcome { IfOk result (λ text. replied (said_in_dialog dialog.new) text
+        ≡ command_outcome (D.subject run.now) (said_in_dialog dialog.old) command.entry) }
+    ensures dialog { IsDialogOf (D.subject run.now) dialog.new }
 {
     match command {
         DialogCommand::Nothing => Ok(Bytes::new(alloc)),
-        DialogCommand::Judge(judgement, None) => judge_asked(alloc, run, debug, judgement),
-        DialogCommand::Judge(judgement, Some(call)) => judge(alloc, run, debug, judgement, call),
-        DialogCommand::TrustNamed(name) => trust_named(alloc, run, debug, name.bytes()),
-        DialogCommand::Trust(routine) => trust(alloc, run, debug, routine),
-        DialogCommand::TakeBack(None) => take_back_last(alloc, run, debug),
-        DialogCommand::TakeBack(Some(entry)) => take_back(alloc, run, debug, entry),
+        DialogCommand::Judge(judgement, None) => judge_asked(alloc, run, dialog, judgement),
+        DialogCommand::Judge(judgement, Some(call)) => judge(alloc, run, dialog, judgement, call),
+        DialogCommand::Same => judge_same(alloc, run, dialog),
+        DialogCommand::TrustNamed(name) => trust_named(alloc, run, dialog, name.bytes()),
+        DialogCommand::Trust(routine) => trust(alloc, run, dialog, routine),
+        DialogCommand::TakeBack(None) => take_back_last(alloc, run, dialog),
+        DialogCommand::TakeBack(Some(entry)) => take_back(alloc, run, dialog, entry),
+        DialogCommand::Note(entry, text) => note(alloc, run, dialog, entry, &text),
         DialogCommand::Show(call) => card_of(alloc, run, call),
         DialogCommand::State(call, name) => state_of(alloc, run, call, name.bytes()),
         DialogCommand::Trace(call) => trace_of(alloc, run, call),
         DialogCommand::Carry(call, onto) => carry_of(alloc, run, call, onto),
-        DialogCommand::Tree => tree_of(alloc, run, debug),
+        DialogCommand::Tree => tree_of(alloc, run, &dialog.debug),
         DialogCommand::Other => text_of(alloc, b"not understood\n"),
     }
 }

@@ -1,12 +1,16 @@
 //! The report on the state of the search.
 ghost use Rattle.std.specs.Prelude.{◌++◌, ◌<◌, ◌≡◌, OnOk};
-ghost use Rattle.dialog_replies.specs.{Kept.IsSearchOf, Subject.calls_recorded, Subject.state_after};
-ghost use Rattle.dialog_replies.specs.Texts.{doubt_line, doubt_lines, question_line, report};
+ghost use Rattle.dialog_replies.specs.{Said.kept_on, Subject.calls_recorded, Subject.state_after};
+ghost use Rattle.dialog_replies.specs.Kept.{IsDialogOf, IsSearchOf, said_in_dialog};
+ghost use Rattle.dialog_replies.specs.Texts.{doubt_line, doubt_lines, kept_line, question_line, report};
 
 use crate::calls::{write_named_call, write_number};
 use crate::debugged::Debugged;
+use crate::dialogs::Dialog;
+use crate::questions::kept_reply;
 use edge_ports::{Bytes, Memory};
 use optimal_query::{Debug, SearchState};
+use session_file::judgement_word;
 use std::alloc::Global;
 
 /// Appends the line of a question.
@@ -59,18 +63,47 @@ pub fn state_now<D: Debugged>(run: &D, debug: &Debug) -> SearchState
     debug.state()
 }
 
+/// Appends the reply that was kept to the question about a call, if there is one. No digest is made where no replies
+/// are there.
+fn write_kept<D: Debugged>(
+    alloc: Global,
+    out: &mut Bytes,
+    run: &D,
+    dialog: &mut Dialog,
+    call: u32,
+) -> Result<(), Memory>
+    requires call { call < calls_recorded (D.subject run.now) }
+    requires dialog { IsDialogOf (D.subject run.now) dialog.old }
+    ensures line { OnOk result (out.new ≡ out.old
+        ++ kept_line (kept_on (D.subject run.now) (said_in_dialog dialog.old).replies call)) }
+    ensures said { said_in_dialog dialog.new ≡ said_in_dialog dialog.old }
+    ensures dialog { IsDialogOf (D.subject run.now) dialog.new }
+{
+    match kept_reply(alloc, run, dialog, call)? {
+        Some(judgement) => {
+            out.append(b"  kept ")?;
+            out.append(judgement_word(judgement).as_bytes())?;
+            out.append(b"\n")?;
+            Ok(())
+        }
+        None => Ok(()),
+    }
+}
+
 /// Appends the report on the state of the search.
 #[tactic(auto, unfolding(crate::specs::Texts::report))]
 pub fn write_report<D: Debugged>(
     alloc: Global,
     out: &mut Bytes,
     run: &D,
-    debug: &Debug,
+    dialog: &mut Dialog,
 ) -> Result<(), Memory>
-    requires { IsSearchOf (D.subject run.now) debug.now }
-    ensures { OnOk result (out.new ≡ out.old ++ report (D.subject run.now) debug.now.book.entries) }
+    requires dialog { IsDialogOf (D.subject run.now) dialog.old }
+    ensures text { OnOk result (out.new ≡ out.old ++ report (D.subject run.now) (said_in_dialog dialog.old)) }
+    ensures said { said_in_dialog dialog.new ≡ said_in_dialog dialog.old }
+    ensures dialog { IsDialogOf (D.subject run.now) dialog.new }
 {
-    match state_now(run, debug) {
+    match state_now(run, &dialog.debug) {
         SearchState::Ask {
             call,
             suspects,
@@ -78,7 +111,8 @@ pub fn write_report<D: Debugged>(
             ..
         } => {
             write_question(out, call, suspects, left)?;
-            run.write_card(alloc, out, call)
+            run.write_card(alloc, out, call)?;
+            write_kept(alloc, out, run, dialog, call)
         }
         SearchState::Found(call) => {
             out.append(b"found call ")?;
@@ -90,12 +124,12 @@ pub fn write_report<D: Debugged>(
             out.append(b"narrowed to call ")?;
             write_named_call(out, run, call)?;
             out.append(b"\n")?;
-            write_doubts(out, run, debug)
+            write_doubts(out, run, &dialog.debug)
         }
         SearchState::NothingWrong => out.append(b"nothing wrong\n"),
         SearchState::Unclear => {
             out.append(b"unclear\n")?;
-            write_doubts(out, run, debug)
+            write_doubts(out, run, &dialog.debug)
         }
     }
 }

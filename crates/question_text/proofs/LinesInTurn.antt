@@ -4,7 +4,7 @@ use Rattle.std.proofs.{Common.slice_get, Common.slice_index_or, Common.suc, Comm
 use Rattle.cell_value.specs.declared.values.Value.{Value}
 use Rattle.core_program.specs.ProgramRows.{ProgramRows}
 use Rattle.call_tree.specs.declared.records.{Call.Call, Mark.Mark}
-use Rattle.cell_names.{proofs.WrittenInTurn.drop_get, specs.Names.Scene, specs.Names.local_at}
+use Rattle.cell_names.{proofs.WrittenInTurn.drop_get, specs.Names.Scene}
 use Rattle.question_text.specs.{Cells.parameter_line, Cells.parameters_text, Trees.tree_from, Trees.tree_line}
 
 -- one more line
@@ -15,19 +15,19 @@ line_on f xs i x before after all found written so_far =
     rw add-one (ap (λ t. t ++ rest) written ∙ append_assoc before (f x) rest ∙ ap (λ l. before ++ flat_map f l) (sym (drop_get xs i x found)) ∙ so_far)
 
 -- one more parameter's cell
-pub parameter_on : (s : Scene) (routine place : ℕ) (args : List Value) (v : Value) (before after all : List ℕ) → slice_get args place ≡ Some v
-    → after ≡ before ++ parameter_line s (local_at s routine place) v → before ++ parameters_text s routine place (drop place args) ≡ all
-    → after ++ parameters_text s routine (place + 1) (drop (place + 1) args) ≡ all
-parameter_on s routine place args v before after all found written so_far =
-    let rest = parameters_text s routine (place + 1) (drop (suc place) args) in
-    ap (λ n. after ++ parameters_text s routine (place + 1) (drop n args)) (let e : place + 1 ≡ suc place = omega arith in e)
-    ∙ ap (λ t. t ++ rest) written ∙ append_assoc before (parameter_line s (local_at s routine place) v) rest
-    ∙ ap (λ l. before ++ parameters_text s routine place l) (sym (drop_get args place v found)) ∙ so_far
+pub parameter_on : (s : Scene) (top routine place : ℕ) (args : List Value) (v : Value) (before after all : List ℕ) → slice_get args place ≡ Some v
+    → after ≡ before ++ parameter_line s top routine place v → before ++ parameters_text s top routine place (drop place args) ≡ all
+    → after ++ parameters_text s top routine (place + 1) (drop (place + 1) args) ≡ all
+parameter_on s top routine place args v before after all found written so_far =
+    let rest = parameters_text s top routine (place + 1) (drop (suc place) args) in
+    ap (λ n. after ++ parameters_text s top routine (place + 1) (drop n args)) (let e : place + 1 ≡ suc place = omega arith in e)
+    ∙ ap (λ t. t ++ rest) written ∙ append_assoc before (parameter_line s top routine place v) rest
+    ∙ ap (λ l. before ++ parameters_text s top routine place l) (sym (drop_get args place v found)) ∙ so_far
 
-pub parameters_end : (s : Scene) (routine place : ℕ) (args : List Value) (out all : List ℕ) → length args ≤ place
-    → out ++ parameters_text s routine place (drop place args) ≡ all → out ≡ all
-parameters_end s routine place args out all past so_far =
-    sym (append-nil out) ∙ ap (λ l. out ++ parameters_text s routine place l) (sym (drop_all place args past)) ∙ so_far
+pub parameters_end : (s : Scene) (top routine place : ℕ) (args : List Value) (out all : List ℕ) → length args ≤ place
+    → out ++ parameters_text s top routine place (drop place args) ≡ all → out ≡ all
+parameters_end s top routine place args out all past so_far =
+    sym (append-nil out) ∙ ap (λ l. out ++ parameters_text s top routine place l) (sym (drop_all place args past)) ∙ so_far
 
 -- one more line of a tree
 pub tree_on : (p : ProgramRows) (k : ℕ) (calls : List Call) (marks : List Mark) (call : Call) (d : Mark) (before after all : List ℕ)

@@ -2,7 +2,7 @@
 use Rattle.std.proofs.Common.{◌++◌, ◌∙◌, ◌≡◌, ◌≤◌, [], ℕ, Bool, List, Option, Some, ap, false, length, slice_get, sym}
 use Rattle.std.proofs.lemmas.Option.{slice_get_past}
 use Rattle.call_tree.specs.{Recording.routines_of, declared.records.Call.Call}
-use Rattle.cell_names.specs.{Finding.Finding, Finding.finding_of, Names.Scene, Places.finds, declared.places.PlacedPart.PlacedPart}
+use Rattle.cell_names.specs.{Finding.Finding, Finding.finding_of, Places.finds, declared.places.PlacedPart.PlacedPart}
 use Rattle.question_text.proofs.CardsWhole.{scene_by}
 use Rattle.question_text.specs.{Cards.Recorded, Cards.scene_of, Frames.opened_from, States.has_cell, States.has_cell_by, States.lines_by, States.state_text}
 

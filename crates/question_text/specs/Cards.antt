@@ -6,10 +6,10 @@ use Rattle.cell_value.specs.declared.{entries.Touch.Touch, values.Value.Value}
 use Rattle.core_program.specs.ProgramRows.{ProgramRows, routine_at, row_at}
 use Rattle.core_program.specs.declared.program.Routine.{Routine}
 use Rattle.call_tree.specs.{Recording.routines_of, Told.part_of, declared.records.Call.Call}
-use Rattle.cell_names.specs.{Finding.finding_of, Pieces.in_quotation_marks, Places.finds, Values.typed_text}
-use Rattle.cell_names.specs.Names.{Scene, result_of}
-use Rattle.question_text.specs.{Frames.opened_from, Lines.call_line, Lines.inner_line, WaysOut.way_text}
-use Rattle.question_text.specs.Cells.{change_line, parameters_text, seen_line}
+use Rattle.cell_names.specs.{Finding.finding_of, Names.Scene, Names.result_of, Pieces.in_quotation_marks, Places.finds}
+use Rattle.cell_names.specs.Values.{typed_text, untyped_text}
+use Rattle.question_text.specs.{Cells.change_line, Cells.parameters_text, Cells.seen_line, Frames.opened_from}
+use Rattle.question_text.specs.{Lines.call_line, Lines.inner_line, Lines.routine_line, WaysOut.way_text}
 use Rattle.question_text.specs.declared.cards.Recorded as kept
 
 abbrev pub end_text : (items to : ℕ) → List ℕ
@@ -32,9 +32,13 @@ abbrev pub gives_text : List ℕ → List ℕ
 gives_text [] = []
 gives_text (byte ∷ bytes) = inner_line (codes "gives " ++ in_quotation_marks (byte ∷ bytes))
 
+abbrev pub result_value_text : ProgramRows → (of' : Option ℕ) → Value → List ℕ
+result_value_text p None v = untyped_text v
+result_value_text p (Some of') v = typed_text p of' v
+
 abbrev pub result_by : ProgramRows → (of' : Option ℕ) → Option Value → List ℕ
-result_by p (Some of') (Some v) = inner_line (codes "result " ++ typed_text p of' v)
-result_by p of' v = []
+result_by p of' None = []
+result_by p of' (Some v) = inner_line (codes "result " ++ result_value_text p of' v)
 
 abbrev pub result_type : ProgramRows → Option Routine → Option ℕ
 result_type p None = None
@@ -83,7 +87,7 @@ scene_of r k = record {
 -- the lines of a card after the first: parameters, reads, changes, looks, takes, gives, result, and the way out
 abbrev pub card_lines : Recorded → Scene → Call → List ℕ
 card_lines r s call =
-    parameters_text s call.routine 1 (drop 1 call.args)
+    parameters_text s call.entry.top call.routine 1 (drop 1 call.args)
     ++ effect_text s r.items call (part_of r.log call)
     ++ result_text r.program call.routine call.result
     ++ inner_line (way_text r.calls call.parent call.way)
@@ -95,3 +99,11 @@ card_by r k (Some call) = call_line r.program k call ++ card_lines r (scene_of r
 -- the card of call k of a run
 unfoldable pub card : Recorded → (k : ℕ) → List ℕ
 card r k = card_by r k (slice_get r.calls k)
+
+abbrev pub question_by : Recorded → (k : ℕ) → Option Call → List ℕ
+question_by r k None = []
+question_by r k (Some call) = routine_line r.program call ++ card_lines r (scene_of r k) call
+
+-- the text of the question about call k of a run: its card, with the name of its routine alone as the first line
+unfoldable pub question : Recorded → (k : ℕ) → List ℕ
+question r k = question_by r k (slice_get r.calls k)

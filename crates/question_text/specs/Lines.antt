@@ -18,3 +18,7 @@ in_parent (Some parent) = codes " in call " ++ decimal parent
 -- the first line of a card: a call by its number, the name of its routine, and the call that made it
 abbrev pub call_line : ProgramRows → (k : ℕ) → Call → List ℕ
 call_line p k call = call_text p k call ++ in_parent call.parent ++ codes "\n"
+
+-- the name of the routine of a call, as a line
+abbrev pub routine_line : ProgramRows → Call → List ℕ
+routine_line p call = name_of p call.routine ++ codes "\n"

@@ -1,5 +1,5 @@
 -- How a call ended: what is shown of it.
-use Rattle.std.specs.Prelude.{◌++◌, [], ℕ, List, None, Option, Some, codes, decimal, length}
+use Rattle.std.specs.Prelude.{◌++◌, ℕ, List, None, Option, Some, codes, decimal, length}
 use Rattle.cell_value.specs.declared.ways_out.{Kind.Kind, WayOut.WayOut, Which.Which}
 use Rattle.call_tree.specs.declared.records.Call.{Call}
 use Rattle.question_text.specs.Frames.{call_of_frame}
@@ -26,15 +26,16 @@ limit_text Which.Depth = codes "depth"
 limit_text Which.Stack = codes "stack"
 limit_text Which.Heap = codes "heap"
 
-abbrev pub of_call : Option ℕ → List ℕ
-of_call None = []
-of_call (Some call) = codes " of call " ++ decimal call
+-- whose label a jump led to: that of a call; or, if no open call has the frame that begins at a base, of the frame
+abbrev pub holder_text : (base : ℕ) → Option ℕ → List ℕ
+holder_text base None = codes " of frame " ++ decimal base
+holder_text base (Some call) = codes " of call " ++ decimal call
 
 -- how a call ended; a jump out of it tells the label and the call that went on there
 abbrev pub way_text : List Call → (parent : Option ℕ) → WayOut → List ℕ
 way_text calls parent WayOut.Returned = codes "returned"
 way_text calls parent (WayOut.Jumped label base) =
-    codes "jumped to " ++ decimal label ++ of_call (call_of_frame calls (length calls) parent base)
+    codes "jumped to " ++ decimal label ++ holder_text base (call_of_frame calls (length calls) parent base)
 way_text calls parent (WayOut.Faulted k line) = codes "faulted " ++ fault_text k ++ codes " line " ++ decimal line
 way_text calls parent WayOut.OutOfSteps = codes "out of steps"
 way_text calls parent (WayOut.Limited w) = codes "limited " ++ limit_text w

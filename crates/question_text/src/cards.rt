@@ -5,16 +5,18 @@ ghost use Rattle.std.specs.Prelude.{slice_range};
 ghost use Rattle.core_program.specs.ProgramRows.{routine_at};
 ghost use Rattle.call_tree.specs.{Told.IsTold, Told.part_of, declared.records.Call.Call as TableCall};
 ghost use Rattle.cell_names.specs.{Finding.finding_in, Finding.finding_of, Names.scene_in, Pieces.in_quotation_marks};
-ghost use Rattle.question_text.specs.Cards.{card, card_lines, effect_text, end_text, gives_text, looks_text};
-ghost use Rattle.question_text.specs.Cards.{recorded_in, result_by, result_text, result_type, takes_text};
-ghost use Rattle.question_text.specs.Cells.{change_line, seen_line};
+ghost use Rattle.question_text.specs.{Cards.scene_of, Cards.takes_text, Cells.change_line, Cells.seen_line};
+ghost use Rattle.question_text.specs.Cards.{card, card_lines, effect_text, end_text, gives_text, looks_text, question};
+ghost use Rattle.question_text.specs.Cards.{recorded_in, result_by, result_text, result_type, result_value_text};
 
 use crate::cells::{write_changes, write_parameters, write_reads};
-use crate::lines::write_call_line;
+use crate::lines::{write_call_line, write_routine_line};
 use crate::opened::opened_calls;
 use crate::ways_out::write_way_line;
 use call_tree::{Call, Calls};
-use cell_names::{NameFinder, Scene, result_of, write_quoted, write_quoted_items, write_typed};
+use cell_names::{
+    NameFinder, Scene, result_of, write_quoted, write_quoted_items, write_typed, write_untyped,
+};
 use cell_value::{Items, Value};
 use core_program::Program;
 use edge_ports::Bytes;
@@ -90,6 +92,21 @@ fn write_gives(out: &mut Bytes, bytes: &[u8]) -> Result<(), AllocError>
     out.append(b"\n")
 }
 
+/// Appends a result of a type.
+fn write_result_value(
+    out: &mut Bytes,
+    program: &Program,
+    of: Option<u32>,
+    value: Value,
+) -> Result<(), AllocError>
+    ensures { OnOk result (out.new ≡ out.old ++ result_value_text program.now of value) }
+{
+    match of {
+        None => write_untyped(out, value),
+        Some(of) => write_typed(out, program, of, value),
+    }
+}
+
 /// Appends the line on the result of a function of a type.
 fn write_result_of(
     out: &mut Bytes,
@@ -99,16 +116,13 @@ fn write_result_of(
 ) -> Result<(), AllocError>
     ensures { OnOk result (out.new ≡ out.old ++ result_by program.now of value) }
 {
-    match of {
+    match value {
         None => Ok(()),
-        Some(of) => match value {
-            None => Ok(()),
-            Some(value) => {
-                out.append(b"  result ")?;
-                write_typed(out, program, of, value)?;
-                out.append(b"\n")
-            }
-        },
+        Some(value) => {
+            out.append(b"  result ")?;
+            write_result_value(out, program, of, value)?;
+            out.append(b"\n")
+        }
     }
 }
 
@@ -198,10 +212,34 @@ fn write_lines(
     requires { IsTold from.now.log.now from.now.items.now call.now }
     ensures { OnOk result (out.new ≡ out.old ++ card_lines (recorded_in from.now) (scene_in scene.now) call.now) }
 {
-    write_parameters(out, scene, call.routine, &call.args)?;
+    write_parameters(out, scene, call.entry.top, call.routine, &call.args)?;
     write_effect(alloc, out, from, scene, call)?;
     write_result(out, from.program, call.routine, call.result)?;
     write_way_line(out, from.calls, call.parent, call.way)
+}
+
+/// Appends the lines of the card of a call after the first.
+fn write_below(
+    alloc: Global,
+    out: &mut Bytes,
+    from: &Recorded,
+    number: u32,
+    call: &Call,
+) -> Result<(), AllocError>
+    requires names { finding_in from.now.names.now ≡ finding_of from.now.program.now from.now.tokens from.now.log.now }
+    requires told { IsTold from.now.log.now from.now.items.now call.now }
+    ensures { OnOk result (out.new
+        ≡ out.old ++ card_lines (recorded_in from.now) (scene_of (recorded_in from.now) number) call.now) }
+{
+    let opened = opened_calls(alloc, from.calls, number)?;
+    let scene = Scene {
+        program: from.program,
+        names: from.names,
+        routines: from.calls.routine_column(),
+        opened: &opened,
+    };
+    write_lines(alloc, out, from, &scene, call)?;
+    Ok(())
 }
 
 /// Appends the card of a call.
@@ -220,15 +258,29 @@ fn write_card(
         return Ok(());
     }
     let call = from.calls.call(number);
-    let opened = opened_calls(alloc, from.calls, number)?;
-    let scene = Scene {
-        program: from.program,
-        names: from.names,
-        routines: from.calls.routine_column(),
-        opened: &opened,
-    };
     write_call_line(out, from.program, number, call)?;
-    write_lines(alloc, out, from, &scene, call)?;
+    write_below(alloc, out, from, number, call)?;
+    Ok(())
+}
+
+/// Appends the text of the question about a call.
+fn write_question_lines(
+    alloc: Global,
+    out: &mut Bytes,
+    from: &Recorded,
+    number: u32,
+) -> Result<(), AllocError>
+    requires names { finding_in from.now.names.now ≡ finding_of from.now.program.now from.now.tokens from.now.log.now }
+    requires told { (call : TableCall) → slice_get from.now.calls.now.calls number ≡ Some call
+        → IsTold from.now.log.now from.now.items.now call }
+    ensures { OnOk result (out.new ≡ out.old ++ question (recorded_in from.now) number) }
+{
+    if number >= from.calls.len() {
+        return Ok(());
+    }
+    let call = from.calls.call(number);
+    write_routine_line(out, from.program, call)?;
+    write_below(alloc, out, from, number, call)?;
     Ok(())
 }
 
@@ -252,5 +304,27 @@ pub fn write_call(
 {
     let mut text = Bytes::new(alloc);
     write_card(alloc, &mut text, from, call)?;
+    out.append(text.as_slice())
+}
+
+/// Appends the text of the question about a call: its card, with the name of its routine alone as the first line. It
+/// says neither which number the call has nor which call made it, so that the same question is known again in another
+/// run. After `Memory` the text is as before. Of a number that is no call's nothing is appended.
+///
+/// What is found by its place is as for `write_call`, and so are the call's part of the log and the input.
+pub fn write_question(
+    alloc: Global,
+    out: &mut Bytes,
+    from: &Recorded,
+    call: u32,
+) -> Result<(), AllocError>
+    requires names { finding_in from.now.names.now ≡ finding_of from.now.program.now from.now.tokens from.now.log.now }
+    requires told { (c : TableCall) → slice_get from.now.calls.now.calls call ≡ Some c
+        → IsTold from.now.log.now from.now.items.now c }
+    ensures ok { OnOk result (out.new ≡ out.old ++ question (recorded_in from.now) call) }
+    ensures err { OnErr result (out.new ≡ out.old) }
+{
+    let mut text = Bytes::new(alloc);
+    write_question_lines(alloc, &mut text, from, call)?;
     out.append(text.as_slice())
 }

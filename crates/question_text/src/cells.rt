@@ -1,13 +1,14 @@
 //! The lines of a card on cells: parameters, what was seen, and what was changed.
 
-ghost use Rattle.std.specs.Prelude.{◌++◌, ◌≡◌, None, OnOk, drop, flat_map};
-ghost use Rattle.cell_names.specs.Names.{cell_text, scene_in, variable_name};
-ghost use Rattle.question_text.specs.Cells.{cell_value_text, change_at_root, change_line, change_text, held_text};
-ghost use Rattle.question_text.specs.Cells.{parameter_line, parameter_text, parameters_text, place_text, routine_text};
-ghost use Rattle.question_text.specs.Cells.{seen_at_root, seen_line, seen_text, tag_text};
+ghost use Rattle.std.specs.Prelude.{◌++◌, ◌≡◌, OnOk, drop, flat_map};
+ghost use Rattle.cell_names.specs.Names.{root_text, scene_in, variable_name};
+ghost use Rattle.question_text.specs.Cells.{cell_value_text, change_line, change_text, held_text, parameter_line};
+ghost use Rattle.question_text.specs.Cells.{parameter_text, parameters_text, place_text, routine_text, seen_line};
+ghost use Rattle.question_text.specs.Cells.{seen_text, tag_text};
 
 use cell_names::{
-    Held, Local, Root, Scene, local_at, root_at, write_long, write_root, write_typed, write_way,
+    Held, Local, Root, Scene, is_link, local_at, root_at, write_address, write_long, write_root,
+    write_typed, write_untyped, write_way,
 };
 use cell_value::{Cells, Change, Seen, Value};
 use core_program::Program;
@@ -15,17 +16,31 @@ use edge_ports::Bytes;
 use effect_log::{Changes, Reads};
 use std::alloc::AllocError;
 
+/// Appends the name of what has an address, or of the first variable of a wanted type on the way down to it. What has
+/// no name is told by its address.
+fn write_name(
+    out: &mut Bytes,
+    scene: &Scene,
+    wanted: Option<u32>,
+    address: u32,
+    root: Option<Root>,
+) -> Result<(), AllocError>
+    ensures { OnOk result (out.new ≡ out.old ++ root_text (scene_in scene.now) wanted address root) }
+{
+    match root {
+        None => write_address(out, address),
+        Some(root) => {
+            write_root(out, scene, wanted, root)?;
+            Ok(())
+        }
+    }
+}
+
 /// Appends the name of the variable of a type that has an address.
 fn write_variable(out: &mut Bytes, scene: &Scene, of: u32, address: u32) -> Result<(), AllocError>
     ensures { OnOk result (out.new ≡ out.old ++ variable_name (scene_in scene.now) of address) }
 {
-    match root_at(scene, address) {
-        None => Ok(()),
-        Some(root) => {
-            write_root(out, scene, Some(of), root)?;
-            Ok(())
-        }
-    }
+    write_name(out, scene, Some(of), address, root_at(scene, address))
 }
 
 /// Appends the variable that a variable parameter of a type stands for.
@@ -84,118 +99,130 @@ pub(crate) fn write_held(
 fn write_cell_value(
     out: &mut Bytes,
     scene: &Scene,
-    root: Root,
+    address: u32,
+    root: Option<Root>,
     value: Value,
 ) -> Result<(), AllocError>
-    ensures { OnOk result (out.new ≡ out.old ++ cell_value_text (scene_in scene.now) root value) }
+    ensures { OnOk result (out.new ≡ out.old ++ cell_value_text (scene_in scene.now) address root value) }
 {
-    let held = write_root(out, scene, None, root)?;
-    out.append(b" = ")?;
-    write_held(out, scene, held, value)?;
+    match root {
+        None => {
+            write_address(out, address)?;
+            out.append(b" = ")?;
+            write_untyped(out, value)?;
+        }
+        Some(root) => {
+            let held = write_root(out, scene, None, root)?;
+            out.append(b" = ")?;
+            write_held(out, scene, held, value)?;
+        }
+    }
     Ok(())
 }
 
-/// Appends the name of a cell.
-fn write_cell(out: &mut Bytes, scene: &Scene, root: Root) -> Result<(), AllocError>
-    ensures { OnOk result (out.new ≡ out.old ++ cell_text (scene_in scene.now) None root) }
-{
-    write_root(out, scene, None, root)?;
-    Ok(())
-}
-
-/// Appends a parameter's cell and what it holds.
+/// Appends the cell of a parameter at an address, and what it holds.
 fn write_parameter(
     out: &mut Bytes,
     scene: &Scene,
-    local: Local,
-    value: Value,
-) -> Result<(), AllocError>
-    ensures { OnOk result (out.new ≡ out.old ++ parameter_text (scene_in scene.now) local value) }
-{
-    out.append(scene.program.text(local.token))?;
-    let end = write_way(out, scene, None, local.spot)?;
-    out.append(b" = ")?;
-    write_held(out, scene, end.held, value)?;
-    Ok(())
-}
-
-/// Appends the line on a parameter's cell, if it has a name.
-fn write_parameter_line(
-    out: &mut Bytes,
-    scene: &Scene,
+    address: u32,
     local: Option<Local>,
     value: Value,
 ) -> Result<(), AllocError>
-    ensures { OnOk result (out.new ≡ out.old ++ parameter_line (scene_in scene.now) local value) }
+    ensures { OnOk result (out.new ≡ out.old ++ parameter_text (scene_in scene.now) address local value) }
 {
     match local {
-        None => Ok(()),
+        None => {
+            write_address(out, address)?;
+            out.append(b" = ")?;
+            write_untyped(out, value)?;
+        }
         Some(local) => {
-            out.append(b"  ")?;
-            write_parameter(out, scene, local, value)?;
-            out.append(b"\n")?;
-            Ok(())
+            out.append(scene.program.text(local.token))?;
+            let end = write_way(out, scene, None, local.spot)?;
+            out.append(b" = ")?;
+            write_held(out, scene, end.held, value)?;
         }
     }
+    Ok(())
 }
 
-/// Appends the lines on the cells of the parameters of a call, which come after the link.
+/// Appends the line on the cell of a parameter at a place of a routine's frame, which begins at `top`.
+fn write_parameter_line(
+    out: &mut Bytes,
+    scene: &Scene,
+    top: u32,
+    routine: u32,
+    place: u32,
+    value: Value,
+) -> Result<(), AllocError>
+    ensures { OnOk result (out.new ≡ out.old ++ parameter_line (scene_in scene.now) top routine place value) }
+{
+    let address = top.saturating_add(place);
+    out.append(b"  ")?;
+    write_parameter(out, scene, address, local_at(scene, routine, place), value)?;
+    out.append(b"\n")?;
+    Ok(())
+}
+
+/// Appends the lines on the cells of the parameters of a call, which come after the link. Its frame begins at `top`.
 pub(crate) fn write_parameters(
     out: &mut Bytes,
     scene: &Scene,
+    top: u32,
     routine: u32,
     args: &Cells,
 ) -> Result<(), AllocError>
     ensures { OnOk result (out.new
-        ≡ out.old ++ parameters_text (scene_in scene.now) routine 1 (drop 1 args.now)) }
+        ≡ out.old ++ parameters_text (scene_in scene.now) top routine 1 (drop 1 args.now)) }
 {
     'places: for place in 1..args.len() {
-        write_parameter_line(out, scene, local_at(scene, routine, place), args.at(place))?;
+        write_parameter_line(out, scene, top, routine, place, args.at(place))?;
     }
     Ok(())
 }
 
 /// Appends what a call showed of a cell.
-fn write_seen(out: &mut Bytes, scene: &Scene, root: Root, seen: Seen) -> Result<(), AllocError>
-    ensures { OnOk result (out.new ≡ out.old ++ seen_text (scene_in scene.now) root seen) }
+fn write_seen(
+    out: &mut Bytes,
+    scene: &Scene,
+    address: u32,
+    root: Option<Root>,
+    seen: Seen,
+) -> Result<(), AllocError>
+    ensures { OnOk result (out.new ≡ out.old ++ seen_text (scene_in scene.now) address root seen) }
 {
     match seen {
         Seen::Held(value) => {
             out.append(b"reads ")?;
-            write_cell_value(out, scene, root, value)?;
-            Ok(())
+            write_cell_value(out, scene, address, root, value)
         }
         Seen::There => {
             out.append(b"finds ")?;
-            write_cell(out, scene, root)?;
-            Ok(())
+            write_name(out, scene, None, address, root)
         }
         Seen::Absent => {
             out.append(b"misses ")?;
-            write_cell(out, scene, root)?;
-            Ok(())
+            write_name(out, scene, None, address, root)
         }
     }
 }
 
-/// Appends the line on what a call showed of a cell, if that has a name.
+/// Appends the line on what a call showed of a cell, if that is no link.
 fn write_seen_line(
     out: &mut Bytes,
     scene: &Scene,
-    root: Option<Root>,
+    address: u32,
     seen: Seen,
 ) -> Result<(), AllocError>
-    ensures { OnOk result (out.new ≡ out.old ++ seen_at_root (scene_in scene.now) root seen) }
+    ensures { OnOk result (out.new ≡ out.old ++ seen_line (scene_in scene.now) (address, seen)) }
 {
-    match root {
-        None => Ok(()),
-        Some(root) => {
-            out.append(b"  ")?;
-            write_seen(out, scene, root, seen)?;
-            out.append(b"\n")?;
-            Ok(())
-        }
+    if is_link(scene, address) {
+        return Ok(());
     }
+    out.append(b"  ")?;
+    write_seen(out, scene, address, root_at(scene, address), seen)?;
+    out.append(b"\n")?;
+    Ok(())
 }
 
 /// Appends the lines on what a call showed of cells.
@@ -204,7 +231,7 @@ pub(crate) fn write_reads(out: &mut Bytes, scene: &Scene, reads: &Reads) -> Resu
 {
     'reads: for i in 0..reads.len() {
         let (address, seen) = reads.at(i);
-        write_seen_line(out, scene, root_at(scene, address), seen)?;
+        write_seen_line(out, scene, address, seen)?;
     }
     Ok(())
 }
@@ -213,44 +240,41 @@ pub(crate) fn write_reads(out: &mut Bytes, scene: &Scene, reads: &Reads) -> Resu
 fn write_change(
     out: &mut Bytes,
     scene: &Scene,
-    root: Root,
+    address: u32,
+    root: Option<Root>,
     change: Change,
 ) -> Result<(), AllocError>
-    ensures { OnOk result (out.new ≡ out.old ++ change_text (scene_in scene.now) root change) }
+    ensures { OnOk result (out.new ≡ out.old ++ change_text (scene_in scene.now) address root change) }
 {
     match change {
         Change::Set(value) => {
             out.append(b"changes ")?;
-            write_cell_value(out, scene, root, value)?;
-            Ok(())
+            write_cell_value(out, scene, address, root, value)
         }
         Change::Gone => {
             out.append(b"changes ")?;
-            write_cell(out, scene, root)?;
-            out.append(b" gone")?;
-            Ok(())
+            write_name(out, scene, None, address, root)?;
+            out.append(b" gone")
         }
     }
 }
 
-/// Appends the line on what a call left a cell with, if that has a name.
+/// Appends the line on what a call left a cell with, if that is no link.
 fn write_change_line(
     out: &mut Bytes,
     scene: &Scene,
-    root: Option<Root>,
+    address: u32,
     change: Change,
 ) -> Result<(), AllocError>
-    ensures { OnOk result (out.new ≡ out.old ++ change_at_root (scene_in scene.now) root change) }
+    ensures { OnOk result (out.new ≡ out.old ++ change_line (scene_in scene.now) (address, change)) }
 {
-    match root {
-        None => Ok(()),
-        Some(root) => {
-            out.append(b"  ")?;
-            write_change(out, scene, root, change)?;
-            out.append(b"\n")?;
-            Ok(())
-        }
+    if is_link(scene, address) {
+        return Ok(());
     }
+    out.append(b"  ")?;
+    write_change(out, scene, address, root_at(scene, address), change)?;
+    out.append(b"\n")?;
+    Ok(())
 }
 
 /// Appends the lines on what a call left cells with.
@@ -263,7 +287,7 @@ pub(crate) fn write_changes(
 {
     'changes: for i in 0..changes.len() {
         let (address, change) = changes.at(i);
-        write_change_line(out, scene, root_at(scene, address), change)?;
+        write_change_line(out, scene, address, change)?;
     }
     Ok(())
 }

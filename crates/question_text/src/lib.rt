@@ -13,7 +13,7 @@ mod traces;
 mod trees;
 mod ways_out;
 
-pub use cards::{Recorded, write_call};
+pub use cards::{Recorded, write_call, write_question};
 pub use states::write_state;
 pub use traces::write_trace;
 pub use trees::write_tree;

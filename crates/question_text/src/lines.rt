@@ -1,7 +1,7 @@
 //! The first line of a card, and its parts.
 
 ghost use Rattle.std.specs.Prelude.{◌++◌, ◌≡◌, OnOk};
-ghost use Rattle.question_text.specs.Lines.{call_line, call_text, in_parent};
+ghost use Rattle.question_text.specs.Lines.{call_line, call_text, in_parent, routine_line};
 
 use call_tree::Call;
 use cell_names::write_number;
@@ -48,5 +48,17 @@ pub(crate) fn write_call_line(
 {
     write_call_text(out, program, number, call)?;
     write_parent(out, call.parent)?;
+    out.append(b"\n")
+}
+
+/// Appends the name of the routine of a call, as a line.
+pub(crate) fn write_routine_line(
+    out: &mut Bytes,
+    program: &Program,
+    call: &Call,
+) -> Result<(), AllocError>
+    ensures { OnOk result (out.new ≡ out.old ++ routine_line program.now call.now) }
+{
+    out.append(program.name(call.routine))?;
     out.append(b"\n")
 }

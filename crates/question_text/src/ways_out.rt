@@ -2,7 +2,7 @@
 
 ghost use Rattle.std.specs.Prelude.{◌++◌, ◌≡◌, OnOk, codes, decimal, length};
 ghost use Rattle.question_text.specs.{Frames.call_of_frame, Lines.inner_line};
-ghost use Rattle.question_text.specs.WaysOut.{fault_text, limit_text, of_call, way_text};
+ghost use Rattle.question_text.specs.WaysOut.{fault_text, holder_text, limit_text, way_text};
 
 use crate::opened::frame_of;
 use call_tree::Calls;
@@ -63,17 +63,29 @@ fn call_of_frame(calls: &Calls, from: Option<u32>, base: u32) -> Option<u32>
     None
 }
 
+/// Appends the call that went on at a label; or, if it is no open call, where its frame begins.
+fn write_holder(out: &mut Bytes, base: u32, holder: Option<u32>) -> Result<(), AllocError>
+    ensures { OnOk result (out.new ≡ out.old ++ holder_text base holder) }
+{
+    match holder {
+        None => {
+            out.append(b" of frame ")?;
+            write_number(out, base)
+        }
+        Some(call) => {
+            out.append(b" of call ")?;
+            write_number(out, call)
+        }
+    }
+}
+
 /// Appends the label to which a call was left, and the call that went on there.
-fn write_jump(out: &mut Bytes, label: u32, holder: Option<u32>) -> Result<(), AllocError>
-    ensures { OnOk result (out.new ≡ out.old ++ codes "jumped to " ++ decimal label ++ of_call holder) }
+fn write_jump(out: &mut Bytes, label: u32, base: u32, holder: Option<u32>) -> Result<(), AllocError>
+    ensures { OnOk result (out.new ≡ out.old ++ codes "jumped to " ++ decimal label ++ holder_text base holder) }
 {
     out.append(b"jumped to ")?;
     write_number(out, label)?;
-    if let Some(call) = holder {
-        out.append(b" of call ")?;
-        write_number(out, call)?;
-    }
-    Ok(())
+    write_holder(out, base, holder)
 }
 
 /// Appends how a call ended that this call made.
@@ -88,7 +100,7 @@ fn write_way_out(
     match way {
         WayOut::Returned => out.append(b"returned")?,
         WayOut::Jumped(label, base) => {
-            write_jump(out, label, call_of_frame(calls, parent, base))?
+            write_jump(out, label, base, call_of_frame(calls, parent, base))?
         }
         WayOut::Faulted(kind, line) => {
             out.append(b"faulted ")?;

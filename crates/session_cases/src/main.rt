@@ -1,10 +1,11 @@
 //! Loads texts and prints what came of each: the text that is saved of the session, or why it is none. Each line of the
 //! input is a text. Then it prints the text of a session of its own, and saves and loads as many entries as a session
-//! may have, and one more.
+//! may have, each with a note and beside as many replies, and one entry more.
 #![tactic(auto)]
 
 use answer_book::{Entry, Judgement, What};
 use anyhow::Result;
+use kept_replies::{Notes, Replies};
 use session_file::{SavedEntries, Session, digest_of, load, save};
 use std::alloc::Global;
 use std::io::{self, Read, Write};
@@ -39,17 +40,46 @@ fn entry(number: u32) -> Entry {
     }
 }
 
-/// A session with this many entries.
-fn session(alloc: Global, count: u32) -> Result<Session> {
+/// This many entries.
+fn entries(alloc: Global, count: u32) -> Result<SavedEntries> {
     let mut entries = SavedEntries::new(alloc);
     for number in 0..count {
         entries.push(entry(number))?;
     }
+    Ok(entries)
+}
+
+/// A note on each of this many entries, up to the last that may have one.
+fn notes(alloc: Global, count: u32) -> Result<Notes> {
+    let mut notes = Notes::new(alloc);
+    for number in 0..count.min(100_000) {
+        notes.set(number as usize + 1, "seen")?;
+    }
+    Ok(notes)
+}
+
+/// This many replies to different questions; of more than 100,000 the last ones are left out.
+fn replies(alloc: Global, count: u32) -> Result<Replies> {
+    let mut replies = Replies::new(alloc);
+    for number in 0..count {
+        replies.set(digest_of(&number.to_le_bytes()), Judgement::Right)?;
+    }
+    Ok(replies)
+}
+
+/// A session with this many entries.
+fn session(alloc: Global, count: u32) -> Result<Session> {
+    let entries = entries(alloc, count)?;
+    let notes = notes(alloc, count)?;
+    let replies = replies(alloc, count)?;
     Ok(Session {
+        version: 2,
         source: digest_of(b""),
         input: digest_of(b"abc"),
         budget: 4_000_000,
         entries,
+        notes,
+        replies,
     })
 }
 

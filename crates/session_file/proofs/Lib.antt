@@ -1,6 +1,12 @@
+pub mod Turns
+pub mod NotesInOrder
+pub mod RepliesInTurn
+pub mod EntriesInOrder
 pub mod NoFloats
 pub mod SavedIsJson
 pub mod SavedIsUtf8
+pub mod NotesRead
+pub mod RepliesRead
 pub mod SavedIsRead
 pub mod EntryLists
 pub mod Loading

@@ -1,7 +1,9 @@
 -- What is saved is UTF-8.
-use Rattle.std.proofs.Common.{◌<◌, ◌^◌, ◌∷◌, ◌≡◌, [], ℕ, All, Bool, IsUtf8, List, arith, codes, decimal, false, ltb-true, map, refl, true}
-use Rattle.std.{specs.Prelude.⊤, proofs.lemmas.Bool.and_parts, proofs.lemmas.Fmt.IsAscii-decimal, proofs.lemmas.List.Elements.All-tail, specs.Str.IsAscii}
+use Rattle.std.proofs.Common.{◌+◌, ◌<◌, ◌^◌, ◌∷◌, ◌≡◌, [], ℕ, All, Bool, IfSome, IsTrue, IsUtf8, List, None, Option, Some, arith, codes, decimal, false}
+use Rattle.std.proofs.Common.{ltb-true, map, refl, true}
+use Rattle.std.proofs.lemmas.{Bool.and_parts, Fmt.IsAscii-decimal, List.Elements.All-cons, List.Elements.All-tail, Map.Entries.All-lookup}
 use Rattle.std.proofs.lemmas.Str.{IsUtf8-append, IsUtf8-from_ascii, Ascii.IsAscii-cons, Ascii.IsAscii-nil}
+use Rattle.std.specs.{Prelude.⊤, BTreeMap.is_at, Map.values_of, Ordering.nat_cmp, Str.IsAscii}
 use Rattle.hex.{proofs.HexLemmas.IsAscii-encode_with, specs.Hex.encode_lower, specs.Hex.lower_digits}
 use Rattle.json.proofs.Printed.Utf8.{IsUtf8-are_ascii, IsUtf8-boolean, IsUtf8-quoted, are_ascii}
 use Rattle.json.specs.Print.{quoted}
@@ -10,8 +12,9 @@ use Rattle.serde_json.specs.View.{items_of}
 use Rattle.serde_json.specs.Written.{comma_if, compact_text, items_text, members_text, number_text}
 use Rattle.answer_book.specs.declared.entries.{Entry.Entry, What.What, What.TheVariants.Judged, What.TheVariants.Trusted}
 use Rattle.answer_book.specs.declared.entries.Judgement.{Judgement, TheVariants.Right, TheVariants.Unknown, TheVariants.Wrong}
+use Rattle.kept_replies.{proofs.NotesAreText.note_utf8, specs.Notes.is_note, specs.Notes.note_on}
 use Rattle.session_file.specs.{Whole.IsWhole, Whole.NumberFits, declared.session.Session.Session}
-use Rattle.session_file.specs.Text.{entry_data, judgement_word, said_data, session_data, session_text}
+use Rattle.session_file.specs.Text.{entries_data, first_data, first_text, judgement_word, reply_data, said_data, session_data, session_text}
 
 -- ---- a value whose numbers, strings and keys are UTF-8 has a text that is
 
@@ -71,20 +74,54 @@ word_utf8 Right = ascii (codes "right") refl
 word_utf8 Wrong = ascii (codes "wrong") refl
 word_utf8 Unknown = ascii (codes "unknown") refl
 
-said_utf8 : (what : What) (standing : Bool) → NumberFits what → HasUtf8 (said_data what standing)
-said_utf8 (Judged call judgement) standing small = (
+-- ---- notes are
+
+abbrev pub AreNoted : List (ℕ × List ℕ) → Type 0
+AreNoted notes = (entry : ℕ) → IfSome (note_on notes entry) (λ note. IsTrue (is_note note))
+
+-- ---- entries and replies
+
+said_utf8 : (what : What) (note : Option (List ℕ)) (standing : Bool) → NumberFits what → IfSome note (λ n. IsTrue (is_note n))
+    → HasUtf8 (said_data what note standing)
+said_utf8 (Judged call judgement) None standing small good = (
   ascii (codes "call") refl,
   (number_utf8 call (omega (arith, small)), (ascii (codes "kind") refl, (word_utf8 judgement, (ascii (codes "standing") refl, (tt, tt))))),
 )
-said_utf8 (Trusted routine) standing small = (
+said_utf8 (Judged call judgement) (Some note) standing small good = (
+  ascii (codes "call") refl,
+  (
+    number_utf8 call (omega (arith, small)),
+    (
+      ascii (codes "kind") refl,
+      (word_utf8 judgement, (ascii (codes "note") refl, (note_utf8 note good, (ascii (codes "standing") refl, (tt, tt))))),
+    ),
+  ),
+)
+said_utf8 (Trusted routine) None standing small good = (
   ascii (codes "kind") refl,
   (ascii (codes "trust") refl, (ascii (codes "routine") refl, (number_utf8 routine (omega (arith, small)), (ascii (codes "standing") refl, (tt, tt))))),
 )
+said_utf8 (Trusted routine) (Some note) standing small good = (
+  ascii (codes "kind") refl,
+  (
+    ascii (codes "trust") refl,
+    (
+      ascii (codes "note") refl,
+      (
+        note_utf8 note good,
+        (ascii (codes "routine") refl, (number_utf8 routine (omega (arith, small)), (ascii (codes "standing") refl, (tt, tt)))),
+      ),
+    ),
+  ),
+)
 
-entries_utf8 : (entries : List Entry) → All (λ entry. NumberFits entry.what) entries → ItemsHaveUtf8 (items_of (map entry_data entries))
-entries_utf8 [] small = tt
-entries_utf8 (entry ∷ entries) small =
-    (said_utf8 entry.what entry.standing (small 0 entry (omega arith)), entries_utf8 entries (All-tail (λ e. NumberFits e.what) entry entries small))
+entries_utf8 : (notes : List (ℕ × List ℕ)) (first : ℕ) (entries : List Entry) → AreNoted notes → All (λ entry. NumberFits entry.what) entries
+    → ItemsHaveUtf8 (items_of (entries_data notes first entries))
+entries_utf8 notes first [] good small = tt
+entries_utf8 notes first (entry ∷ entries) good small = (
+  said_utf8 entry.what (note_on notes first) entry.standing (small 0 entry (omega arith)) (good first),
+  entries_utf8 notes (first + 1) entries good (All-tail (λ e. NumberFits e.what) entry entries small),
+)
 
 ascii_by_test : (text : List ℕ) → are_ascii text ≡ true → IsAscii text
 ascii_by_test [] e = IsAscii-nil
@@ -92,6 +129,28 @@ ascii_by_test (b ∷ bs) e = let p = and_parts _ _ e in IsAscii-cons b bs (ltb-t
 
 digest_utf8 : (bytes : List ℕ) → IsUtf8 (encode_lower bytes)
 digest_utf8 bytes = IsUtf8-from_ascii _ (IsAscii-encode_with lower_digits bytes (ascii_by_test lower_digits refl))
+
+reply_utf8 : (kept : List ℕ × Judgement) → HasUtf8 (reply_data kept)
+reply_utf8 kept = (ascii (codes "question") refl, (digest_utf8 kept.0, (ascii (codes "reply") refl, (word_utf8 kept.1, tt))))
+
+replies_utf8 : (replies : List (List ℕ × Judgement)) → ItemsHaveUtf8 (items_of (map reply_data replies))
+replies_utf8 [] = tt
+replies_utf8 (kept ∷ replies) = (reply_utf8 kept, replies_utf8 replies)
+
+-- ---- a session
+
+-- notes by their entries, each of which is one
+noted_entries : (notes : List (ℕ × List ℕ)) → All (λ note. IsTrue (is_note note)) (values_of notes) → All (λ noted. IsTrue (is_note noted.1)) notes
+noted_entries [] good = λ i d h. absurd (omega (arith, h))
+noted_entries (n ∷ notes) good =
+    All-cons (λ noted. IsTrue (is_note noted.1)) n notes (good 0 n.1 (omega arith))
+    (noted_entries notes (All-tail (λ note. IsTrue (is_note note)) n.1 (values_of notes) good))
+
+no_notes : AreNoted []
+no_notes entry = tt
+
+pub each_noted : (s : Session) → IsWhole s → AreNoted s.notes
+each_noted s w entry = All-lookup (λ note. IsTrue (is_note note)) (is_at (nat_cmp entry)) s.notes (noted_entries s.notes w.noted.each)
 
 session_utf8 : (s : Session) → IsWhole s → HasUtf8 (session_data s)
 session_utf8 s w = (
@@ -101,7 +160,40 @@ session_utf8 s w = (
     (
       ascii (codes "entries") refl,
       (
-        entries_utf8 s.entries w.numbered,
+        entries_utf8 s.notes 1 s.entries (each_noted s w) w.numbered,
+        (
+          ascii (codes "input") refl,
+          (
+            digest_utf8 s.input,
+            (
+              ascii (codes "replies") refl,
+              (
+                replies_utf8 s.replies,
+                (
+                  ascii (codes "source") refl,
+                  (
+                    digest_utf8 s.source,
+                    (ascii (codes "version") refl, (number_utf8 2 (omega arith), tt)),
+                  ),
+                ),
+              ),
+            ),
+          ),
+        ),
+      ),
+    ),
+  ),
+)
+
+first_utf8 : (s : Session) → IsWhole s → HasUtf8 (first_data s)
+first_utf8 s w = (
+  ascii (codes "budget") refl,
+  (
+    number_utf8 s.budget (omega (arith, w.budget)),
+    (
+      ascii (codes "entries") refl,
+      (
+        entries_utf8 [] 1 s.entries no_notes w.numbered,
         (
           ascii (codes "input") refl,
           (
@@ -123,3 +215,7 @@ session_utf8 s w = (
 pub saved_utf8 : (s : Session) → IsWhole s → IsUtf8 (session_text s)
 unfolding session_text
 saved_utf8 s w = value_utf8 (session_data s) (session_utf8 s w)
+
+pub first_text_utf8 : (s : Session) → IsWhole s → IsUtf8 (first_text s)
+unfolding first_text
+first_text_utf8 s w = value_utf8 (first_data s) (first_utf8 s w)

@@ -1,17 +1,19 @@
 -- Which session a text is, or why it is none. The keys that are not named here say nothing.
-use Rattle.std.specs.Prelude.{if◌then◌else◌, ◌&&◌, ◌==◌, ◌^◌, ◌∷◌, [], ℕ, Bool, Err, List, None, Ok, Option, Result}
-use Rattle.std.specs.Prelude.{Some, codes, false, nat_le, nat_lt, option_and_then, option_map, slice_get}
+use Rattle.std.specs.Prelude.{if◌then◌else◌, ◌&&◌, ◌+◌, ◌==◌, ◌^◌, ◌∷◌, [], ℕ, Bool, Err, List, None, Ok, Option}
+use Rattle.std.specs.Prelude.{Result, Some, codes, false, nat_le, nat_lt, option_and_then, option_map, slice_get}
 use Rattle.std.specs.{Result.result_ok, Str.bytes_eq, Str.is_utf8}
 use Rattle.hex.specs.Hex.{decode_sized}
 use Rattle.serde_json.specs.{Data.Data, Data.Items, Data.item, Data.no_items, Events.items_len, Read.read}
 use Rattle.serde_json.specs.Find.{as_array, as_bool, as_number, as_str, as_u64, get}
-use Rattle.answer_book.specs.declared.entries.Entry.{Entry}
+use Rattle.answer_book.specs.declared.entries.{Entry.Entry, Judgement.Judgement}
 use Rattle.answer_book.specs.declared.entries.Judgement.TheVariants.{Right, Unknown, Wrong}
 use Rattle.answer_book.specs.declared.entries.What.{What, TheVariants.Judged, TheVariants.Trusted}
-use Rattle.session_file.specs.Text.{judgement_word, this_version}
-use Rattle.session_file.specs.declared.session.{LoadFault.LoadFault, Session.Session, SessionField.SessionField}
+use Rattle.kept_replies.specs.{Notes.is_note, Notes.with_note, Replies.with_reply}
+use Rattle.session_file.specs.Text.{first_version, judgement_word, this_version}
+use Rattle.session_file.specs.declared.session.{LoadFault.LoadFault, Session.Session}
 use Rattle.session_file.specs.declared.session.LoadFault.TheVariants.{BadShape, BadVersion, NotJson}
-use Rattle.session_file.specs.declared.session.SessionField.TheVariants.{Budget, Entries, Input, Source, Version}
+use Rattle.session_file.specs.declared.session.SessionField.{SessionField, TheVariants.Version}
+use Rattle.session_file.specs.declared.session.SessionField.TheVariants.{Budget, Entries, Input, Replies, Source}
 
 -- ---- what stands under a key
 
@@ -61,9 +63,73 @@ abbrev pub entries_in : Items → Option (List Entry)
 entries_in no_items = Some []
 entries_in (item d ds) = option_and_then (λ entry. option_map (λ entries. entry ∷ entries) (entries_in ds)) (entry_in d)
 
+-- ---- the note on an entry
+
+-- the note that a value is, if it is one: a text of 1 to 100 bytes from 32 to 126
+abbrev pub note_by : Data → Option (List ℕ)
+note_by d = only_if is_note (as_str d)
+
+-- what may be absent, and is no note then
+abbrev pub if_there : Option Data → Option (Option (List ℕ))
+if_there None = Some None
+if_there (Some d) = option_map Some (note_by d)
+
+-- the note that an entry has, if it has one; none at all where what stands there is no note
+abbrev pub note_in : Data → Option (Option (List ℕ))
+note_in d = if_there (get (codes "note") d)
+
+-- the notes, the first of these on an entry before those of the others
+abbrev pub noted : (number : ℕ) → Option (List ℕ) → List (ℕ × List ℕ) → List (ℕ × List ℕ)
+noted number (Some note) notes = (number, note) ∷ notes
+noted number None notes = notes
+
+-- the notes on the entries that these values are, where the first has this number
+abbrev pub notes_in : (number : ℕ) → Items → Option (List (ℕ × List ℕ))
+notes_in number no_items = Some []
+notes_in number (item d ds) =
+    option_and_then (λ note. option_map (noted number note) (notes_in (number + 1) ds)) (note_in d)
+
+-- the notes with one more, if there is one on the entry of this number
+abbrev pub with_next : List (ℕ × List ℕ) → (number : ℕ) → Option (List ℕ) → List (ℕ × List ℕ)
+with_next notes number (Some note) = with_note notes number note
+with_next notes number None = notes
+
+-- ---- a reply
+
+-- the judgement of a word
+abbrev pub judgement_of : List ℕ → Option Judgement
+judgement_of word =
+    if bytes_eq word (judgement_word Right) then Some Right
+    else if bytes_eq word (judgement_word Wrong) then Some Wrong
+    else if bytes_eq word (judgement_word Unknown) then Some Unknown
+    else None
+
+-- the reply that a value is, with the digest of its question
+abbrev pub reply_in : Data → Option (List ℕ × Judgement)
+reply_in d =
+    option_and_then (λ digest. option_map (λ reply. (digest, reply))
+    (option_and_then judgement_of (text_under (codes "reply") d)))
+    (digest_at (codes "question") d)
+
+-- the replies with one more set
+abbrev pub with_kept : List (List ℕ × Judgement) → List ℕ × Judgement → List (List ℕ × Judgement)
+with_kept replies kept = with_reply replies kept.0 kept.1
+
+-- these replies with those that the values are, if each is one, set in order
+abbrev pub replies_in : List (List ℕ × Judgement) → Items → Option (List (List ℕ × Judgement))
+replies_in replies no_items = Some replies
+replies_in replies (item d ds) =
+    option_and_then (λ kept. replies_in (with_kept replies kept) ds) (reply_in d)
+
+-- ---- lists of values
+
 -- 1 to 100,000 values
 abbrev pub has_allowed_length : Items → Bool
 has_allowed_length ds = nat_le 1 (items_len ds) && nat_le (items_len ds) 100000
+
+-- at most 100,000 values
+abbrev pub is_short : Items → Bool
+is_short ds = nat_le (items_len ds) 100000
 
 -- the first entry says that call 0 is wrong
 abbrev pub says_wrong : What → Bool
@@ -94,26 +160,62 @@ values_at d = only_if has_allowed_length (option_and_then as_array (get (codes "
 abbrev pub entries_at : Data → Option (List Entry)
 entries_at d = only_if begins_wrong (option_and_then entries_in (values_at d))
 
+-- the notes on them; version 1 has none
+abbrev pub notes_at : (version : ℕ) → Data → Option (List (ℕ × List ℕ))
+notes_at version d =
+    if version == first_version then Some [] else option_and_then (notes_in 1) (values_at d)
+
+-- the values under "replies", if there are at most 100,000
+abbrev pub reply_values_at : Data → Option Items
+reply_values_at d = only_if is_short (option_and_then as_array (get (codes "replies") d))
+
+-- the replies that they are, set in order; version 1 has none
+abbrev pub replies_at : (version : ℕ) → Data → Option (List (List ℕ × Judgement))
+replies_at version d =
+    if version == first_version then Some [] else option_and_then (replies_in []) (reply_values_at d)
+
 -- goes on with what stands in a field, or refuses the field
 abbrev pub with_field : {A : Type 0} → SessionField → Option A → (A → Result Session LoadFault)
     → Result Session LoadFault
 with_field field (Some a) rest = rest a
 with_field field None rest = Err (BadShape field)
 
+-- the session with the replies of its version
+abbrev pub with_replies : Data → Session → Result Session LoadFault
+with_replies d s =
+    with_field Replies (replies_at s.version d) (λ replies. Ok (record s { replies = replies }))
+
+-- the session with the notes and the replies of its version
+abbrev pub with_notes : Data → Session → Result Session LoadFault
+with_notes d s =
+    with_field Entries (notes_at s.version d) (λ notes. with_replies d (record s { notes = notes }))
+
 -- the fields after the version, in the order in which they are looked at
-abbrev pub fields_read : Data → Result Session LoadFault
-fields_read d =
+abbrev pub fields_read : (version : ℕ) → Data → Result Session LoadFault
+fields_read version d =
     with_field Source (digest_at (codes "source") d) (λ source.
     with_field Input (digest_at (codes "input") d) (λ input.
     with_field Budget (budget_at d) (λ budget.
     with_field Entries (entries_at d) (λ entries.
-    Ok (record { source = source; input = input; budget = budget; entries = entries })))))
+    with_notes d (record {
+      version = version;
+      source = source;
+      input = input;
+      budget = budget;
+      entries = entries;
+      notes = [];
+      replies = [];
+    })))))
+
+-- a version that is read
+abbrev pub is_version : ℕ → Bool
+is_version n = nat_le first_version n && nat_le n this_version
 
 -- the session that a value is: the version is looked at first
 abbrev pub session_in : Data → Result Session LoadFault
 session_in d =
     with_field Version (whole_under (codes "version") d) (λ version.
-    if version == this_version then fields_read d else Err (BadVersion version))
+    if is_version version then fields_read version d else Err (BadVersion version))
 
 -- the value that the bytes are, if they are JSON in UTF-8 that nests no deeper than 127
 abbrev pub json_of : List ℕ → Option Data

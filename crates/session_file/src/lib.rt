@@ -1,29 +1,35 @@
-//! A saved session as text: what was said of the calls of one run, and which run it was. Version 1 is one JSON object
+//! A saved session as text: what was said of the calls of one run, and which run it was. Version 2 is one JSON object
 //! with no white space between its parts and with the keys of each object in rising order:
 //!
-//!     {"budget":1000,"entries":[E,E,E],"input":"ba78..","source":"e3b0..","version":1}
+//!     {"budget":1000,"entries":[E,E,E],"input":"ba78..","replies":[R,R],"source":"e3b0..","version":2}
 //!
 //! Each E is an entry of the book, the oldest first. It judges a call as `right`, `wrong` or `unknown`, or trusts a
-//! routine, and it stands until it is taken back:
+//! routine, it may have a note, and it stands until it is taken back:
 //!
-//!     {"call":12,"kind":"wrong","standing":true}
+//!     {"call":12,"kind":"wrong","note":"adds one too many","standing":true}
 //!     {"kind":"trust","routine":3,"standing":false}
 //!
 //! `source` and `input` are the SHA-256 digests of the run's source and input as 64 hexadecimal digits, and `budget` is
-//! the most steps that the run could take. Other texts of the same value are read too. A text that is no session is
-//! refused by its first field that is not as it should be.
+//! the most steps that the run could take. Each R is the reply to a question, by the digest of its text:
+//!
+//!     {"question":"85e2..","reply":"right"}
+//!
+//! Version 1, which has no notes and no replies, is read as well. Other texts of the same value are read too. A text
+//! that is no session is refused by its first field that is not as it should be.
 #![tactic(auto)]
 
 mod digests;
 mod entries;
 mod laws;
+mod noted;
 mod reading;
+mod replied;
 mod session;
 mod writing;
 
 pub use digests::digest_of;
 pub use entries::SavedEntries;
-pub use laws::what_is_saved_is_loaded;
+pub use laws::{version_1_is_loaded, what_is_saved_is_loaded};
 pub use reading::load;
 pub use session::{LoadFault, Session, SessionField};
-pub use writing::save;
+pub use writing::{judgement_word, save};

@@ -1,22 +1,29 @@
 //! From a text to the session that it is.
-ghost use Rattle.std.specs.Prelude.{◌≡◌, ◌≤◌, ◌⊎◌, Err, IfOk, IfSome, codes, length, option_and_then, option_map};
-ghost use Rattle.std.specs.{Option.ok_or, Str.bytes_eq};
+ghost use Rattle.std.specs.Prelude.{◌<◌, ◌≡◌, ◌≤◌, ◌⊎◌, Err, IfOk, IfSome, Some, codes, length, option_and_then};
+ghost use Rattle.std.specs.{Prelude.option_map, Prelude.slice_get, Option.ok_or, Str.bytes_eq};
 ghost use Rattle.serde_json.specs.{Find.as_bool, Find.get, View.items_view, View.view};
 ghost use Rattle.answer_book.specs.declared.entries.What.TheVariants as what;
-ghost use Rattle.session_file.specs.{Reading.values_at, Reading.word_under, Whole.IsWhole};
 ghost use Rattle.session_file.specs.Reading.{begins_wrong, budget_at, digest_at, entries_at, entries_in, entry_in};
 ghost use Rattle.session_file.specs.Reading.{fields_read, said_as, says_wrong, session_in, session_of, text_under};
+ghost use Rattle.session_file.specs.Reading.{values_at, with_notes, with_replies, word_under};
+ghost use Rattle.session_file.specs.Whole.{IsWhole};
 
 use crate::entries::SavedEntries;
+use crate::noted::notes_from;
+use crate::replied::replies_from;
 use crate::session::{LoadFault, Session, SessionField};
 use crate::writing::VERSION;
 use answer_book::{Entry, Judgement, What};
 use hex::FromHex;
+use kept_replies::{Notes, Replies};
 use serde_json::Value;
 use std::alloc::Global;
 
 /// The most entries of a session.
 const MOST_ENTRIES: usize = 100_000;
+
+/// The version before the one that is written.
+pub(crate) const FIRST_VERSION: u64 = 1;
 
 /// The most steps of a run.
 const MOST_STEPS: u64 = 4_000_000;
@@ -53,8 +60,8 @@ fn session_from(alloc: Global, value: &Value) -> Result<Session, LoadFault>
 {
     match value.get("version").and_then(Value::as_u64) {
         Some(version) => {
-            if version == VERSION {
-                fields_from(alloc, value)
+            if FIRST_VERSION <= version && version <= VERSION {
+                fields_from(alloc, value, version as u32)
             } else {
                 Err(LoadFault::BadVersion(version))
             }
@@ -63,9 +70,9 @@ fn session_from(alloc: Global, value: &Value) -> Result<Session, LoadFault>
     }
 }
 
-/// The session that the fields after the version are.
-fn fields_from(alloc: Global, value: &Value) -> Result<Session, LoadFault>
-    ensures { (result ≡ Err LoadFault.Memory) ⊎ (result ≡ fields_read (view value.now)) }
+/// The session of this version that the fields after the version are.
+fn fields_from(alloc: Global, value: &Value, version: u32) -> Result<Session, LoadFault>
+    ensures { (result ≡ Err LoadFault.Memory) ⊎ (result ≡ fields_read version (view value.now)) }
 {
     let Some(source) = digest_from(value, "source") else {
         return Err(LoadFault::BadShape(SessionField::Source));
@@ -77,18 +84,45 @@ fn fields_from(alloc: Global, value: &Value) -> Result<Session, LoadFault>
         return Err(LoadFault::BadShape(SessionField::Budget));
     };
     match entries_from(alloc, value) {
-        Ok(entries) => Ok(Session {
-            source,
-            input,
-            budget,
-            entries,
-        }),
+        Ok(entries) => with_notes(
+            alloc,
+            value,
+            Session {
+                version,
+                source,
+                input,
+                budget,
+                entries,
+                notes: Notes::new(alloc),
+                replies: Replies::new(alloc),
+            },
+        ),
+        Err(fault) => Err(fault),
+    }
+}
+
+/// The session with the notes and the replies of its version.
+fn with_notes(alloc: Global, value: &Value, session: Session) -> Result<Session, LoadFault>
+    ensures { (result ≡ Err LoadFault.Memory) ⊎ (result ≡ with_notes (view value.now) session) }
+{
+    match notes_from(alloc, value, session.version) {
+        Ok(notes) => with_replies(alloc, value, Session { notes, ..session }),
+        Err(fault) => Err(fault),
+    }
+}
+
+/// The session with the replies of its version.
+fn with_replies(alloc: Global, value: &Value, session: Session) -> Result<Session, LoadFault>
+    ensures { (result ≡ Err LoadFault.Memory) ⊎ (result ≡ with_replies (view value.now) session) }
+{
+    match replies_from(alloc, value, session.version) {
+        Ok(replies) => Ok(Session { replies, ..session }),
         Err(fault) => Err(fault),
     }
 }
 
 /// The 32 bytes of the hexadecimal digits under a key.
-fn digest_from(value: &Value, key: &str) -> Option<[u8; 32]>
+pub(crate) fn digest_from(value: &Value, key: &str) -> Option<[u8; 32]>
     ensures { result ≡ digest_at key.now (view value.now) }
 {
     match value.get(key).and_then(Value::as_str) {
@@ -224,9 +258,17 @@ fn is_first_wrong(entries: &SavedEntries) -> bool
     }
 }
 
+/// The value at a place, counted from 0.
+pub(crate) fn value_at(values: &[Value], place: usize) -> &Value
+    requires { place < length values.now }
+    ensures { slice_get values.now place ≡ Some result.now }
+{
+    &values[place]
+}
+
 /// The values that are to be entries, of which there are 1 to 100,000.
 #[tactic(auto, using(crate::proofs::EntryLists::the_values))]
-fn values_from(value: &Value) -> Option<&Vec<Value>>
+pub(crate) fn values_from(value: &Value) -> Option<&Vec<Value>>
     ensures values { option_map (λ values. items_view values.now.items) result ≡ values_at (view value.now) }
     ensures few { IfSome result (λ values. length values.now.items ≤ 100000) }
 {

@@ -1,11 +1,14 @@
 //! What a session is, and why a text is none.
 
 use crate::entries::SavedEntries;
+use kept_replies::{Notes, Replies};
 use thiserror::Error;
 
 /// What was said of the calls of one run, and which run it was.
 #[derive(Debug, Drop)]
 pub struct Session {
+    /// The version of the text that it was loaded from: 1 or 2. It is saved as version 2, whatever stands here.
+    pub version: u32,
     /// SHA-256 of the source's bytes.
     pub source: [u8; 32],
     /// SHA-256 of the input's bytes.
@@ -14,6 +17,11 @@ pub struct Session {
     pub budget: u32,
     /// The entries of the book, first to last: the first of 1 to 100,000 says that call 0 is wrong.
     pub entries: SavedEntries,
+    /// The notes on them. Version 1 has none.
+    pub notes: Notes,
+    /// The replies to questions, by which the judgements are known again in the run of another source. Version 1 has
+    /// none.
+    pub replies: Replies,
 }
 
 /// A field of a session's text, in the order in which they are looked at.
@@ -28,8 +36,10 @@ pub enum SessionField {
     /// `budget`: a whole number from 1 to 4,000,000.
     Budget,
     /// `entries`: 1 to 100,000 of them, with numbers of calls and routines below 2^32. The first one judges call 0 as
-    /// wrong.
+    /// wrong. In version 2 an entry may have a note: 1 to 100 bytes from 32 to 126.
     Entries,
+    /// `replies`, of version 2: at most 100,000, each a question by 64 hexadecimal digits, and a judgement.
+    Replies,
 }
 
 /// Why bytes are no session.
@@ -42,7 +52,7 @@ pub enum LoadFault {
     /// absent.
     #[error("the field {0:?} is not as it should be")]
     BadShape(SessionField),
-    /// The version is this whole number, and not 1.
+    /// The version is this whole number, and neither 1 nor 2.
     #[error("the version is {0}")]
     BadVersion(u64),
     /// There was no memory for it.

@@ -6,11 +6,12 @@ ghost use Rattle.dialog_replies.specs.{Fit.misfit, Start.IsWholeStart};
 use answer_book::{Entry, Judgement, What};
 use ask_session::{Ending, converse};
 use dialog_replies::{
-    Debugged, DialogCommand, Instruction, Start, answer, begin, instruction_in, open, refusal,
-    resume, session_text_of, state_now,
+    Debugged, DialogCommand, Instruction, Start, answer, instruction_in, open, refusal, resume,
+    session_text_of, state_now,
 };
 use edge_ports::{Keeper, Memory, Page, Shelf, Tape};
-use optimal_query::{Debug, SearchState};
+use kept_replies::{Notes, Replies};
+use optimal_query::SearchState;
 use session_file::{SavedEntries, Session, load};
 use std::alloc::Global;
 use std::test::Fail;
@@ -42,29 +43,63 @@ fn command_in(line: &[u8]) -> DialogCommand<'_> {
     }
 }
 
-/// Whether a new session begins so, and `wrong 2` is replied so.
-fn begun_holds<D: Debugged>(alloc: Global, run: &D) -> Result<bool, Memory> {
-    let mut debug = begin(alloc, run)?;
-    let opening = open(alloc, run, &debug)?;
-    let found = answer(alloc, run, &mut debug, command_in(b"wrong 2"))?;
+/// What a dialog starts with that goes on with no session.
+fn begun_anew(start: &Start) -> Start
+    requires whole { IsWholeStart start.now }
+    ensures whole { IsWholeStart result }
+{
+    Start {
+        source: start.source,
+        input: start.input,
+        budget: start.budget,
+        saved: None,
+    }
+}
+
+/// Whether a new session opens so, and `wrong 2` is replied so.
+fn opening_holds<D: Debugged>(alloc: Global, run: &D, start: &Start) -> Result<bool, Memory>
+    requires whole { IsWholeStart start.now }
+    requires fits { misfit (D.subject run.now) start.now ≡ None }
+{
+    let mut dialog = resume(alloc, run, start)?;
+    let opening = open(alloc, run, start, &mut dialog)?;
+    let found = answer(alloc, run, &mut dialog, command_in(b"wrong 2"))?;
     Ok(opening.as_slice() == OPENING.as_bytes() && found.as_slice() == FOUND.as_bytes())
 }
 
-/// The session of a run with these digests and this budget: call 0 is wrong, and call 1 is right; that routine 1 can be
-/// trusted was taken back.
+/// The same, where it fits as each new one does.
+fn begun_holds<D: Debugged>(alloc: Global, run: &D, start: &Start) -> Result<bool, Memory>
+    requires whole { IsWholeStart start.now }
+{
+    match refusal(alloc, run, start)? {
+        Some(_) => Ok(false),
+        None => opening_holds(alloc, run, start),
+    }
+}
+
+/// The session of a run with these digests and this budget: call 0 is wrong, and call 1 is right, with a note; that
+/// routine 1 can be trusted was taken back. The question about call 2 was replied before.
 const SAVED: &str =
     "{\"budget\":1000,\"entries\":[{\"call\":0,\"kind\":\"wrong\",\"standing\":true},\
-    {\"kind\":\"trust\",\"routine\":1,\"standing\":false},{\"call\":1,\"kind\":\"right\",\"standing\":true}],\
-    \"input\":\"1111111111111111111111111111111111111111111111111111111111111111\",\
-    \"source\":\"abababababababababababababababababababababababababababababababab\",\"version\":1}";
+    {\"kind\":\"trust\",\"routine\":1,\"standing\":false},\
+    {\"call\":1,\"kind\":\"right\",\"note\":\"by two\",\"standing\":true}],\
+    \"input\":\"1111111111111111111111111111111111111111111111111111111111111111\",\"replies\":[\
+    {\"question\":\"17cb81a82edf2daa5f8e5ae7a1ae4eeffecd790847cf27449f7c280c411fac22\",\"reply\":\"wrong\"},\
+    {\"question\":\"47f5e42d8b66da9dc1d83c785a6c75275f5256d7c81dc8b21cb2b9cc0dc14d35\",\"reply\":\"right\"},\
+    {\"question\":\"d96e4ccb0eb4de6648aa46182cf74ae0a34deff1722601980d20beb082c80ddc\",\"reply\":\"wrong\"}],\
+    \"source\":\"abababababababababababababababababababababababababababababababab\",\"version\":2}";
 
 /// The same with one more entry: call 2 is wrong.
 const SAVED_AGAIN: &str =
     "{\"budget\":1000,\"entries\":[{\"call\":0,\"kind\":\"wrong\",\"standing\":true},\
-    {\"kind\":\"trust\",\"routine\":1,\"standing\":false},{\"call\":1,\"kind\":\"right\",\"standing\":true},\
-    {\"call\":2,\"kind\":\"wrong\",\"standing\":true}],\
-    \"input\":\"1111111111111111111111111111111111111111111111111111111111111111\",\
-    \"source\":\"abababababababababababababababababababababababababababababababab\",\"version\":1}";
+    {\"kind\":\"trust\",\"routine\":1,\"standing\":false},\
+    {\"call\":1,\"kind\":\"right\",\"note\":\"by two\",\"standing\":true},\
+    {\"call\":2,\"kind\":\"wrong\",\"note\":\"as before\",\"standing\":true}],\
+    \"input\":\"1111111111111111111111111111111111111111111111111111111111111111\",\"replies\":[\
+    {\"question\":\"17cb81a82edf2daa5f8e5ae7a1ae4eeffecd790847cf27449f7c280c411fac22\",\"reply\":\"wrong\"},\
+    {\"question\":\"47f5e42d8b66da9dc1d83c785a6c75275f5256d7c81dc8b21cb2b9cc0dc14d35\",\"reply\":\"right\"},\
+    {\"question\":\"d96e4ccb0eb4de6648aa46182cf74ae0a34deff1722601980d20beb082c80ddc\",\"reply\":\"wrong\"}],\
+    \"source\":\"abababababababababababababababababababababababababababababababab\",\"version\":2}";
 
 /// What a dialog starts with that goes on with a session of its own run.
 fn start_with(session: Session) -> Start
@@ -93,10 +128,10 @@ fn resumed_holds<D: Debugged>(alloc: Global, run: &D, start: &Start) -> Result<b
     requires whole { IsWholeStart start.now }
     requires fits { misfit (D.subject run.now) start.now ≡ None }
 {
-    let mut debug = resume(alloc, run, start)?;
-    let saved = session_text_of(alloc, start, &debug)?;
-    let asked = state_now(run, &debug) == ASKED;
-    let tree = answer(alloc, run, &mut debug, command_in(b"tree"))?;
+    let mut dialog = resume(alloc, run, start)?;
+    let saved = session_text_of(alloc, run, start, &mut dialog)?;
+    let asked = state_now(run, &dialog.debug) == ASKED;
+    let tree = answer(alloc, run, &mut dialog, command_in(b"tree"))?;
     Ok(asked && saved.as_slice() == SAVED.as_bytes() && tree.as_slice() == TREE.as_bytes())
 }
 
@@ -124,7 +159,7 @@ fn entries_of(alloc: Global) -> Result<SavedEntries, Memory> {
     Ok(entries)
 }
 
-/// Whether a session of a run with another budget is refused.
+/// Whether a session of version 1 of a run with another budget is refused.
 fn other_holds<D: Debugged>(alloc: Global, run: &D) -> Result<bool, Memory> {
     let entries = entries_of(alloc)?;
     let start = Start {
@@ -132,10 +167,13 @@ fn other_holds<D: Debugged>(alloc: Global, run: &D) -> Result<bool, Memory> {
         input: [2; 32],
         budget: 4_000_000,
         saved: Some(Session {
+            version: 1,
             source: [1; 32],
             input: [2; 32],
             budget: 999,
             entries,
+            notes: Notes::new(alloc),
+            replies: Replies::new(alloc),
         }),
     };
     let refused = refusal(alloc, run, &start)?;
@@ -147,7 +185,7 @@ fn other_holds<D: Debugged>(alloc: Global, run: &D) -> Result<bool, Memory> {
     Ok(holds)
 }
 
-const LINES: &[u8] = b"wrong\nsave s\ntree\n";
+const LINES: &[u8] = b"same\nnote 4 as before\nsave s\ntree\n";
 
 const SCREEN: &str = "call 0 four
   looks \"3\\n\"
@@ -160,10 +198,12 @@ call 2 twice in call 0
   reads x = 5
   changes x = 7
   returned
+  kept wrong
 entry 4
 found call 2 twice
   line 5
   returned
+noted 4
 saved s
 0 four #0 wrong
 1 in 0 twice #1 right
@@ -196,7 +236,7 @@ fn session_holds<D: Debugged>(alloc: Global, run: &D, start: &Start) -> Result<b
 pub fn sessions_held<D: Debugged>(alloc: Global, run: &D) -> Result<[bool; 4], Fail> {
     let session = load(alloc, SAVED.as_bytes())?;
     let start = start_with(session);
-    let begun = begun_holds(alloc, run)?;
+    let begun = begun_holds(alloc, run, &begun_anew(&start))?;
     let gone_on = fitting_holds(alloc, run, &start)?;
     let other = other_holds(alloc, run)?;
     let console = session_holds(alloc, run, &start)?;

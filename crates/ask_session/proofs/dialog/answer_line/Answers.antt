@@ -1,5 +1,5 @@
 use Rattle.std.proofs.Common.{refl, true}
-use Rattle.dialog_replies.specs.declared.instructions.Instruction.{Instruction}
+use Rattle.dialog_replies.specs.{Kept.said_in_dialog, declared.instructions.Instruction.Instruction}
 use Rattle.ask_session.proofs.LineIsAnswered.{Asks, breaks_off, ends_by, replies_so, saves_so}
 use Rattle.ask_session.proofs.dialog.answer_line.Goals as goal
 use Rattle.ask_session.specs.Turned.{DialogMoment}
@@ -12,26 +12,26 @@ pub returns-in-Save-clause-answers : goal.returns-in-Save-clause-answers
 returns-in-Save-clause-answers g c =
     let files = g.K.Keeper.files in
     let counts = g.K.Keeper.counts in
-    let entries = c.args.debug.now.book.entries in
-    let old : DialogMoment = record { entries = entries; files = files c.args.keeper.now; counts = counts c.args.keeper.now } in
-    let new : DialogMoment = record { entries = entries; files = files c.save.new.keeper; counts = counts c.save.new.keeper } in
+    let said = said_in_dialog c.args.dialog.now in
+    let old : DialogMoment = record { said = said; files = files c.args.keeper.now; counts = counts c.args.keeper.now } in
+    let new : DialogMoment = record { said = said_in_dialog c.save.new.dialog; files = files c.save.new.keeper; counts = counts c.save.new.keeper } in
     saves_so (g.D.Debugged.subject c.args.run.now) c.args.start.now (record { line = c.args.line.now; moment = old }) new c.save.result c.in-Save.file
-    (record { short = c.requires.short; is = c.in-Save.ensures }) (record { goes = c.save.ensures.goes; entries = refl })
+    (record { short = c.requires.short; is = c.in-Save.ensures }) (record { goes = c.save.ensures.goes; said = c.save.ensures.said })
 
 pub returns-in-Ok-clause-answers : goal.returns-in-Ok-clause-answers
 returns-in-Ok-clause-answers g c =
     let files = g.K.Keeper.files in
     let counts = g.K.Keeper.counts in
     let line : Asks c.args.line.now (Instruction.Command c.in-Command.command) = record { short = c.requires.short; is = c.in-Command.ensures } in
-    let old : DialogMoment = record { entries = c.args.debug.now.book.entries; files = files c.args.keeper.now; counts = counts c.args.keeper.now } in
-    replies_so (g.D.Debugged.subject c.args.run.now) c.args.start.now (record { line = c.args.line.now; moment = old }) c.answer.new.debug.book.entries
+    let old : DialogMoment = record { said = said_in_dialog c.args.dialog.now; files = files c.args.keeper.now; counts = counts c.args.keeper.now } in
+    replies_so (g.D.Debugged.subject c.args.run.now) c.args.start.now (record { line = c.args.line.now; moment = old }) (said_in_dialog c.answer.new.dialog)
     c.in-Ok.reply c.in-Command.command line c.in-Ok.ensures.outcome
 
 pub returns-in-Err-clause-answers : goal.returns-in-Err-clause-answers
 returns-in-Err-clause-answers g c =
     let old : DialogMoment = record {
-      entries = c.args.debug.now.book.entries;
+      said = said_in_dialog c.args.dialog.now;
       files = g.K.Keeper.files c.args.keeper.now;
       counts = g.K.Keeper.counts c.args.keeper.now;
     } in
-    breaks_off (g.D.Debugged.subject c.args.run.now) c.args.start.now (record { line = c.args.line.now; moment = old }) c.answer.new.debug.book.entries
+    breaks_off (g.D.Debugged.subject c.args.run.now) c.args.start.now (record { line = c.args.line.now; moment = old }) (said_in_dialog c.answer.new.dialog)

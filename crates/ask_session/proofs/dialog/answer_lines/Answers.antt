@@ -1,5 +1,6 @@
 use Rattle.std.proofs.Common.{◌∙◌, ◌≡◌, [], ap, append-nil, false, refl, sym}
 use Rattle.edge_ports.{proofs.PiecesAddUp.moves_more, proofs.PiecesAddUp.took_nothing, specs.Lines.handed_lines}
+use Rattle.dialog_replies.specs.Kept.{said_in_dialog}
 use Rattle.ask_session.proofs.DialogEnds.{answered_more, first_stage, heard_of, none_answered, stage, talk_ends, talked_of}
 use Rattle.ask_session.proofs.dialog.answer_lines.Goals as goal
 use Rattle.ask_session.specs.{Outside.Outside, Turned.DialogStage}
@@ -16,11 +17,11 @@ lines-init g c =
     let none : handed_lines lines ≡ [] = ap handed_lines c.requires.fresh in
     let not_ended : lines.ended ≡ false = ap (λ l. l.ended) c.requires.fresh in
     record {
-      answered = none_answered (g.D.Debugged.subject c.args.run.now) c.args.start.now outside c.args.debug.now.book.entries lines c.requires.first none;
+      answered = none_answered (g.D.Debugged.subject c.args.run.now) c.args.start.now outside (said_in_dialog c.args.dialog.now) lines c.requires.first none;
       moved = record { more = []; grown = sym (append-nil lines.taken); took = took_nothing left };
       at_end = λ ended. absurd (let x : ⊥ = cc in x);
       console_faults = refl;
-      search = c.requires.search;
+      dialog = c.requires.dialog;
       screen_faults = refl;
       loan = refl;
     }
@@ -48,14 +49,14 @@ lines-preserved g c =
       streams = record { left = left c.turn.new.console; given = given c.turn.new.screen };
     } in
     let first : DialogStage = first_stage s c.args.start.now before c.args.lines.now in
-    let old : DialogStage = stage c.lines.debug.book.entries between c.lines.lines in
-    let new : DialogStage = stage c.turn.new.debug.book.entries after c.turn.new.lines in
+    let old : DialogStage = stage (said_in_dialog c.lines.dialog) between c.lines.lines in
+    let new : DialogStage = stage (said_in_dialog c.turn.new.dialog) after c.turn.new.lines in
     record {
       answered = answered_more s c.args.start.now first old new tt c.lines.invariant.answered c.in-Ok.ensures.turned;
       moved = moves_more c.lines.invariant.moved c.turn.ensures.moved;
       at_end = c.turn.ensures.at_end c.lines.invariant.at_end;
       console_faults = c.in-Ok.ensures.console_faults ∙ c.lines.invariant.console_faults;
-      search = c.turn.ensures.search;
+      dialog = c.turn.ensures.dialog;
       screen_faults = c.in-Ok.ensures.screen_faults ∙ c.lines.invariant.screen_faults;
       loan = c.turn.ensures.loan ∙ c.lines.invariant.loan;
     }
@@ -83,8 +84,8 @@ returns-in-Err-clause-goes g c =
       streams = record { left = left c.turn.new.console; given = given c.turn.new.screen };
     } in
     let first : DialogStage = first_stage s c.args.start.now before c.args.lines.now in
-    let old : DialogStage = stage c.lines.debug.book.entries between c.lines.lines in
-    let new : DialogStage = stage c.turn.new.debug.book.entries after c.turn.new.lines in
+    let old : DialogStage = stage (said_in_dialog c.lines.dialog) between c.lines.lines in
+    let new : DialogStage = stage (said_in_dialog c.turn.new.dialog) after c.turn.new.lines in
     let ends = talk_ends s c.args.start.now first old new c.lines.invariant.answered c.turn.ensures.consistent c.in-Err.ending c.in-Err.ensures.turned in
     let moved = moves_more c.lines.invariant.moved c.turn.ensures.moved in
     talked_of s c.args.start.now before after ends

@@ -1,6 +1,6 @@
 use Rattle.std.{proofs.Common.◌-◌, proofs.Common.◌≡◌, proofs.Common.IsTrue, specs.Io.KnownBytes.IsAtEnd}
 use Rattle.edge_ports.specs.{Limits.console_bytes, Lines.Moves}
-use Rattle.dialog_replies.specs.Kept.{IsSearchOf}
+use Rattle.dialog_replies.specs.Kept.{IsDialogOf, said_in_dialog}
 use Rattle.ask_session.proofs.DialogEnds.{first_stage, stage}
 use Rattle.ask_session.proofs.dialog.answer_lines.Given as goal
 use Rattle.ask_session.specs.Turned.{Answered}
@@ -18,7 +18,7 @@ invariant-lines g l =
             counts = counts l.fn.keeper;
             streams = record { left = left l.fn.console; given = given l.fn.screen };
           }) l.fn.lines)
-          (stage l.debug.book.entries (record {
+          (stage (said_in_dialog l.dialog) (record {
             files = files l.keeper;
             counts = counts l.keeper;
             streams = record { left = left l.console; given = given l.screen };
@@ -26,7 +26,7 @@ invariant-lines g l =
       moved : Moves l.fn.lines.taken l.lines.taken (left l.fn.console) (left l.console);
       at_end : IsTrue l.lines.ended → IsAtEnd (left l.console);
       console_faults : g.I.Source.faults l.console ≡ g.I.Source.faults l.fn.console;
-      search : IsSearchOf (g.D.Debugged.subject l.run) l.debug;
+      dialog : IsDialogOf (g.D.Debugged.subject l.run) l.dialog;
       screen_faults : g.O.Sink.faults l.screen ≡ g.O.Sink.faults l.fn.screen;
       loan : g.O.Sink.loan l.screen ≡ g.O.Sink.loan l.fn.screen;
     }

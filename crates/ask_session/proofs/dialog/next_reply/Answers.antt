@@ -1,6 +1,7 @@
 use Rattle.std.proofs.Common.{ℕ, List, Ok, subst}
 use Rattle.edge_ports.specs.{Lines.handed_lines, Turns.HandedBy}
 use Rattle.edge_ports.specs.declared.lines.Turn.{Turn, TheVariants.Line, TheVariants.TooLong}
+use Rattle.dialog_replies.specs.Kept.{said_in_dialog}
 use Rattle.ask_session.proofs.LineIsAnswered.{next_of}
 use Rattle.ask_session.proofs.dialog.next_reply.Goals as goal
 use Rattle.ask_session.specs.Turned.{AnswersLine, DialogMoment}
@@ -10,9 +11,9 @@ returns-in-Ok-Line-clause-reply g c =
     let s = g.D.Debugged.subject c.args.run.now in
     let files = g.K.Keeper.files in
     let counts = g.K.Keeper.counts in
-    let old : DialogMoment = record { entries = c.args.debug.now.book.entries; files = files c.args.keeper.now; counts = counts c.args.keeper.now } in
+    let old : DialogMoment = record { said = said_in_dialog c.args.dialog.now; files = files c.args.keeper.now; counts = counts c.args.keeper.now } in
     let new : DialogMoment = record {
-      entries = c.answer_line.new.debug.book.entries;
+      said = said_in_dialog c.answer_line.new.dialog;
       files = files c.answer_line.new.keeper;
       counts = counts c.answer_line.new.keeper;
     } in
@@ -29,7 +30,7 @@ pub returns-in-Ok-TooLong-clause-reply : goal.returns-in-Ok-TooLong-clause-reply
 returns-in-Ok-TooLong-clause-reply g c =
     let s = g.D.Debugged.subject c.args.run.now in
     let old : DialogMoment = record {
-      entries = c.args.debug.now.book.entries;
+      said = said_in_dialog c.args.dialog.now;
       files = g.K.Keeper.files c.args.keeper.now;
       counts = g.K.Keeper.counts c.args.keeper.now;
     } in

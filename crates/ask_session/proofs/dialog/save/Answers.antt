@@ -1,40 +1,46 @@
 use Rattle.std.proofs.Common.{◌∙◌, [], ℕ, List, arith, inl, refl, subst}
-use Rattle.dialog_replies.specs.Start.{saved_text}
+use Rattle.dialog_replies.specs.{Kept.said_in_dialog, Start.saved_text}
 use Rattle.ask_session.proofs.LineIsAnswered.{save_out, save_said}
 use Rattle.ask_session.proofs.dialog.save.Goals as goal
 use Rattle.ask_session.specs.{Saves.FileAfter, Saves.Save, Turned.DialogMoment}
 
-pub returns-in_default : goal.returns-in_default
-returns-in_default g c = record { goes = ([], omega arith, refl, inl refl) }
+pub returns-in_default-clause-goes : goal.returns-in_default-clause-goes
+returns-in_default-clause-goes g c = ([], omega arith, refl, inl refl)
 
-pub returns-in-Ok-store_text : goal.returns-in-Ok-store_text
-returns-in-Ok-store_text g c =
+pub returns-in-Ok-store_text-clause-goes : goal.returns-in-Ok-store_text-clause-goes
+returns-in-Ok-store_text-clause-goes g c =
     let files = g.K.Keeper.files in
     let counts = g.K.Keeper.counts in
-    let entries = c.args.debug.now.book.entries in
+    let said = said_in_dialog c.args.dialog.now in
     let stored = c.in-Ok-store_text.stored in
-    let old : DialogMoment = record { entries = entries; files = files c.args.keeper.now; counts = counts c.args.keeper.now } in
-    let new : DialogMoment = record { entries = entries; files = files c.store_text.new.keeper; counts = counts c.store_text.new.keeper } in
-    let save : Save = record { file = c.args.file.now; text = saved_text c.args.start.now entries } in
+    let old : DialogMoment = record { said = said; files = files c.args.keeper.now; counts = counts c.args.keeper.now } in
+    let new : DialogMoment = record {
+      said = said_in_dialog c.session_text_of.new.dialog;
+      files = files c.store_text.new.keeper;
+      counts = counts c.store_text.new.keeper;
+    } in
+    let save : Save = record { file = c.args.file.now; text = saved_text (g.D.Debugged.subject c.args.run.now) c.args.start.now said } in
     let named : FileAfter stored (record { file = c.args.file.now; text = c.as_slice.result.now }) old.files new.files =
     subst (λ (name : List ℕ). FileAfter stored (record { file = name; text = c.as_slice.result.now }) old.files new.files) c.as_str.ensures
     c.in-Ok-store_text.ensures.file in
     let file : FileAfter stored save old.files new.files =
-    subst (λ (text : List ℕ). FileAfter stored (record { file = c.args.file.now; text = text }) old.files new.files) (c.as_slice.ensures ∙ c.in-Ok.ensures)
+    subst (λ (text : List ℕ). FileAfter stored (record { file = c.args.file.now; text = text }) old.files new.files) (c.as_slice.ensures ∙ c.in-Ok.ensures.text)
     named in
-    record {
-      goes = save_said save stored old new c.save_reply.result (
-        record { file_is = file; counts_are = c.in-Ok-store_text.ensures.counts },
-        record { text = c.save_reply.ensures.text; memory = c.save_reply.ensures.memory },
-      );
-    }
+    save_said save stored old new c.save_reply.result (
+      record { file_is = file; counts_are = c.in-Ok-store_text.ensures.counts },
+      record { text = c.save_reply.ensures.text; memory = c.save_reply.ensures.memory },
+    )
 
-pub returns : goal.returns
-returns g c =
+pub returns-clause-goes : goal.returns-clause-goes
+returns-clause-goes g c =
     let files = g.K.Keeper.files in
     let counts = g.K.Keeper.counts in
-    let entries = c.args.debug.now.book.entries in
-    let old : DialogMoment = record { entries = entries; files = files c.args.keeper.now; counts = counts c.args.keeper.now } in
-    let new : DialogMoment = record { entries = entries; files = files c.store_text.new.keeper; counts = counts c.store_text.new.keeper } in
-    let save : Save = record { file = c.args.file.now; text = saved_text c.args.start.now entries } in
-    record { goes = save_out save old new c.in-Err.ending c.in-Err.ensures.memory (c.in-Err.ensures.same_files, c.in-Err.ensures.one_store) }
+    let said = said_in_dialog c.args.dialog.now in
+    let old : DialogMoment = record { said = said; files = files c.args.keeper.now; counts = counts c.args.keeper.now } in
+    let new : DialogMoment = record {
+      said = said_in_dialog c.session_text_of.new.dialog;
+      files = files c.store_text.new.keeper;
+      counts = counts c.store_text.new.keeper;
+    } in
+    let save : Save = record { file = c.args.file.now; text = saved_text (g.D.Debugged.subject c.args.run.now) c.args.start.now said } in
+    save_out save old new c.in-Err.ending c.in-Err.ensures.memory (c.in-Err.ensures.same_files, c.in-Err.ensures.one_store)

@@ -7,4 +7,4 @@ returns-in-Ok-clause-answers c = λ s start asked long.
     too_long_so s start asked c.append.new.self long (c.in-Ok.ensures.ok ∙ ap (λ (bytes : List ℕ). bytes ++ codes "line too long\n") c.new-bytes.ensures)
 
 pub returns-in-Err-clause-answers : goal.returns-in-Err-clause-answers
-returns-in-Err-clause-answers c = λ s start asked long. breaks_off s start asked asked.moment.entries
+returns-in-Err-clause-answers c = λ s start asked long. breaks_off s start asked asked.moment.said

@@ -1,7 +1,7 @@
 use Rattle.std.proofs.Common.{◌∙◌, [], ℕ, List, append-nil, subst, sym}
 use Rattle.edge_ports.specs.Told.{GaveAll, GavePrefix}
 use Rattle.dialog_replies.specs.{Fit.misfit, Lines.misfit_line}
-use Rattle.ask_session.proofs.SessionsAreHeld.{ended_at_once, fits_by, nothing, refused_so, said_misfit, screen_at_once, unfit_by}
+use Rattle.ask_session.proofs.SessionsAreHeld.{ended_at_once, fits_by, nothing, printed_misfit, refused_so, screen_at_once, unfit_by}
 use Rattle.ask_session.proofs.session.hold_if_fit.Goals as goal
 use Rattle.ask_session.specs.{Heard.lines_in, Outside.Outside}
 
@@ -33,7 +33,7 @@ returns-in-Ok-Some-clause-goes g c =
     let given' = g.O.Sink.given c.write_all.new.sink in
     let why = unfit_by (misfit s c.args.start.now) c.in-Ok-Some.line (sym c.in-Ok-Some.field-0-is ∙ c.in-Ok-Some.ensures) in
     screen_at_once s c.args.start.now before given' (misfit_line why.0) []
-    (said_misfit s c.args.start.now why.0 [] (lines_in nothing) why.1 ∙ sym (append-nil (misfit_line why.0)))
+    (printed_misfit s c.args.start.now why.0 [] (lines_in nothing) why.1 ∙ sym (append-nil (misfit_line why.0)))
     (subst (λ (x : List ℕ). GavePrefix before.streams.given given' x) (c.as_slice.ensures ∙ why.2) c.in-Err-write_all.ensures.failed)
 
 pub returns-clause-goes : goal.returns-clause-goes

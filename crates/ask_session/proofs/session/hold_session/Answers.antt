@@ -1,9 +1,9 @@
-use Rattle.std.proofs.Common.{◌∙◌, ◌≡◌, [], ℕ, List, ap, subst}
+use Rattle.std.proofs.Common.{◌∙◌, ◌≡◌, [], ℕ, List, subst}
 use Rattle.edge_ports.specs.Told.{GaveAll, GavePrefix}
-use Rattle.dialog_replies.specs.{Replies.opening, Start.entries_at_start}
-use Rattle.ask_session.proofs.SessionsAreHeld.{Opened, ended_at_once, nothing, said_fit, screen_at_once, went_so}
+use Rattle.dialog_replies.specs.{Replies.opening_of, Start.said_at_start}
+use Rattle.ask_session.proofs.SessionsAreHeld.{Opened, ended_at_once, nothing, printed_fit, screen_at_once, went_so}
 use Rattle.ask_session.proofs.session.hold_session.Goals as goal
-use Rattle.ask_session.specs.{Dialog.replies, Heard.lines_in, Outside.Outside}
+use Rattle.ask_session.specs.{Dialog.line_replies, Heard.lines_in, Outside.Outside}
 
 pub returns-in_default-clause-goes : goal.returns-in_default-clause-goes
 returns-in_default-clause-goes g c =
@@ -45,10 +45,10 @@ returns-clause-goes g c =
     } in
     let given' = g.O.Sink.given c.write_all.new.sink in
     let start = c.args.start.now in
-    let text : c.as_slice.result.now ≡ opening s (entries_at_start start) =
-    c.as_slice.ensures ∙ c.in-Ok-open.ensures ∙ ap (opening s) c.in-Ok-resume.ensures.entries in
-    screen_at_once s start before given' (opening s (entries_at_start start)) (replies s (entries_at_start start) [] (lines_in nothing))
-    (said_fit s start [] (lines_in nothing) c.requires.fits)
+    let text : c.as_slice.result.now ≡ opening_of s start =
+    c.as_slice.ensures ∙ c.in-Ok-open.ensures.text in
+    screen_at_once s start before given' (opening_of s start) (line_replies s (said_at_start start) [] (lines_in nothing))
+    (printed_fit s start [] (lines_in nothing) c.requires.fits)
     (subst (λ (x : List ℕ). GavePrefix before.streams.given given' x) text c.in-Err.ensures.failed)
 
 pub returns-in-Ok-write_all-clause-goes : goal.returns-in-Ok-write_all-clause-goes
@@ -66,8 +66,8 @@ returns-in-Ok-write_all-clause-goes g c =
       counts = g.K.Keeper.counts c.answer_lines.new.keeper;
       streams = record { left = g.I.Source.left c.answer_lines.new.console; given = g.O.Sink.given c.answer_lines.new.screen };
     } in
-    let text : c.as_slice.result.now ≡ opening s (entries_at_start start) =
-    c.as_slice.ensures ∙ c.in-Ok-open.ensures ∙ ap (opening s) c.in-Ok-resume.ensures.entries in
+    let text : c.as_slice.result.now ≡ opening_of s start =
+    c.as_slice.ensures ∙ c.in-Ok-open.ensures.text in
     let opened : Opened s start before given' = record {
       fits = c.requires.fits;
       gave = subst (λ (x : List ℕ). GaveAll before.streams.given given' x) text c.in-Ok-write_all.ensures.ok;

@@ -1,6 +1,6 @@
 use Rattle.std.proofs.Common.{◌∙◌, ap, arith, length}
 use Rattle.program_run.specs.History.{IsOfRun}
-use Rattle.cell_names.specs.Finding.{Finding, finding_of}
+use Rattle.cell_names.specs.Finding.{finding_of}
 use Rattle.debuggee.proofs.{CallsAreNumbered.calls_kept, CallsAreNumbered.some_call, TracesAreOfBodies.history_is}
 use Rattle.debuggee.proofs.source.run_program.Goals as goal
 use Rattle.debuggee.specs.Execution.{Supply}
@@ -43,6 +43,3 @@ invariant_of-result c =
       told = c.calls_are_told.ensures p given.input given.budget history c.requires.input of_run;
       named = c.in_ok-names.ensures ∙ ap (λ n. finding_of p n history.log) c.len.ensures.count;
     }
-
-pub frames_are_filled-requires : goal.frames_are_filled-requires
-frames_are_filled-requires c = record { names = λ routine. ap (λ (f : Finding). f.frame routine) c.in_ok-names.ensures }

@@ -1,5 +1,4 @@
 use Rattle.std.proofs.Common.{◌++◌, ◌∙◌, ap, append-nil, arith, sym}
-use Rattle.cell_names.specs.{Finding.finding_in, Places.finds}
 use Rattle.question_text.proofs.CardsWhole.{card_is, no_card}
 use Rattle.question_text.proofs.cards.write_card.Goals as goal
 use Rattle.question_text.specs.Cards.{recorded_in}
@@ -9,11 +8,10 @@ returns-then-number-len c =
     let t = c.if-number-len.true in let e = c.len.ensures in
     sym (append-nil c.args.out.now) ∙ ap (λ x. c.args.out.now ++ x) (sym (no_card (recorded_in c.args.from.now) c.args.number (omega (arith, t, e))))
 
-pub write_lines-requires : goal.write_lines-requires
-write_lines-requires c = c.requires.told c.call-call.result.now c.call-call.ensures.found
+pub write_below-requires-clause-told : goal.write_below-requires-clause-told
+write_below-requires-clause-told c = c.requires.told c.call-call.result.now c.call-call.ensures.found
 
 pub returns : goal.returns
 returns c =
-    card_is (recorded_in c.args.from.now) c.args.number c.call-call.result.now (finding_in c.args.from.now.names.now) c.routine_column.result.now
-    (finds c.in_ok-opened.opened) c.args.out.now c.write_call_line.new.out c.write_lines.new.out c.call-call.ensures.found c.requires.names
-    c.routine_column.ensures c.in_ok-opened.ensures c.in_ok-write_call_line.ensures c.in_ok-write_lines.ensures
+    card_is (recorded_in c.args.from.now) c.args.number c.call-call.result.now c.args.out.now c.write_call_line.new.out c.write_below.new.out
+    c.call-call.ensures.found c.in_ok-write_call_line.ensures c.in_ok-write_below.ensures

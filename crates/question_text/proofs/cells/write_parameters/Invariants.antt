@@ -5,5 +5,5 @@ use Rattle.question_text.specs.Cells.{parameters_text}
 
 abbrev pub invariant-places : goal.invariant-places
 invariant-places l =
-    l.out ++ parameters_text (scene_in l.scene) l.routine l.place (drop l.place l.args)
-    ≡ l.fn.out ++ parameters_text (scene_in l.scene) l.routine 1 (drop 1 l.args)
+    l.out ++ parameters_text (scene_in l.scene) l.top l.routine l.place (drop l.place l.args)
+    ≡ l.fn.out ++ parameters_text (scene_in l.scene) l.top l.routine 1 (drop 1 l.args)

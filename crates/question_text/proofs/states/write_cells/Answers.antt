@@ -1,6 +1,6 @@
 use Rattle.std.proofs.Common.{◌++◌, ◌∙◌, ap, append-nil, arith, sym}
 use Rattle.cell_names.specs.{Finding.finding_in, Places.finds}
-use Rattle.question_text.proofs.StatesWhole.{IsSceneOf, has_cell_is, no_cell_there, no_state, state_is}
+use Rattle.question_text.proofs.StatesWhole.{has_cell_is, no_cell_there, no_state, state_is}
 use Rattle.question_text.proofs.states.write_cells.Goals as goal
 use Rattle.question_text.specs.Cards.{recorded_in}
 

@@ -1,0 +1,3 @@
+pub mod NotesAreText
+pub mod NotesRise
+pub mod RepliesInOrder
