@@ -1,8 +1,8 @@
 -- What is kept to tell the innermost frames around one.
-use Rattle.std.proofs.Common.{if◌then◌else◌, ◌++◌, ◌+◌, ◌<◌, ◌||◌, ◌∙◌, ◌∷◌, ◌≡◌, ◌≤◌, [], ℕ, Bool, List, None, Option, Some, ap, arith, false, fold, get_or}
-use Rattle.std.proofs.Common.{is_some, length, nat_eq, nat_lt, refl, set, slice_get, subst, suc, sym, true, zero}
+use Rattle.std.proofs.Common.{if◌then◌else◌, ◌++◌, ◌+◌, ◌<◌, ◌||◌, ◌∙◌, ◌∷◌, ◌≡◌, ◌≤◌, [], ℕ, Bool, List, None, Option, Some, ap, arith, false, fold, is_some}
+use Rattle.std.proofs.Common.{length, nat_eq, nat_lt, refl, set, slice_get, subst, suc, sym, true, zero}
+use Rattle.std.specs.Prelude.{unwrap_or}
 use Rattle.std.proofs.lemmas.{Bool.Decides.nat_tests, List.get_or-set_other, List.get_or-set_same, Option.unwrap_or-slice_get}
-use Rattle.std.specs.{Prelude.unwrap_or, List.list_any}
 use Rattle.check_steps.proofs.Chains.{got_before}
 use Rattle.check_steps.specs.{Frames.frame_in, declared.regions.Frame.Frame}
 use Rattle.check_steps.specs.Around.{IsBook, IsKept, around, first_around, is_among, is_around, kept_in, later, latest, reach}
@@ -59,6 +59,12 @@ found-within fs test falls (suc n) (Some f) = found-case (test (frame_in fs f).r
     found-case false f o below = omega (arith, below)
 
 -- ---- the later one of two
+
+pub later-none : (o : Option ℕ) → later o None ≡ o
+later-none None = refl
+later-none (Some f) = refl
+
+pub ruleset later_none = (later-none)
 
 later-first : (f : ℕ) (o : Option ℕ) → reach o ≤ f → later (Some f) o ≡ Some f
 later-first f None below = refl

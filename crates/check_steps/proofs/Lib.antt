@@ -9,3 +9,7 @@ pub mod FirstHome
 pub mod Outward
 pub mod NameLists
 pub mod FirstThreat
+pub mod SectionLists
+pub mod Seen
+pub mod Answered
+pub mod Recalls

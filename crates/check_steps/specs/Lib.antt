@@ -10,3 +10,6 @@ pub mod Steps
 pub mod Items
 pub mod Names
 pub mod Required
+pub mod Headings
+pub mod Compared
+pub mod Recent

@@ -1,7 +1,7 @@
 -- Definitions of names and labels, and uses of names.
 use Rattle.std.specs.Prelude.{if◌then◌else◌, ℕ, Bool, None, Option, Some, false, is_none, nat_le}
 use Rattle.check_steps.specs.{Known.find, Known.name_at, Regions.declared_in, Regions.defined_in}
-use Rattle.check_steps.specs.Steps.{◌>>=◌, Step, add_definition, add_label, early, give, look, when}
+use Rattle.check_steps.specs.Steps.{◌>>=◌, Step, add_definition, add_label, early, give, late, look, when}
 use Rattle.check_steps.specs.declared.regions.{Definition.Definition, Found.Found}
 
 -- rule 2: a region defines a name a second time
@@ -37,3 +37,11 @@ use_at frame at token = do
   found ← look (λ k. find k frame (name_at k token))
   _ ← early 1 token (is_usable at found)
   give (usable at found)
+
+-- A use that is looked at once more, after rule 1 was told of it. Rule 3: a name that may not be used there is of no
+-- kind that has a place there. At one token rule 1 comes first.
+unfoldable pub use_again : ℕ → ℕ → Step (Option Found)
+use_again frame token = do
+  found ← look (λ k. find k frame (name_at k token))
+  _ ← late 3 token (is_usable token found)
+  give (usable token found)

@@ -65,13 +65,17 @@ fn is_same(left: Option<u32>, right: Option<u32>) -> bool
     }
 }
 
+/// The greater of two numbers, where there is one. Mostly the right one is None, so that is told first.
+#[tactic(auto, using(crate::proofs::Books::later_none))]
 fn later(left: Option<u32>, right: Option<u32>) -> Option<u32>
     ensures { result ≡ later left right }
 {
-    match (left, right) {
-        (None, _) => right,
-        (Some(_), None) => left,
-        (Some(a), Some(b)) => { if a < b { right } else { left } }
+    let Some(b) = right else {
+        return left;
+    };
+    match left {
+        None => right,
+        Some(a) => if a < b { right } else { left },
     }
 }
 

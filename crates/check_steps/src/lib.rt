@@ -1,13 +1,16 @@
 //! What the check of the static rules is made of: the tables that it fills, the regions in which it looks names up,
-//! and its steps. A step is what a part of a tree does to the tables, and which rules it breaks. Each function of the
-//! check does one step, whose definition is an equation over the steps of its parts.
+//! which headings are congruous, and its steps. A step is what a part of a tree does to the tables, and which rules it
+//! breaks. Each function of the check does one step, whose definition is an equation over the steps of its parts.
 #![tactic(auto)]
 
 mod around;
 pub mod breaks;
+mod compared;
 mod frames;
+pub mod headings;
 mod homes;
 pub mod items;
+mod recent;
 pub mod regions;
 pub mod required;
 mod scopes;

@@ -1,16 +1,18 @@
 //! The tables that a check fills.
 
-ghost use Rattle.std.specs.Prelude.{◌++◌, ◌+◌, ◌<◌, ◌^◌, ◌∷◌, ◌≡◌, ℕ, IfOk, None, OnOk, Some, length, true};
-ghost use Rattle.check_steps.specs.{Around.is_around, Frames.Leads, Names.usable, declared.regions.Found.Found};
+ghost use Rattle.std.specs.Prelude.{◌++◌, ◌+◌, ◌<◌, ◌^◌, ◌∷◌, ◌≡◌, ℕ, IfOk, IfSome, None, OnOk, Some, length, true};
+ghost use Rattle.check_steps.specs.{Around.is_around, Frames.Leads, Headings.congruous, Names.usable};
+ghost use Rattle.check_steps.specs.{Words.known_at_start, Words.number_of_name, declared.regions.Found.Found};
 ghost use Rattle.check_steps.specs.Known.{and_choice, and_control, and_definition, and_frame, and_label, and_region};
 ghost use Rattle.check_steps.specs.Known.{and_routine, and_threat, find, find_label, found_in, frame_at, in_block};
 ghost use Rattle.check_steps.specs.Known.{is_chosen, is_control, label_at, line_at, name_at, row_at, spelled_at};
 ghost use Rattle.check_steps.specs.Known.{threat_of, type_at, with_routine, with_row, without_control, word_at};
 ghost use Rattle.check_steps.specs.Regions.{declared_in, defined_in, region_at};
-ghost use Rattle.check_steps.specs.Words.{known_at_start, number_of_name};
 
 use crate::around::Around;
+use crate::compared::Compared;
 use crate::frames::Beyond;
+use crate::recent::{Recalled, Recent};
 use crate::regions::{Definition, Found, Frame, Span};
 use crate::scopes::Scopes;
 use crate::threats::Threats;
@@ -22,14 +24,18 @@ use pas_lexer::Tokens;
 use std::alloc::{AllocError, Global};
 use std::marker::Model;
 
+/// Of so few regions that may define a name all are looked at each time.
+const FEW: usize = 64;
+
 /// What is known of a program.
 #[derive(Drop)]
 pub struct Tables {
     names: IndexSet<Vec<u8>>,
     words: Vec<SpelledToken>,
-    program: ProgramTables,
+    program: Compared,
     regions: Scopes,
     frames: Around,
+    recent: Recent,
     controls: Vec<u32>,
     threats: Threats,
     block: Span,
@@ -39,7 +45,7 @@ pub struct Tables {
 impl Model for Tables {
     ghost use Rattle.std.specs.Prelude.{◌+◌, ◌<◌, ◌^◌, length, map, vec_len};
     ghost use Rattle.indexmap.specs.IndexSet.{index_set_len};
-    ghost use Rattle.check_steps.specs.Known.{Known};
+    ghost use Rattle.check_steps.specs.{Known.Known, Recent.AreRecalled};
 
     ghost Value = { Known };
 
@@ -56,7 +62,8 @@ impl Model for Tables {
     } };
 
     ghost invariant = { λ t. (length t.regions < 2 ^ 32) × (length t.frames < 2 ^ 32)
-        × (vec_len t.words + 26 < 2 ^ 32) × (index_set_len t.names < 2 ^ 32) };
+        × (vec_len t.words + 26 < 2 ^ 32) × (index_set_len t.names < 2 ^ 32)
+        × AreRecalled t.regions t.frames t.recent };
 }
 
 impl Tables {
@@ -80,9 +87,10 @@ impl Tables {
         Ok(Tables {
             names,
             words,
-            program,
+            program: Compared::new(alloc, program),
             regions: Scopes::new(alloc),
             frames: Around::new(alloc),
+            recent: Recent::new(alloc),
             controls: Vec::new(alloc),
             threats,
             block: Span {
@@ -176,14 +184,14 @@ impl Tables {
     pub fn program(&self) -> &ProgramTables
         ensures { result.now ≡ self.now.program }
     {
-        &self.program
+        self.program.program()
     }
 
     /// Gives up all but the tables of the program.
     pub fn into_program(self) -> ProgramTables
         ensures { result ≡ self.program }
     {
-        self.program
+        self.program.into_program()
     }
 
     /// Puts a row at a number.
@@ -191,6 +199,16 @@ impl Tables {
         ensures { self.new ≡ with_row self.old number row }
     {
         self.program.put(number, row);
+    }
+
+    /// Whether two headings are of one kind and result type, with congruous lists of parameters. A type that is unknown
+    /// is the same as any, and no list has more sections than there are tokens.
+    pub fn congruous(&mut self, left: u32, right: u32) -> bool
+        ensures answer { result ≡ congruous (length self.old.words) self.old.program left right }
+        ensures same { self.new ≡ self.old }
+    {
+        let most = self.tokens();
+        self.program.congruous(most, left, right)
     }
 
     /// Puts a routine at a number.
@@ -211,6 +229,7 @@ impl Tables {
 
     /// A new frame after the others, by its number. Of 4,294,967,295 frames there is none after the last, which counts
     /// as out of memory.
+    #[tactic(auto, using(crate::proofs::Recalls::forgotten))]
     pub fn open_frame(&mut self, frame: Frame) -> Result<u32, AllocError>
         ensures number { IfOk result (λ n. n ≡ length self.old.frames) }
         ensures opened { OnOk result (self.new ≡ and_frame self.old frame) }
@@ -219,6 +238,7 @@ impl Tables {
         if number >= u32::MAX as usize {
             return Err(AllocError);
         }
+        self.recent.forget();
         self.frames.push(frame)?;
         Ok(number as u32)
     }
@@ -378,13 +398,65 @@ impl Tables {
         }
     }
 
+    /// What was found of a name, if it was looked up in this frame last.
+    fn recalled(&self, frame: u32, name: u32) -> Option<Option<Found>>
+        ensures { IfSome result (λ found. found ≡ find self.now frame name) }
+    {
+        match self.recent.of(name) {
+            Some(recalled) => {
+                if recalled.frame == frame {
+                    Some(recalled.found)
+                } else {
+                    None
+                }
+            }
+            None => None,
+        }
+    }
+
+    /// What is found of a name is recalled from now on.
+    fn recall(&mut self, frame: u32, name: u32)
+        ensures { self.new ≡ self.old }
+    {
+        let found = self.find_shorter(frame, name);
+        self.recent.put(name, Recalled { frame, found });
+    }
+
+    /// The definition in the closest region around, which may be recalled.
+    fn find_beyond(&self, frame: u32, name: u32) -> Option<Found>
+        ensures { result ≡ find self.now frame name }
+    {
+        match self.recalled(frame, name) {
+            Some(found) => found,
+            None => self.find_shorter(frame, name),
+        }
+    }
+
+    /// Whether it takes long to look a name up: many regions may define it, and nothing is recalled of it.
+    fn is_dear(&self, frame: u32, name: u32) -> bool {
+        self.regions.homes(name).len() > FEW
+            && self.find_here(frame, name).is_none()
+            && self.recalled(frame, name).is_none()
+            && !self.is_common(frame, name)
+    }
+
     /// The definition in the closest region around that defines a name, a frame's own region being the closest.
     pub fn find(&self, frame: u32, name: u32) -> Option<Found>
         ensures { result ≡ find self.now frame name }
     {
         match self.find_here(frame, name) {
             Some(found) => Some(found),
-            None => self.find_shorter(frame, name),
+            None => self.find_beyond(frame, name),
+        }
+    }
+
+    /// Names are looked up in this frame from now on, this one first. What is known of a program stays the same.
+    pub fn look_from(&mut self, frame: u32, name: u32)
+        ensures { self.new ≡ self.old }
+    {
+        self.come_to(frame);
+        if self.is_dear(frame, name) {
+            self.recall(frame, name);
         }
     }
 
@@ -451,6 +523,7 @@ impl Tables {
 
     /// A new region that begins at a token, with its own frame inside another or none, and this many blocks around its
     /// own: what is given is the number of its frame.
+    #[tactic(auto, using(crate::proofs::Recalls::forgotten))]
     pub fn open_region(
         &mut self,
         alloc: Global,
@@ -467,6 +540,7 @@ impl Tables {
         if region >= u32::MAX as usize || frame >= u32::MAX as usize {
             return Err(AllocError);
         }
+        self.recent.forget();
         self.regions.push(alloc, token, frame as u32)?;
         self.frames.push(Frame {
             region: region as u32,
@@ -478,6 +552,7 @@ impl Tables {
     }
 
     /// A definition of a name at the end of a region that lacks it.
+    #[tactic(auto, using(crate::proofs::Recalls::forgotten))]
     pub fn add_definition(
         &mut self,
         region: u32,
@@ -487,15 +562,18 @@ impl Tables {
         requires { defined_in self.old.regions region name ≡ None }
         ensures { OnOk result (self.new ≡ and_definition self.old region name definition) }
     {
+        self.recent.forget();
         self.regions.add_definition(region, name, definition)?;
         Ok(())
     }
 
     /// A label's value at the end of a region that lacks it.
+    #[tactic(auto, using(crate::proofs::Recalls::forgotten))]
     pub fn add_label(&mut self, region: u32, value: u32, token: u32) -> Result<(), AllocError>
         requires { declared_in self.old.regions region value ≡ None }
         ensures { OnOk result (self.new ≡ and_label self.old region value token) }
     {
+        self.recent.forget();
         self.regions.add_label(region, value, token)?;
         Ok(())
     }

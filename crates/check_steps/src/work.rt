@@ -2,7 +2,7 @@
 
 ghost use Rattle.std.specs.Prelude.{◌≡◌, IfOk, None};
 ghost use Rattle.check_steps.specs.{Known.threat_of, Regions.defined_in, Steps.too_big, Words.known_at_start};
-ghost use Rattle.check_steps.specs.Names.{declare_in, define_in, use_at};
+ghost use Rattle.check_steps.specs.Names.{declare_in, define_in, use_again, use_at};
 ghost use Rattle.check_steps.specs.Steps.{Does, add_chosen, add_definition, add_routine, ask, early, enter_block, hold};
 ghost use Rattle.check_steps.specs.Steps.{late, look, open_frame, open_region, put, put_routine, release, threaten};
 
@@ -229,14 +229,33 @@ impl Work {
         self.tables.come_to(frame);
     }
 
+    /// The same, and the name that a token spells is looked up first.
+    fn look_from(&mut self, frame: u32, token: u32)
+        ensures { self.new ≡ self.old }
+    {
+        let name = self.tables.name(token);
+        self.tables.look_from(frame, name);
+    }
+
     /// What a name stands for where it is used, as if at the token `at`.
     #[tactic(auto, using(crate::proofs::Runs::steps), unfolding(crate::specs::Names::use_at))]
     pub fn use_at(&mut self, frame: u32, at: u32, token: u32) -> Option<Found>
         ensures { Does (use_at frame at token) result self.old self.new }
     {
-        self.come_to(frame);
+        self.look_from(frame, token);
         let usable = self.tables.usable(frame, at, token);
         self.early(1, token, usable.is_some());
+        usable
+    }
+
+    /// What a name stands for where it is used, if rule 1 was looked at there before.
+    #[tactic(auto, using(crate::proofs::Runs::steps), unfolding(crate::specs::Names::use_again))]
+    pub fn use_again(&mut self, frame: u32, token: u32) -> Option<Found>
+        ensures { Does (use_again frame token) result self.old self.new }
+    {
+        self.look_from(frame, token);
+        let usable = self.tables.usable(frame, token, token);
+        self.late(3, token, usable.is_some());
         usable
     }
 }

@@ -6,7 +6,7 @@ use Rattle.pas_tree.specs.{Blocks.tree_node, declared.blocks.Tree.Tree}
 use Rattle.pas_parser.specs.{Exact.IsExact, Formed.IsFormed, Formed.items_of}
 use Rattle.check_steps.specs.{Known.Known, declared.breaks.CheckFault.CheckFault}
 use Rattle.decl_checker.specs.{Answers.EarlyFaultIs, Answers.IsWithoutEarly, Programs.broken_early, Programs.tables_of}
-use Rattle.code_checker.specs.{Places.TokenOrLastBegins, declared.declarations.DeclarationFault.DeclarationFault}
+use Rattle.code_checker.specs.{Places.TokenBegins, declared.declarations.DeclarationFault.DeclarationFault}
 
 -- the source has these tokens
 pub record HasTokens (source : List ℕ) (t : Lexed) : Type 0 where
@@ -29,7 +29,7 @@ IsDeclared source known = (t : Lexed) × (x : Tree) × HasTokens source t × IsT
 -- this is the first of the broken rules, at a token that stands there
 abbrev pub BreaksFirst : Lexed → Tree → (rule line byte : ℕ) → Type 0
 BreaksFirst t x rule line byte =
-    (token : ℕ) × EarlyFaultIs (broken_early t x) (CheckFault.Rule rule token) × TokenOrLastBegins t token line byte
+    (token : ℕ) × EarlyFaultIs (broken_early t x) (CheckFault.Rule rule token) × TokenBegins t token line byte
 
 -- why a tree gives no tables
 abbrev pub IsUndeclaredBy : Lexed → Tree → DeclarationFault → Type 0

@@ -6,3 +6,4 @@ pub mod Laws
 pub mod Places
 pub mod Programs
 pub mod Results
+pub mod RulesTold

@@ -6,9 +6,8 @@ use Rattle.pas_phrases.specs.declared.fault.ParseFault.{ParseFault}
 use Rattle.pas_parser.specs.{Exact.IsExact, Formed.IsText}
 use Rattle.core_program.specs.ProgramRows.{ProgramRows}
 use Rattle.check_steps.specs.{Breaks.FaultIs, declared.breaks.CheckFault.CheckFault}
-use Rattle.code_checker.specs.{Declarations.IsTextOf, declared.programs.ProgramFault.ProgramFault}
+use Rattle.code_checker.specs.{Declarations.IsTextOf, Places.TokenBegins, declared.programs.ProgramFault.ProgramFault}
 use Rattle.code_checker.specs.CheckedPrograms.{broken, program_of}
-use Rattle.code_checker.specs.Places.{TokenBegins, TokenOrLastBegins}
 
 -- ---- programs
 
@@ -29,7 +28,7 @@ HasNoTree t f = (IsText t.tokens → ⊥) × IsExact t.tokens (Err f)
 
 -- the first of what is broken in the tree is at a token that stands there
 abbrev pub IsBrokenAt : Lexed → Tree → (ℕ → CheckFault) → (line byte : ℕ) → Type 0
-IsBrokenAt t x what line byte = (token : ℕ) × FaultIs (broken t x) (what token) × TokenOrLastBegins t token line byte
+IsBrokenAt t x what line byte = (token : ℕ) × FaultIs (broken t x) (what token) × TokenBegins t token line byte
 
 -- why a tree denotes no program
 abbrev pub IsNotDenotedBy : Lexed → Tree → ProgramFault → Type 0

@@ -2,7 +2,7 @@
 
 ghost use Rattle.std.specs.Prelude.{◌≤◌, IfErr, IfOk, length};
 ghost use Rattle.pas_lexer.specs.Limits.{source_bytes};
-ghost use Rattle.code_checker.specs.Declarations.{IsDeclared, IsDeclaredBy, IsUndeclared, IsUndeclaredBy};
+ghost use Rattle.code_checker.specs.Declarations.{IsDeclared, IsDeclaredBy, IsTextOf, IsUndeclared, IsUndeclaredBy};
 
 use crate::places::place_of;
 use check_steps::CheckFault;
@@ -31,8 +31,9 @@ pub enum DeclarationFault {
     Memory,
 }
 
-/// The tables of the declarations of a tree.
+/// The tables of the declarations of the one tree of the tokens.
 fn declare_tree(alloc: Global, tokens: &Tokens, tree: &Tree) -> Result<Scopes, DeclarationFault>
+    requires text { IsTextOf tokens.now tree.now }
     ensures found { IfOk result (IsDeclaredBy tokens.now tree.now) }
     ensures refused { IfErr result (IsUndeclaredBy tokens.now tree.now) }
 {

@@ -53,8 +53,9 @@ fn read_tree(alloc: Global, tokens: &Tokens) -> Result<Tree, ProgramFault>
     }
 }
 
-/// The program that a tree denotes.
+/// The program that the one tree of the tokens denotes.
 fn check_tree(alloc: Global, tokens: &Tokens, tree: &Tree) -> Result<Program, ProgramFault>
+    requires text { IsTextOf tokens.now tree.now }
     ensures found { IfOk result (IsDenotedBy tokens.now tree.now) }
     ensures refused { IfErr result (IsNotDenotedBy tokens.now tree.now) }
 {

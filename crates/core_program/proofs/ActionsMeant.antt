@@ -1,6 +1,6 @@
 -- What an action is meant to do where the tables are whole, and the actions that need no row at all.
-use Rattle.std.proofs.Common.{if◌then◌else◌, ◌&&◌, ◌*◌, ◌++◌, ◌+◌, ◌==◌, ◌∷◌, ◌≡◌, [], ℕ, ℤ, Bool, Err, List, None, Ok, Option, Result, Some, false, int_le}
-use Rattle.std.proofs.Common.{int_lt, nat_lt, pos, refl, suc, true, unsigned_abs, zero}
+use Rattle.std.proofs.Common.{if◌then◌else◌, ◌&&◌, ◌*◌, ◌++◌, ◌+◌, ◌∷◌, ◌≡◌, [], ℕ, ℤ, Bool, Err, List, None, Ok, Option, Result, Some, false, int_le, nat_lt}
+use Rattle.std.proofs.Common.{pos, refl, suc, true, unsigned_abs, zero}
 use Rattle.cell_value.specs.{Arithmetic.in_range_of, Arithmetic.integer, Sets.lies_between}
 use Rattle.cell_value.specs.declared.{faults.OpFault.OpFault, values.Value.Value, ways_out.Kind.Kind}
 use Rattle.core_program.specs.{Acts.Answer, Acts.DropBlock, Acts.Fault, Headings.may_stand_for, Heap.pointer_result_at, Heap.variable_under, Packing.copies}

@@ -4,7 +4,6 @@ use Rattle.std.proofs.Common.{length, nat_eq, nat_lt, refl, subst, suc, sym, tru
 use Rattle.std.proofs.{Math.Seq.drop-append_seam, lemmas.Bool.Decides.nat_tests, lemmas.List.length-map}
 use Rattle.std.specs.{List.slice_get, Ordering.int_eq}
 use Rattle.cell_value.specs.declared.{entries.Touch.Touch, values.Value.Value, ways_out.WayOut.WayOut, ways_out.Which.Which, ways_out.Which.TheVariants.Stack}
-use Rattle.cell_value.specs.declared.ways_out.Kind.TheVariants as kind
 use Rattle.core_program.proofs.{ActsLeave.MayEnter, ActsLeave.limits_hold, Effects.effect_is, OutcomesCompose.none_some}
 use Rattle.core_program.proofs.Events.{events_append, events_length, unmarked}
 use Rattle.core_program.proofs.RunsLeave.{Inner, IsProper, act_left, call_leaves, ran_leaves, sound_framed, sound_opened}

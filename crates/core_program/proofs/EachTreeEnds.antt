@@ -1,6 +1,6 @@
 -- A depth that is always enough. A tree is told by its rank: before a step is taken it has parts of lower rank alone.
-use Rattle.std.proofs.Common.{if◌then◌else◌, ◌*◌, ◌+◌, ◌-◌, ◌<◌, ◌==◌, ◌∙◌, ◌∷◌, ◌≡◌, ◌≤◌, ◌⊎◌, [], ℕ, ℤ, Bool, List, None, Option, Some, ap, arith, false, inl}
-use Rattle.std.proofs.Common.{inr, is_some, length, nat_lt, refl, slice_get, subst, suc, sym, true, unwrap_or, zero}
+use Rattle.std.proofs.Common.{if◌then◌else◌, ◌*◌, ◌+◌, ◌-◌, ◌<◌, ◌==◌, ◌∙◌, ◌≡◌, ◌≤◌, ◌⊎◌, [], ℕ, ℤ, Bool, List, None, Option, Some, ap, arith, false, inl, inr}
+use Rattle.std.proofs.Common.{is_some, length, nat_lt, refl, subst, suc, sym, true, zero}
 use Rattle.std.proofs.{Math.Nat.mul-le-mul_left, lemmas.Bool.Decides.nat_tests}
 use Rattle.cell_value.specs.declared.{entries.Touch.Touch, values.Value.Value, ways_out.WayOut.WayOut, ways_out.Which.Which, ways_out.Which.TheVariants.Stack}
 use Rattle.core_program.proofs.{ActionsMeant.no, ActsTakeSteps.Acted, ActsTakeSteps.acted, ActsTakeSteps.cost, WholeActions.below_length, WholeParts.Good}
@@ -13,7 +13,7 @@ use Rattle.core_program.specs.Accesses.{access_in, eval, is_end, locate_before, 
 use Rattle.core_program.specs.Acts.{Act, ActResult, Answer, Limited, OutOfSteps, Spend, Stops, Went, limit_passed, perform, spent}
 use Rattle.core_program.specs.Run.{Call as Record, End, Ended, Halted, Marked, Outcome, Result, after_all, at_work, call_closed, call_of, ends, if_allowed}
 use Rattle.core_program.specs.Run.{in_frame, in_front, joined, on_done, on_end, opened, plain, recorded, run_of, whole, with_frame, without_frame}
-use Rattle.core_program.specs.Statements.{begins, line_of, nothing, of_count, of_records, of_sequence, of_turn, on_labelled, on_normal, statement_in}
+use Rattle.core_program.specs.Statements.{begins, line_of, of_count, of_records, of_sequence, of_turn, on_labelled, on_normal, statement_in}
 use Rattle.core_program.specs.Transfers.{of_printed, of_received, of_scan, read_for, received, with_host}
 use Rattle.core_program.specs.Tree.{ActTree, Body, Count, Do, Enter, Establish, Eval, Exec, Gather, Halt, Here, Jump, Line, Locate, Meaningless, Out, Part}
 use Rattle.core_program.specs.Tree.{Pass, Print, Receive, RestOfLine, Ret, Scanning, Sequence, Sub, Turn, doing, way_of}

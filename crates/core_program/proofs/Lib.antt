@@ -11,8 +11,10 @@ pub mod Effects
 pub mod Events
 pub mod FormsMatch
 pub mod FormsTold
+pub mod ItemsInOrder
 pub mod LawsOfRuns
 pub mod ListsClassed
+pub mod LongLists
 pub mod MainStands
 pub mod MoreDepthSameResult
 pub mod NestedCallsAreIntervals

@@ -14,10 +14,10 @@ held o = unwrap_or o 0
 
 -- ---- one class put down
 
-class_set : (cs : List ℕ) (i c : ℕ) → i < length cs → class_at (slice_set cs i c) i ≡ c
+pub class_set : (cs : List ℕ) (i c : ℕ) → i < length cs → class_at (slice_set cs i c) i ≡ c
 class_set cs i c l = unwrap_or-slice_get (slice_set cs i c) i 0 ∙ get_or-set_same cs i c 0 l
 
-class_beside : (cs : List ℕ) (i c a : ℕ) → (a ≡ i → ⊥) → class_at (slice_set cs i c) a ≡ class_at cs a
+pub class_beside : (cs : List ℕ) (i c a : ℕ) → (a ≡ i → ⊥) → class_at (slice_set cs i c) a ≡ class_at cs a
 class_beside cs i c a ne = unwrap_or-slice_get (slice_set cs i c) a 0 ∙ get_or-set_other cs i a c 0 ne ∙ sym (unwrap_or-slice_get cs a 0)
 
 -- ---- forms look no further than at the classes of later lists

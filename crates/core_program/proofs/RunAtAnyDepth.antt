@@ -1,5 +1,5 @@
 -- The run of a program and of a call, at any depth that is enough.
-use Rattle.std.proofs.Common.{◌+◌, ◌∙◌, ◌≡◌, ◌≤◌, ℕ, IsSome, List, None, Option, Some, ap, arith, false, is_some, refl, subst, sym, true}
+use Rattle.std.proofs.Common.{◌+◌, ◌∙◌, ◌≡◌, ◌≤◌, ℕ, IsSome, List, None, Option, Some, ap, arith, false, is_some, refl, subst, sym}
 use Rattle.cell_value.specs.declared.values.Value.{Value}
 use Rattle.core_program.proofs.{OutcomesCompose.none_some, OutcomesCompose.some_same, WholeParts.Anything, WholeParts.Good}
 use Rattle.core_program.proofs.EachTreeEnds.{Ends, call_total, total}

@@ -3,8 +3,6 @@ use Rattle.std.proofs.Common.{if◌then◌else◌, ◌++◌, ◌+◌, ◌∙◌,
 use Rattle.std.proofs.Common.{nat_lt, refl, subst, suc, sym, zero}
 use Rattle.std.{proofs.lemmas.Bool.Decides.eqb_tells, proofs.lemmas.Bool.Decides.nat_tests, specs.FinMap.insert, specs.FinMap.remove}
 use Rattle.cell_value.specs.declared.{entries.Touch.Touch, values.Value.Value, ways_out.WayOut.WayOut, ways_out.Which.Which, ways_out.Which.TheVariants.Stack}
-use Rattle.cell_value.specs.declared.ways_out.Kind.TheVariants as kind
-use Rattle.cell_value.specs.declared.ways_out.WayOut.TheVariants as way
 use Rattle.core_program.proofs.{Effects.SameLog, Effects.same_append, Events.events_append, Events.events_length, Events.unmarked, Touches.Serves}
 use Rattle.core_program.proofs.ActsLeave.{Leaves, MayEnter, leaves_same, limits_hold}
 use Rattle.core_program.proofs.ActsRepeat.{Agree, DoneAgain, InStep, IsFault, SameCells, act_again, limit_none, step_same}

@@ -1,19 +1,18 @@
 -- Where tables are whole, the actions that look up rows are meant.
-use Rattle.std.proofs.Common.{if◌then◌else◌, ◌&&◌, ◌++◌, ◌+◌, ◌<◌, ◌||◌, ◌∙◌, ◌∷◌, ◌≡◌, ◌≤◌, ◌⊎◌, [], ℕ, ℤ, Bool, List, None, Option, Some, ap, arith, false}
-use Rattle.std.proofs.Common.{inl, inr, is_some, length, nat_lt, refl, replicate, slice_get, subst, suc, sym, true, unwrap_or, zero}
+use Rattle.std.proofs.Common.{if◌then◌else◌, ◌&&◌, ◌+◌, ◌<◌, ◌||◌, ◌∙◌, ◌∷◌, ◌≡◌, ◌⊎◌, [], ℕ, ℤ, Bool, List, None, Option, Some, ap, arith, false, inl, inr}
+use Rattle.std.proofs.Common.{is_some, length, nat_lt, refl, replicate, slice_get, subst, suc, sym, true, unwrap_or, zero}
 use Rattle.std.{proofs.lemmas.Bool.Decides.nat_tests, specs.Ordering.int_eq}
 use Rattle.cell_value.specs.declared.values.Value.{Value}
-use Rattle.core_program.proofs.ActionsMeant.{IsMeant, Meant, fault_meant, if_meant, next, no, read_meant, write_meant, writes_meant}
+use Rattle.core_program.proofs.ActionsMeant.{IsMeant, fault_meant, if_meant, next, no, read_meant, write_meant, writes_meant}
 use Rattle.core_program.proofs.WholeParts.{listed, or_second}
-use Rattle.core_program.specs.{Cells.assign, Cells.read_value, Cells.write, Cells.writes, ProgramRows.ProgramRows, ProgramRows.row_at, ProgramRows.type_at}
-use Rattle.core_program.specs.{ProgramRows.type_in, State.moved, Values.as_tested, Values.set_test, Values.tested, declared.variants.VariantPart.VariantPart}
-use Rattle.core_program.specs.Actions.{◌>>=◌, Action, Fail, Give, NoMeaning, Perform}
+use Rattle.core_program.specs.{Actions.◌>>=◌, Actions.Action, Actions.NoMeaning, Cells.read_value, Cells.write, State.moved, Values.as_tested, Values.set_test}
+use Rattle.core_program.specs.{Values.tested, declared.variants.VariantPart.VariantPart}
 use Rattle.core_program.specs.Choices.{Sought, along, choice_of, choose_at, on_to}
-use Rattle.core_program.specs.Variants.{activate, all_entered, answered, assign_tag, assign_to, at_position, changes, chosen, field_at, field_held, field_in}
-use Rattle.core_program.specs.Variants.{is_at, on_variant, or_activated, part_in, position_at, position_in, tag_accessed, tag_before, tag_of, undefine_cells}
-use Rattle.core_program.specs.Variants.{undefine_if, variant_at, variant_entered, variant_in}
-use Rattle.core_program.specs.WholeTables.{Goes, RowFits, WholeTables, is_access_to, is_choice_of, is_element_of, is_end, is_field_row, is_holder_row, is_list}
-use Rattle.core_program.specs.WholeTables.{is_ordinal_type, is_simple_type, is_statement, is_variant, is_variant_row, is_variants_row}
+use Rattle.core_program.specs.ProgramRows.{ProgramRows, row_at, type_at, type_in}
+use Rattle.core_program.specs.Variants.{activate, all_entered, answered, assign_to, at_position, changes, chosen, field_at, is_at, on_variant, or_activated}
+use Rattle.core_program.specs.Variants.{part_in, position_at, position_in, tag_accessed, tag_before, tag_of, undefine_if, variant_entered, variant_in}
+use Rattle.core_program.specs.WholeTables.{Goes, RowFits, WholeTables, is_access_to, is_choice_of, is_end, is_field_row, is_holder_row, is_list}
+use Rattle.core_program.specs.WholeTables.{is_ordinal_type, is_simple_type, is_variant, is_variant_row, is_variants_row}
 use Rattle.core_program.specs.declared.rows.{AccessRow.AccessRow, ItemRow.ItemRow, NameRow.NameRow, Row.Row, TypeRow.TypeRow}
 use Rattle.core_program.specs.declared.rows.PartRow.TheVariants as part
 

@@ -1,28 +1,19 @@
 -- Where tables are whole each part does only what is meant, and ends as its place takes it.
-use Rattle.std.proofs.Common.{if◌then◌else◌, ◌&&◌, ◌++◌, ◌+◌, ◌<◌, ◌==◌, ◌||◌, ◌∙◌, ◌∷◌, ◌≡◌, ◌≤◌, ◌⊎◌, [], ℕ, ℤ, Bool, List, None, Option, Result, Some, ap}
-use Rattle.std.proofs.Common.{arith, false, inl, inr, is_some, length, nat_lt, refl, slice_get, subst, suc, sym, true, unwrap_or, zero}
-use Rattle.std.{proofs.lemmas.Bool.Decides.nat_tests, specs.Ordering.int_eq}
-use Rattle.cell_value.specs.declared.{faults.OpFault.OpFault, values.Value.Value}
-use Rattle.cell_value.specs.declared.values.Value.TheVariants as value
-use Rattle.core_program.proofs.ActionsMeant.{IsMeant, MayStand, Meant, no}
-use Rattle.core_program.specs.{Accesses.with_formal, Accesses.with_size, Acts.Act, Acts.Answer, Acts.Trouble, Headings.heading_in, Headings.signature_at}
+use Rattle.std.proofs.Common.{if◌then◌else◌, ◌&&◌, ◌||◌, ◌≡◌, ◌≤◌, ◌⊎◌, ℕ, ℤ, Bool, List, None, Option, Some, arith, false, inl, inr, is_some, length, refl}
+use Rattle.std.proofs.Common.{subst, sym, true}
+use Rattle.cell_value.specs.declared.values.Value.{Value}
+use Rattle.core_program.proofs.ActionsMeant.{IsMeant, Meant, no}
+use Rattle.core_program.specs.{Accesses.with_formal, Accesses.with_size, Acts.Answer, Headings.heading_in, declared.components.Components.Components}
 use Rattle.core_program.specs.Accesses.{eval, eval_cells, locate, locate_target, on_address, on_cells, on_scalar, until_end, with_bounds, with_components}
-use Rattle.core_program.specs.Actions.{◌>>=◌, Action, Fail, Give, NoMeaning, Perform}
+use Rattle.core_program.specs.Actions.{Action, Fail, Give, NoMeaning, Perform}
 use Rattle.core_program.specs.ProgramRows.{ProgramRows, routine_at, row_at, type_at, type_in}
 use Rattle.core_program.specs.Tree.{ActTree, Address, Body, Cells, Count, Do, Enter, Establish, Eval, Exec, Gather, Halt, Here, Jump, Line, Locate, Meaningless}
-use Rattle.core_program.specs.Tree.{Nothing, Out, Part, Pass, Print, Receive, RestOfLine, Ret, Scalar, Scanning, Sequence, Sub, Turn, doing}
-use Rattle.core_program.specs.WholeTables.{Goes, RoutineFits, RowFits, ScopedRecords, ScopedRow, WholeTables, gives_one_cell, has_result, is_access}
-use Rattle.core_program.specs.WholeTables.{is_access_to, is_actual_item, is_array_access, is_array_type, is_cells, is_cells_row, is_choice_of, is_element_of}
-use Rattle.core_program.specs.WholeTables.{is_end, is_field_row, is_formal, is_function, is_holder_row, is_list, is_member_item, is_ordinal_type}
-use Rattle.core_program.specs.WholeTables.{is_read_access, is_record_access, is_record_type, is_result_type, is_routine, is_scalar, is_scalar_row}
-use Rattle.core_program.specs.WholeTables.{is_simple_type, is_statement, is_statement_row, is_structured_type, is_turns_row, is_value_for, is_variant}
-use Rattle.core_program.specs.WholeTables.{is_variant_row, is_variants_row, is_written_item, signature_of, type_accessed}
-use Rattle.core_program.specs.declared.{components.Components.Components, headings.Signature.Signature, program.Routine.Routine}
-use Rattle.core_program.specs.declared.{rows.ExpressionRow.ExpressionRow, variants.VariantPart.VariantPart}
-use Rattle.core_program.specs.declared.rows.{AccessRow.AccessRow, ItemRow.ItemRow, NameRow.NameRow, Row.Row, StatementRow.StatementRow, TypeRow.TypeRow}
-use Rattle.core_program.specs.declared.rows.AccessRow.TheVariants as access
-use Rattle.core_program.specs.declared.rows.ItemRow.TheVariants as item
-use Rattle.core_program.specs.declared.rows.PartRow.TheVariants as part
+use Rattle.core_program.specs.Tree.{Out, Part, Pass, Print, Receive, RestOfLine, Ret, Scalar, Scanning, Sequence, Sub, Turn, doing}
+use Rattle.core_program.specs.WholeTables.{RowFits, ScopedRecords, ScopedRow, WholeTables, is_access, is_actual_item, is_array_type, is_cells, is_cells_row}
+use Rattle.core_program.specs.WholeTables.{is_element_of, is_end, is_function, is_list, is_member_item, is_ordinal_type, is_read_access, is_record_access}
+use Rattle.core_program.specs.WholeTables.{is_routine, is_scalar, is_scalar_row, is_simple_type, is_statement, is_structured_type, is_turns_row}
+use Rattle.core_program.specs.WholeTables.{is_written_item, type_accessed}
+use Rattle.core_program.specs.declared.rows.{ExpressionRow.ExpressionRow, NameRow.NameRow, Row.Row, StatementRow.StatementRow, TypeRow.TypeRow}
 
 -- ---- what a place takes
 

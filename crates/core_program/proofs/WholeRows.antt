@@ -1,30 +1,27 @@
 -- Where tables are whole, what each part does is meant.
-use Rattle.std.proofs.Common.{if◌then◌else◌, ◌&&◌, ◌++◌, ◌+◌, ◌<◌, ◌==◌, ◌||◌, ◌∙◌, ◌∷◌, ◌≡◌, ◌≤◌, ◌⊎◌, [], ℕ, ℤ, Bool, List, None, Option, Result, Some, ap}
-use Rattle.std.proofs.Common.{arith, false, inl, inr, is_some, length, nat_lt, not, refl, slice_get, subst, suc, sym, true, zero}
-use Rattle.std.{proofs.lemmas.Bool.Decides.nat_tests, specs.Ordering.int_eq}
+use Rattle.std.proofs.Common.{◌&&◌, ◌++◌, ◌<◌, ◌||◌, ◌∙◌, ◌∷◌, ◌≡◌, ◌≤◌, ◌⊎◌, [], ℕ, Bool, List, None, Option, Result, Some, ap, arith, inl, inr, is_some}
+use Rattle.std.proofs.Common.{length, nat_lt, refl, slice_get, subst, suc, sym, true, zero}
 use Rattle.cell_value.specs.{Arithmetic.arith_of, declared.faults.OpFault.OpFault, declared.values.Value.Value}
-use Rattle.core_program.proofs.ActionsMeant.{IsMeant, MayStand, Meant, cell_meant, component_meant, end_meant, fault_meant, frame_meant, line_end_meant, next}
-use Rattle.core_program.proofs.ActionsMeant.{no, ordinal_meant, pointed_meant, pointer_meant, reads_meant, reference_meant, routine_cell_meant, set_meant}
+use Rattle.core_program.proofs.ActionsMeant.{MayStand, cell_meant, component_meant, end_meant, fault_meant, frame_meant, line_end_meant, next, no}
+use Rattle.core_program.proofs.ActionsMeant.{ordinal_meant, pointed_meant, pointer_meant, reads_meant, reference_meant, routine_cell_meant, set_meant}
 use Rattle.core_program.proofs.WholeActions.{field_meant, tested_meant}
-use Rattle.core_program.proofs.WholeParts.{Anything, Fits, Good, Inside, IsWhole, ManyCells, OneCell, Takes, Variable, and_both, cells_if, cells_not_scalar}
-use Rattle.core_program.proofs.WholeParts.{gives, gives_call, good_after, good_bounds, good_cells, good_components, good_doing, good_eval, good_formal, good_if}
-use Rattle.core_program.proofs.WholeParts.{good_locate, good_size, good_until, in_part, is_value, jump_fits, listed, on_many, on_one, on_variable, opened}
-use Rattle.core_program.proofs.WholeParts.{or_cases, or_left, or_right, or_second, result_if}
-use Rattle.core_program.specs.{Accesses.until_end, Accesses.value_at, Accesses.with_record, Actions.◌>>=◌, Actions.Action, Actions.Give, Heap.pointed_at}
-use Rattle.core_program.specs.{Heap.pointer_at, Heap.pointers_compared, Input.at_end, Input.at_line_end, Tree.Sub, Tree.doing, Variants.field_at}
-use Rattle.core_program.specs.{WholeTables.type_accessed, declared.headings.Signature.Signature, declared.program.Routine.Routine}
-use Rattle.core_program.specs.Accesses.{access_in, address, eval, locate_before, locate_field, of_access, on_address, on_cells, on_scalar, scalar, spend}
+use Rattle.core_program.proofs.WholeParts.{Fits, Good, Inside, IsWhole, ManyCells, OneCell, Takes, Variable, and_both, cells_if, cells_not_scalar, gives}
+use Rattle.core_program.proofs.WholeParts.{gives_call, good_after, good_bounds, good_cells, good_components, good_doing, good_eval, good_formal, good_if}
+use Rattle.core_program.proofs.WholeParts.{good_locate, good_until, in_part, listed, on_many, on_variable, opened, or_cases, or_left, or_right, result_if}
+use Rattle.core_program.specs.{Actions.◌>>=◌, Actions.Give, Expressions.string_in, Expressions.with_frame_size, Heap.pointed_at, Heap.pointer_at}
+use Rattle.core_program.specs.{Heap.pointers_compared, Input.at_end, Input.at_line_end, Variants.field_at}
+use Rattle.core_program.specs.Accesses.{access_in, address, eval, locate_before, locate_field, of_access, on_address, scalar, until_end, value_at, with_record}
 use Rattle.core_program.specs.Cells.{cell_out, component, frame_out, ordinal_at, read_values, reference_out, routine_out, set_at}
 use Rattle.core_program.specs.Expressions.{call, call_formal, enter, expression_in, gather, of_actual, of_expression, of_members, on_actual, operation_result}
-use Rattle.core_program.specs.Expressions.{pass_routine, string_in, with_frame_size}
 use Rattle.core_program.specs.Headings.{heading_in, is_congruous, lists_match, may_stand_for, same_result, signature_at, signatures_match}
 use Rattle.core_program.specs.ProgramRows.{ProgramRows, routine_at, row_at, type_at, type_in}
-use Rattle.core_program.specs.Tree.{ActTree, Address, Cells, Do, Enter, Eval, Gather, Halt, Here, Jump, Line, Locate, Meaningless, Out, Part, Pass, Ret, Scalar}
-use Rattle.core_program.specs.Values.{comparison, function_of, in_set, members_added, or_fault, sets_compared, sets_of, tested, texts_compared, with_sign_of}
-use Rattle.core_program.specs.WholeTables.{RowFits, ScopedRow, WholeTables, gives_one_cell, has_result, is_access, is_access_to, is_actual_item, is_array_type}
-use Rattle.core_program.specs.WholeTables.{is_cells, is_cells_row, is_end, is_field_row, is_formal, is_function, is_list, is_member_item, is_ordinal_type}
-use Rattle.core_program.specs.WholeTables.{is_result_type, is_routine, is_scalar, is_scalar_row, is_simple_type, is_structured_type, is_value_for, signature_of}
-use Rattle.core_program.specs.declared.rows.{AccessRow.AccessRow, ExpressionRow.ExpressionRow, ItemRow.ItemRow, Row.Row, TypeRow.TypeRow}
+use Rattle.core_program.specs.Tree.{ActTree, Cells, Eval, Gather, Here, Jump, Locate, Meaningless, Out, Pass, Ret, Scalar, Sub}
+use Rattle.core_program.specs.Values.{comparison, function_of, in_set, or_fault, sets_compared, sets_of, tested, texts_compared, with_sign_of}
+use Rattle.core_program.specs.WholeTables.{RowFits, ScopedRow, WholeTables, gives_one_cell, has_result, is_access, is_access_to, is_actual_item, is_cells}
+use Rattle.core_program.specs.WholeTables.{is_cells_row, is_field_row, is_formal, is_function, is_list, is_member_item, is_routine, is_scalar, is_scalar_row}
+use Rattle.core_program.specs.WholeTables.{is_simple_type, is_structured_type, is_value_for, signature_of, type_accessed}
+use Rattle.core_program.specs.declared.{headings.Signature.Signature, program.Routine.Routine}
+use Rattle.core_program.specs.declared.rows.{AccessRow.AccessRow, ExpressionRow.ExpressionRow, Row.Row, TypeRow.TypeRow}
 use Rattle.core_program.specs.declared.rows.ExpressionRow.TheVariants as expression
 use Rattle.core_program.specs.declared.rows.ItemRow.TheVariants as item
 

@@ -1,42 +1,39 @@
 -- Where tables are whole, what each statement does is meant; and so is what each part does.
 use Rattle.std.proofs.Common.{if◌then◌else◌, ◌&&◌, ◌++◌, ◌+◌, ◌<◌, ◌==◌, ◌||◌, ◌∙◌, ◌∷◌, ◌≡◌, ◌≤◌, ◌⊎◌, [], ℕ, ℤ, Bool, Err, List, None, Ok, Option, Result}
-use Rattle.std.proofs.Common.{Some, ap, arith, false, inl, inr, is_some, length, nat_lt, refl, slice_get, subst, suc, sym, true, zero}
+use Rattle.std.proofs.Common.{Some, ap, arith, false, inl, inr, is_some, length, nat_lt, refl, subst, suc, sym, true, zero}
 use Rattle.std.{proofs.lemmas.Bool.Decides.nat_tests, specs.Ordering.int_eq}
 use Rattle.cell_value.specs.declared.{faults.OpFault.OpFault, values.Value.Value}
-use Rattle.core_program.proofs.ActionsMeant.{IsMeant, Meant, copies_meant, dispose_meant, end_line_meant, end_page_meant, fault_meant, frame_meant, made_meant}
-use Rattle.core_program.proofs.ActionsMeant.{moved_meant, next, next_char_meant, no, past_meant, pointer_result_meant, read_meant, scan_meant, write_meant}
-use Rattle.core_program.proofs.ActionsMeant.{writes_meant, written_meant}
+use Rattle.core_program.proofs.ActionsMeant.{IsMeant, copies_meant, dispose_meant, end_line_meant, end_page_meant, frame_meant, made_meant, moved_meant, next}
+use Rattle.core_program.proofs.ActionsMeant.{next_char_meant, no, past_meant, pointer_result_meant, read_meant, scan_meant, write_meant, writes_meant}
+use Rattle.core_program.proofs.ActionsMeant.{written_meant}
 use Rattle.core_program.proofs.WholeActions.{Found, assign_meant, enough_items, found_if, found_on, target_ok, tested_meant, there}
-use Rattle.core_program.proofs.WholeParts.{Anything, Fits, Good, Inside, InsideRecords, IsWhole, ManyCells, OneCell, Takes, Variable, and_both, cells_if}
-use Rattle.core_program.proofs.WholeParts.{cells_not_scalar, gives, gives_call, good_after, good_bounds, good_cells, good_components, good_doing, good_eval}
-use Rattle.core_program.proofs.WholeParts.{good_if, good_locate, good_size, good_target, good_until, in_part, is_turn_row, is_value, jump_fits, listed, on_one}
-use Rattle.core_program.proofs.WholeParts.{opened, or_cases, or_left, or_right, or_second, result_if}
+use Rattle.core_program.proofs.WholeParts.{Anything, Fits, Good, Inside, IsWhole, ManyCells, OneCell, Takes, cells_if, cells_not_scalar, gives, gives_call}
+use Rattle.core_program.proofs.WholeParts.{good_after, good_components, good_eval, good_if, good_locate, good_size, good_target, good_until, in_part}
+use Rattle.core_program.proofs.WholeParts.{is_turn_row, jump_fits, listed, on_one, opened, or_cases, or_right, result_if}
 use Rattle.core_program.proofs.WholeRows.{call_formal_good, call_good, eval_good, gather_good, good_value, locate_good, pass_good}
-use Rattle.core_program.specs.{Actions.◌>>=◌, Actions.Action, Cells.frame_out, Cells.read_value, Cells.write, Cells.writes, Heap.dispose, Heap.made_variable}
-use Rattle.core_program.specs.{Heap.pointer_result_at, Input.next_char, Input.past_item, Input.scan_on, Layer.layer, Layer.of_body, Layer.outermost}
-use Rattle.core_program.specs.{State.moved, Values.is_true, Values.tested, Variants.assign_to, Variants.tag_accessed}
-use Rattle.core_program.specs.Accesses.{eval, on_scalar, scalar, spend, until_end, with_components}
-use Rattle.core_program.specs.Choices.{Sought, along, choice_of, choose_at, on_to}
-use Rattle.core_program.specs.Headings.{heading_in, signature_at, signature_in}
+use Rattle.core_program.specs.{Accesses.eval, Accesses.scalar, Accesses.until_end, Actions.Action, Cells.frame_out, Cells.read_value, Cells.write, Cells.writes}
+use Rattle.core_program.specs.{Choices.Sought, Choices.along, Choices.choice_of, Choices.choose_at, Headings.signature_at, Headings.signature_in, Heap.dispose}
+use Rattle.core_program.specs.{Heap.made_variable, Heap.pointer_result_at, Input.next_char, Input.past_item, Input.scan_on, Layer.layer, Layer.of_body}
+use Rattle.core_program.specs.{Layer.outermost, State.moved, Values.is_true, Values.tested, Variants.tag_accessed}
 use Rattle.core_program.specs.Output.{Text, char_type, end_line, end_page, written}
 use Rattle.core_program.specs.Packing.{copies, first_moved, moves, pack, with_array}
 use Rattle.core_program.specs.ProgramRows.{ProgramRows, routine_at, row_at, type_at, type_in}
 use Rattle.core_program.specs.Run.{or_no_result, result_of_type, result_read, return_of, type_in_heading, whole}
 use Rattle.core_program.specs.Statements.{bounds, bounds_tested, choose, chosen_by, finally, first_turn, has_label, has_turn, inside, item_labelled, jumped}
-use Rattle.core_program.specs.Statements.{labelled_in, nothing, of_count, of_records, of_sequence, of_statement, of_turn, on_labelled, on_normal, on_statement}
-use Rattle.core_program.specs.Statements.{on_value, point, put_into, statement_in, turn_after, undefine, value_after}
-use Rattle.core_program.specs.Transfers.{into, of_printed, of_received, of_rest_of_line, of_scan, on_scanned, on_text, print, read_for, received, with_host}
-use Rattle.core_program.specs.Tree.{ActTree, Address, Body, Cells, Count, Do, Enter, Establish, Eval, Exec, Gather, Halt, Here, Jump, Line, Locate, Meaningless}
-use Rattle.core_program.specs.Tree.{Nothing, Out, Part, Pass, Print, Receive, RestOfLine, Ret, Scalar, Scanning, Sequence, Sub, Turn, doing}
-use Rattle.core_program.specs.WholeTables.{Goes, RowFits, ScopedItem, ScopedRecords, ScopedRow, WholeTables, has_result, is_access, is_access_to}
-use Rattle.core_program.specs.WholeTables.{is_array_access, is_array_type, is_cells, is_choice_of, is_element_of, is_end, is_function, is_list, is_ordinal}
-use Rattle.core_program.specs.WholeTables.{is_ordinal_type, is_read_access, is_record_access, is_record_type, is_result_type, is_routine, is_scalar}
-use Rattle.core_program.specs.WholeTables.{is_simple_type, is_statement, is_statement_row, is_turns_row, is_value_for, is_written_item, type_accessed}
-use Rattle.core_program.specs.declared.{components.Components.Components, headings.Signature.Signature, program.Routine.Routine, rows.StatementRow.StatementRow}
-use Rattle.core_program.specs.declared.rows.{AccessRow.AccessRow, Direction.Direction, ItemRow.ItemRow, PartRow.PartRow, Row.Row, TypeRow.TypeRow}
+use Rattle.core_program.specs.Statements.{labelled_in, nothing, of_count, of_records, of_sequence, of_turn, on_labelled, on_normal, on_statement, on_value}
+use Rattle.core_program.specs.Statements.{point, statement_in, turn_after, undefine, value_after}
+use Rattle.core_program.specs.Transfers.{into, of_printed, of_received, of_rest_of_line, on_scanned, on_text, print, read_for, received, with_host}
+use Rattle.core_program.specs.Tree.{ActTree, Body, Cells, Count, Establish, Eval, Exec, Gather, Here, Jump, Locate, Meaningless, Out, Part, Pass, Print}
+use Rattle.core_program.specs.Tree.{Receive, RestOfLine, Ret, Scalar, Scanning, Sequence, Sub, Turn}
+use Rattle.core_program.specs.WholeTables.{RowFits, ScopedItem, ScopedRecords, ScopedRow, WholeTables, has_result, is_access, is_access_to, is_array_access}
+use Rattle.core_program.specs.WholeTables.{is_array_type, is_cells, is_choice_of, is_element_of, is_end, is_function, is_list, is_ordinal, is_ordinal_type}
+use Rattle.core_program.specs.WholeTables.{is_read_access, is_record_access, is_record_type, is_result_type, is_scalar, is_simple_type, is_statement}
+use Rattle.core_program.specs.WholeTables.{is_statement_row, is_turns_row, is_written_item, type_accessed}
+use Rattle.core_program.specs.declared.{components.Components.Components, program.Routine.Routine}
+use Rattle.core_program.specs.declared.rows.{Direction.Direction, PartRow.PartRow, Row.Row, StatementRow.StatementRow, TypeRow.TypeRow}
 use Rattle.core_program.specs.declared.rows.ItemRow.TheVariants as item
 use Rattle.core_program.specs.declared.rows.TypeRow.TheVariants as kind
-use Rattle.core_program.specs.declared.scan.{Scan.Scan, Scan.TheVariants.Blanks, Scanned.Scanned, Scanned.TheVariants.Further, Scanned.TheVariants.Whole}
+use Rattle.core_program.specs.declared.scan.Scanned.{Scanned, TheVariants.Further, TheVariants.Whole}
 
 module _ (p : ProgramRows) (W : WholeTables p) where
   done : (part : Part) → IsWhole p W part → Good p W Anything (Sub part Ret)

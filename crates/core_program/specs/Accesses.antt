@@ -1,8 +1,8 @@
 -- What each access does (6.5), and the parts of constructs that evaluate and locate.
 use Rattle.std.specs.Prelude.{if◌then◌else◌, [], ℕ, ℤ, Bool, List, None, Option, Some, false, nat_lt, slice_get, true}
 use Rattle.cell_value.specs.declared.values.Value.{Value}
-use Rattle.core_program.specs.{Headings.heading_in, declared.rows.Row.Row, declared.rows.TypeRow.TypeRow}
 use Rattle.core_program.specs.ProgramRows.{ProgramRows, cells_in, row_at, type_at}
+use Rattle.core_program.specs.declared.rows.{Row.Row, TypeRow.TypeRow}
 use Rattle.core_program.specs.declared.rows.AccessRow.{AccessRow, TheVariants.Within}
 use Rattle.core_program.specs.declared.rows.AccessRow.TheVariants.{Dereference, Field, Index, Reference, Variable}
 use Rattle.core_program.specs.declared.rows.NameRow.TheVariants as named

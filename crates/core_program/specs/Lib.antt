@@ -13,6 +13,7 @@ pub mod Heap
 pub mod Input
 pub mod Laws
 pub mod Layer
+pub mod Lists
 pub mod Numbering
 pub mod Output
 pub mod Packing

@@ -5,8 +5,8 @@ use Rattle.std.specs.Ordering.{int_eq}
 use Rattle.cell_value.specs.declared.values.Value.{Value}
 use Rattle.cell_value.specs.declared.values.Value.TheVariants as value
 use Rattle.cell_value.specs.declared.ways_out.Kind.TheVariants as kind
-use Rattle.core_program.specs.{Actions.◌>>=◌, Actions.Action, Acts.Fault, Cells.frame_out, Cells.write, Cells.writes}
-use Rattle.core_program.specs.{State.moved, Values.is_true, Values.tested, WholeTables.is_end}
+use Rattle.core_program.specs.{Actions.◌>>=◌, Actions.Action, Acts.Fault, State.moved, Values.is_true, Values.tested}
+use Rattle.core_program.specs.Cells.{frame_out, write, writes}
 use Rattle.core_program.specs.ProgramRows.{ProgramRows, row_at, type_at}
 use Rattle.core_program.specs.Tree.{ActTree, Cells, Count, Establish, Eval, Exec, Halt, Here, Jump, Line, Nothing, Out}
 use Rattle.core_program.specs.Tree.{Print, Receive, RestOfLine, Ret, Scalar, Sequence, Sub, Turn, doing}

@@ -9,10 +9,12 @@ mod classes;
 mod components;
 mod headings;
 mod laws;
+mod long_lists;
 mod program;
 pub mod rows;
 mod run_laws;
 mod scan;
+mod search;
 mod tables;
 mod variants;
 

@@ -1,13 +1,15 @@
 //! A program.
 
 ghost use Rattle.std.specs.Prelude.{◌<◌, ◌≡◌, IfOk, Some, length};
-ghost use Rattle.core_program.specs.{ProgramRows.type_at, WholeTables.WholeTables};
-ghost use Rattle.core_program.specs.Headings.{lists_match, signature_at};
+ghost use Rattle.core_program.specs.{Choices.choice_of, Headings.lists_match, Headings.signature_at};
+ghost use Rattle.core_program.specs.{ProgramRows.type_at, Statements.labelled_in, WholeTables.WholeTables};
 ghost use Rattle.core_program.specs.ProgramRows.{frame_of, name_of, offset_of, routine_at, row_at, size_of, text_at};
 
 use crate::classes::{class_at, classes_of};
 use crate::headings::{Signature, signature_at};
-use crate::rows::{Row, TypeRow};
+use crate::long_lists::LongLists;
+use crate::rows::{LIST_END, Row, TypeRow};
+use crate::search::ListKind;
 use crate::tables::ProgramTables;
 use std::alloc::{AllocError, Global};
 use std::marker::Model;
@@ -39,19 +41,25 @@ pub struct Program {
     main: Routine,
     // By number, the class of the list of sections there: the same for two lists exactly if they match.
     classes: Vec<u32>,
+    // The long lists of constants, and of statements: what is found in them is what a search along them finds.
+    constants: LongLists,
+    statements: LongLists,
 }
 
 impl Model for Program {
     ghost use Rattle.std.specs.Prelude.{◌≡◌, Some};
-    ghost use Rattle.core_program.specs.{Classes.AreClasses, WholeTables.WholeTables};
+    ghost use Rattle.core_program.specs.{Classes.AreClasses, Lists.AreLong, Lists.found_at, WholeTables.WholeTables};
     ghost use Rattle.core_program.specs.ProgramRows.{ProgramRows, routine_at};
+    ghost use Rattle.core_program.specs.declared.search.ListKind.{ListKind};
 
     ghost Value = { ProgramRows };
 
     ghost view = { λ p. p.tables };
 
     ghost invariant = { λ p. WholeTables p.tables × (routine_at p.tables 0 ≡ Some p.main)
-        × AreClasses p.tables p.classes.items };
+        × AreClasses p.tables p.classes.items
+        × AreLong p.tables ListKind.Constants p.constants.tails.items (found_at p.constants.found)
+        × AreLong p.tables ListKind.Statements p.statements.tails.items (found_at p.statements.found) };
 }
 
 impl Program {
@@ -62,10 +70,14 @@ impl Program {
     {
         let main = tables.routine(0).unwrap();
         let classes = classes_of(alloc, &tables)?;
+        let constants = LongLists::new(alloc, &tables, ListKind::Constants)?;
+        let statements = LongLists::new(alloc, &tables, ListKind::Statements)?;
         Ok(Program {
             tables,
             main,
             classes,
+            constants,
+            statements,
         })
     }
 
@@ -125,6 +137,35 @@ impl Program {
         ensures { result ≡ lists_match (length self.now.rows) self.now left right }
     {
         class_at(&self.classes, left) == class_at(&self.classes, right)
+    }
+
+    /// What a constant of this value chooses, if it chooses something, in a list of constants: a statement of a case
+    /// statement (6.8.3.5), or a variant of a variant part (6.4.3.3). There is no answer where the list does not end as
+    /// it says.
+    #[inline(always)]
+    #[tactic(auto, using(crate::proofs::ItemsInOrder::found))]
+    pub fn choice_of(&self, choices: u32, value: i64) -> Option<Option<u32>>
+        ensures { result ≡ choice_of self.now (length self.now.rows) choices value }
+    {
+        if choices == LIST_END {
+            Some(None)
+        } else {
+            self.constants
+                .find(&self.tables, ListKind::Constants, choices, value)
+        }
+    }
+
+    /// The item of the statement that has a label, if one has it, in a sequence (6.8.1). Each item stands after the one
+    /// before it. There is no answer where the list does not end as it says.
+    #[tactic(auto, using(crate::proofs::ItemsInOrder::found))]
+    pub fn labelled_in(&self, first: u32, label: u32) -> Option<Option<u32>>
+        ensures { result ≡ labelled_in self.now (length self.now.rows) first label }
+    {
+        if first == LIST_END {
+            Some(None)
+        } else {
+            self.statements.find(&self.tables, ListKind::Statements, first, i64::from(label))
+        }
     }
 
     /// How many routines there are.

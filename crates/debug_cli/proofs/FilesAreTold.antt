@@ -7,9 +7,9 @@ use Rattle.session_file.specs.{Reading.session_of, declared.session.LoadFault.Lo
 use Rattle.made_program.specs.{Lines.made_lines, Source.made_source}
 use Rattle.command_words.specs.Meaning.{Requested, Source}
 use Rattle.debuggee.specs.{Execution.Execution, Execution.execution_of, Limits.most_steps, Program.IsProgram, Subjects.subject_of}
-use Rattle.debug_cli.specs.{Laws.OneRun, Outside.NoFetchFailed}
+use Rattle.debug_cli.specs.{Laws.OneRun, Limits.session_bytes, Outside.NoFetchFailed}
 use Rattle.debug_cli.specs.Named.{Begun, Checked, FileSought, IsFetchFault, IsFetched, IsInput, IsSaved, IsSought, MadeProgram, NotFetched, SessionRefused}
-use Rattle.debug_cli.specs.Named.{SourceRefused, Supplied, made_text, session_bytes, start_in, subject_in}
+use Rattle.debug_cli.specs.Named.{SourceRefused, Supplied, made_text, start_in, subject_in}
 
 same_some : {A : Type 0} {a b : A} → Some a ≡ Some b → a ≡ b
 same_some e = cc

@@ -5,8 +5,8 @@ use Rattle.session_file.specs.{Reading.session_of, declared.session.LoadFault.Lo
 use Rattle.ask_session.specs.Outside.{Outside}
 use Rattle.command_words.specs.Meaning.{Meant, Requested, Source}
 use Rattle.debuggee.specs.{Program.IsRefused, declared.source.SourceFault.SourceFault}
-use Rattle.debug_cli.specs.{Goes.Owes, Refusals.IsRefusal, Refusals.file_told, Refusals.session_told, Texts.file_line, Texts.session_line}
-use Rattle.debug_cli.specs.Named.{FileSought, IsFetchFault, IsFetched, IsSought, IsSource, Supplied, session_bytes}
+use Rattle.debug_cli.specs.{Goes.Owes, Limits.session_bytes, Refusals.IsRefusal, Refusals.file_told, Refusals.session_told, Texts.file_line, Texts.session_line}
+use Rattle.debug_cli.specs.Named.{FileSought, IsFetchFault, IsFetched, IsSought, IsSource, Supplied}
 use Rattle.debug_cli.specs.declared.{refusals.Refusal.Refusal, status.Status.Status}
 
 same_some : {A : Type 0} {a b : A} → Some a ≡ Some b → b ≡ a

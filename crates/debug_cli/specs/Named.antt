@@ -14,6 +14,7 @@ use Rattle.command_words.specs.Meaning.{Made, Meant, Requested, Source, meant}
 use Rattle.debuggee.specs.{Execution.execution_of, Limits.input_bytes, Limits.most_steps, Subjects.subject_of}
 use Rattle.debuggee.specs.Program.{IsProgram, NoProgram, Refuses}
 use Rattle.debuggee.specs.declared.refusal.SourceRefusal.{SourceRefusal}
+use Rattle.debug_cli.specs.Limits.{session_bytes}
 
 -- the words of the command, the program's name first
 abbrev pub Words : Type 0
@@ -22,10 +23,6 @@ Words = List (String Global)
 -- what they mean, if anything
 abbrev pub meaning : Words → Option Meant
 meaning words = meant (map string_bytes words)
-
--- the most bytes of a session's file
-abbrev pub session_bytes : ℕ
-session_bytes = 67108864
 
 -- ---- files that were fetched
 

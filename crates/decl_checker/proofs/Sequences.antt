@@ -9,9 +9,10 @@ use Rattle.pas_tree.specs.declared.statements.Plain.TheBlock.{hidden-the_row-Nex
 use Rattle.pas_tree.specs.declared.statements.Statements.{Row_of-NextStatement, Statements, end_of-NextStatement, is-Statements', items-the_row-NextStatement}
 use Rattle.pas_tree.specs.declared.statements.Statements.{items_hidden-the_row-NextStatement-1, more_of-NextStatement, out-Statements}
 use Rattle.check_steps.{proofs.Runs.bind-assoc, specs.Steps.◌>>=◌, specs.Steps.Step, specs.Steps.each}
+use Rattle.denoter_checker.specs.Variants.{constants_uses}
 use Rattle.decl_checker.specs.Accesses.{expression_uses}
-use Rattle.decl_checker.specs.Statements.{actual_uses, case_uses, compound_uses, constants_uses, else_of, else_uses, if_uses, inside_access, inside_next}
-use Rattle.decl_checker.specs.Statements.{more_branches, more_statements, next_actual, next_branch, next_statement, plain_uses, repeat_uses, statements_uses}
+use Rattle.decl_checker.specs.Statements.{actual_uses, case_uses, compound_uses, else_of, else_uses, if_uses, inside_access, inside_next, more_branches}
+use Rattle.decl_checker.specs.Statements.{more_statements, next_actual, next_branch, next_statement, plain_uses, repeat_uses, statements_uses}
 
 statements_each : (frame n : _) (r : Row_of-NextStatement n) (u : Unit {0})
     → more_statements frame r ≡ each (next_statement frame) u (items-the_row-NextStatement n r)

@@ -2,7 +2,6 @@
 use Rattle.std.specs.Prelude.{if◌then◌else◌, ◌+◌, ℕ, None, Option, Some, nat_lt}
 use Rattle.std.specs.Global.{Box}
 use Rattle.pas_tree.specs.declared.{expressions.Access.Access, statements.NextStatement.NextStatement}
-use Rattle.pas_tree.specs.declared.constants.{Constants.Constants, NextConstant.NextConstant}
 use Rattle.pas_tree.specs.declared.statements.{Actual.Actual, Actuals.Actuals, Assignment.Assignment}
 use Rattle.pas_tree.specs.declared.statements.{Case.more_of-NextBranch, Else.Else, NextAccess.NextAccess}
 use Rattle.pas_tree.specs.declared.statements.{NextActual.NextActual, NextBranch.NextBranch, Width.Width}
@@ -17,7 +16,7 @@ use Rattle.pas_tree.specs.declared.statements.Statements.{end_of-NextStatement, 
 use Rattle.core_program.specs.declared.rows.TypeRow.{TypeRow}
 use Rattle.check_steps.specs.Known.{frame_at, type_at}
 use Rattle.check_steps.specs.Steps.{◌>>=◌, Step, each, give, look, open_frame}
-use Rattle.kind_checker.specs.Constants.{constant}
+use Rattle.denoter_checker.specs.Variants.{constants_uses}
 use Rattle.decl_checker.specs.Accesses.{access_type, access_uses, expression_uses, name_use}
 
 -- ---- assignments and calls
@@ -47,18 +46,6 @@ some_actuals_uses frame a = do
 abbrev pub actuals_uses : ℕ → Option (Box Actuals) → Step (Unit {0})
 actuals_uses frame None = give tt
 actuals_uses frame (Some a) = some_actuals_uses frame a.value
-
--- ---- case constants
-
-unfoldable pub next_constant : ℕ → Unit {0} → NextConstant → Step (Unit {0})
-next_constant frame u n = do
-  _ ← constant frame n.constant
-  give tt
-
-unfoldable pub constants_uses : ℕ → Constants → Step (Unit {0})
-constants_uses frame c = do
-  _ ← constant frame c.first
-  each (next_constant frame) tt c.others.items
 
 -- ---- with statements
 

@@ -3,16 +3,15 @@
 ghost use Rattle.std.specs.Prelude.{◌≡◌, IfOk};
 ghost use Rattle.check_steps.specs.Steps.{Does, each};
 ghost use Rattle.decl_checker.specs.Statements.{actual_uses, actuals_uses, assignment_uses, case_uses, compound_uses};
-ghost use Rattle.decl_checker.specs.Statements.{constants_uses, fields_in, if_uses, inside_access, inside_next};
-ghost use Rattle.decl_checker.specs.Statements.{next_actual, next_constant, one_more_with, open_fields, plain_uses};
-ghost use Rattle.decl_checker.specs.Statements.{repeat_uses, some_actuals_uses, statements_uses, width_uses};
+ghost use Rattle.decl_checker.specs.Statements.{fields_in, if_uses, inside_access, inside_next, next_actual};
+ghost use Rattle.decl_checker.specs.Statements.{one_more_with, open_fields, plain_uses, repeat_uses, some_actuals_uses};
+ghost use Rattle.decl_checker.specs.Statements.{statements_uses, width_uses};
 
 use crate::accesses::use_name;
 use crate::expressions::{check_access, use_access, use_expression};
 use check_steps::{Frame, Work};
 use core_program::rows::TypeRow;
-use kind_checker::constants::check_constant;
-use pas_tree::constants::{Constants, NextConstant};
+use denoter_checker::variants::use_constants;
 use pas_tree::expressions::Access;
 use pas_tree::statements::{
     Actual, Actuals, Assignment, Case, Compound, If, NextAccess, NextActual, Plain, Repeat,
@@ -71,30 +70,6 @@ fn use_actuals(work: &mut Work, actuals: &Option<Box<Actuals>>, frame: u32)
         None => {}
         Some(actuals) => use_some_actuals(work, actuals, frame),
     }
-}
-
-#[tactic(auto, using(check_steps::proofs::Runs::steps), unfolding(crate::specs::Statements::next_constant))]
-fn use_next_constant(work: &mut Work, n: &NextConstant, frame: u32)
-    ensures { Does (next_constant frame tt n.now) tt work.old work.new }
-{
-    check_constant(work, frame, &n.constant);
-}
-
-#[tactic(auto, using(check_steps::proofs::Runs::read_loops))]
-fn use_more_constants(work: &mut Work, others: &[NextConstant], frame: u32)
-    ensures { Does (each (next_constant frame) tt others.now) tt work.old work.new }
-{
-    'others: for other in others {
-        use_next_constant(work, other, frame);
-    }
-}
-
-#[tactic(auto, using(check_steps::proofs::Runs::steps), unfolding(crate::specs::Statements::constants_uses))]
-fn use_constants(work: &mut Work, c: &Constants, frame: u32)
-    ensures { Does (constants_uses frame c.now) tt work.old work.new }
-{
-    check_constant(work, frame, &c.first);
-    use_more_constants(work, &c.others, frame);
 }
 
 /// The region of the fields of a record type.

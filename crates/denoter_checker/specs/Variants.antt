@@ -7,7 +7,8 @@ use Rattle.pas_tree.specs.declared.denoters.{NextArm.NextArm, TagField.TagField}
 use Rattle.core_program.specs.declared.rows.{ItemRow.ItemRow, NameRow.NameRow, PartRow.PartRow, Row.Row}
 use Rattle.check_steps.specs.{Items.add_item, Known.Known, Known.is_chosen, Known.type_at}
 use Rattle.check_steps.specs.Steps.{◌>>=◌, Step, add_chosen, each, give, late, look, put}
-use Rattle.kind_checker.specs.{Constants.constant, Sizes.capped, Sizes.host_of, Types.named_type, Types.ordinal}
+use Rattle.kind_checker.specs.{Sizes.capped, Sizes.host_of, Types.named_type, Types.ordinal}
+use Rattle.kind_checker.specs.Constants.{constant, constant_again}
 use Rattle.kind_checker.specs.declared.constants.ConstantValue.{ConstantValue, TheVariants.Ordinal, TheVariants.Text}
 use Rattle.denoter_checker.specs.declared.variants.{Choosing.Choosing, Listed.Listed, PartPlace.PartPlace}
 
@@ -34,6 +35,19 @@ named_tag p field name = do
 abbrev pub tag_part : PartPlace → Option TagField → ℕ → Step ℕ
 tag_part p None name = hidden_tag p name
 tag_part p (Some f) name = named_tag p f.name name
+
+-- ---- the names and signs of case constants
+
+-- rules 1, 3 and 4, each constant once
+unfoldable pub next_constant : ℕ → Unit {0} → NextConstant → Step (Unit {0})
+next_constant frame u n = do
+  _ ← constant frame n.constant
+  give tt
+
+unfoldable pub constants_uses : ℕ → Constants → Step (Unit {0})
+constants_uses frame c = do
+  _ ← constant frame c.first
+  each (next_constant frame) tt c.others.items
 
 -- ---- lists of the values that choose
 
@@ -66,7 +80,7 @@ listed_choice list (Some value) chosen last slot = chosen_value list value chose
 -- statement or variant part
 unfoldable pub case_constant : Choosing → ℕ → ℕ → ℕ → Constant → Step ℕ
 case_constant c chosen last slot x = do
-  v ← constant c.frame x
+  v ← constant_again c.frame x
   fine ← look (λ k. is_choice k c v)
   _ ← late 22 (first_of_constant x) fine
   listed_choice c.list (value_if fine v) chosen last slot
@@ -85,10 +99,11 @@ choices c chosen last slot xs = do
 abbrev pub one_more : ℕ → ℕ
 one_more n = if nat_lt n 4294967295 then n + 1 else n
 
--- a variant, at its `(`, and the values that choose it
+-- a variant, at its `(`, its constants, and the values that choose it
 unfoldable pub arm_choices : Choosing → Listed → ℕ → ℕ → Constants → Step Listed
 arm_choices c l slot open' constants = do
   _ ← put open' (Row.Part (PartRow.Variant l.variants (one_more l.position)))
+  _ ← constants_uses c.frame constants
   last ← choices c open' l.last slot constants
   give (record { variants = l.variants; last = last; position = one_more l.position })
 

@@ -3,15 +3,15 @@
 ghost use Rattle.std.specs.Prelude.{◌≡◌, IfOk};
 ghost use Rattle.check_steps.specs.Steps.{Does, each};
 ghost use Rattle.denoter_checker.specs.Variants.{add_choice, arm_choices, case_constant, choices, choosing_at};
-ghost use Rattle.denoter_checker.specs.Variants.{chosen_value, hidden_tag, is_choice, listed_choice, named_tag};
-ghost use Rattle.denoter_checker.specs.Variants.{next_arm_choices, next_choice, nothing_listed, one_more, tag_part};
-ghost use Rattle.denoter_checker.specs.Variants.{tag_type, value_if, variant_part};
+ghost use Rattle.denoter_checker.specs.Variants.{chosen_value, constants_uses, hidden_tag, is_choice, listed_choice};
+ghost use Rattle.denoter_checker.specs.Variants.{named_tag, next_arm_choices, next_choice, next_constant};
+ghost use Rattle.denoter_checker.specs.Variants.{nothing_listed, one_more, tag_part, tag_type, value_if, variant_part};
 
 use check_steps::items::put_item;
 use check_steps::{Tables, Work};
 use core_program::rows::{ItemRow, LIST_END, NameRow, PartRow, Row};
 use kind_checker::ConstantValue;
-use kind_checker::constants::check_constant;
+use kind_checker::constants::{check_constant, check_constant_again};
 use kind_checker::sizes::{host_of, offset_after};
 use kind_checker::types::{check_named_type, check_ordinal};
 use pas_tree::constants::{Constant, Constants, NextConstant};
@@ -96,6 +96,31 @@ pub(crate) fn check_tag(work: &mut Work, place: PartPlace, tag: &Tag) -> u32
     }
 }
 
+#[tactic(auto, using(check_steps::proofs::Runs::steps), unfolding(crate::specs::Variants::next_constant))]
+fn use_next_constant(work: &mut Work, n: &NextConstant, frame: u32)
+    ensures { Does (next_constant frame tt n.now) tt work.old work.new }
+{
+    check_constant(work, frame, &n.constant);
+}
+
+#[tactic(auto, using(check_steps::proofs::Runs::read_loops))]
+fn use_more_constants(work: &mut Work, others: &[NextConstant], frame: u32)
+    ensures { Does (each (next_constant frame) tt others.now) tt work.old work.new }
+{
+    'others: for other in others {
+        use_next_constant(work, other, frame);
+    }
+}
+
+/// The names and signs of case constants.
+#[tactic(auto, using(check_steps::proofs::Runs::steps), unfolding(crate::specs::Variants::constants_uses))]
+pub fn use_constants(work: &mut Work, c: &Constants, frame: u32)
+    ensures { Does (constants_uses frame c.now) tt work.old work.new }
+{
+    check_constant(work, frame, &c.first);
+    use_more_constants(work, &c.others, frame);
+}
+
 fn is_choice(tables: &Tables, choosing: Choosing, value: Option<ConstantValue>) -> bool
     ensures { result ≡ is_choice tables.now choosing value }
 {
@@ -177,7 +202,7 @@ fn check_choice(
 ) -> Result<u32, AllocError>
     ensures { IfOk result (λ n. Does (case_constant choosing chosen last slot c.now) n work.old work.new) }
 {
-    let value = check_constant(work, choosing.frame, c);
+    let value = check_constant_again(work, choosing.frame, c);
     let fine = is_choice(&work.tables, choosing, value);
     work.late(22, first_of_constant(c), fine);
     add_listed(
@@ -258,6 +283,7 @@ pub(crate) fn check_arm_choices(
     let position = one_more(listed.position);
     let row = PartRow::Variant { variants, position };
     work.put(paren, Row::Part(row));
+    use_constants(work, constants, choosing.frame);
     let last = check_choices(work, choosing, paren, listed.last, slot, constants)?;
     Ok(Listed {
         variants,

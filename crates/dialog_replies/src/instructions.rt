@@ -61,7 +61,7 @@ impl<'a> FileName<'a> {
     }
 }
 
-/// A note, as it was typed: 1 to 100 bytes from 32 to 126. Clauses see its bytes.
+/// A note, as it was typed. Clauses see its bytes.
 #[derive(Drop)]
 pub struct NoteText<'a> {
     text: &'a str,

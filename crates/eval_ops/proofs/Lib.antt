@@ -2,7 +2,6 @@ pub mod ActionsCompose
 mod Bounds
 pub mod CallsInFrames
 pub mod FramesByCell
-mod ItemsInOrder
 pub mod Lists
 mod NextCells
 mod NextUndefined

@@ -6,7 +6,6 @@ ghost use Rattle.core_program.specs.Variants as action;
 ghost use Rattle.eval_ops.specs.Machines.{DoesAll, IsReady, machine_state, moment_of};
 
 use crate::cells::assign;
-use crate::choices::chosen;
 use crate::frames::moved;
 use crate::halt::{Halt, passed_test};
 use crate::machine::{Machine, read_cell, write_cell};
@@ -96,7 +95,7 @@ fn chosen_position(program: &Program, part: VariantPart, tag: Value) -> Option<O
             if part.hidden {
                 Some(Some(number))
             } else {
-                position_at(program, chosen(program, part.values, number))
+                position_at(program, program.choice_of(part.values, number))
             }
         }
         _ => Some(None),

@@ -1,7 +1,7 @@
 -- What follows a statement.
 use Rattle.std.proofs.Common.{◌≡◌, ◌≤◌, ℕ, List, arith, refl}
 use Rattle.cell_value.specs.declared.values.Value.{Value}
-use Rattle.core_program.specs.{Accesses.no_row, ProgramRows.ProgramRows, Tree.ActTree, Tree.Out, Tree.Ret}
+use Rattle.core_program.specs.{ProgramRows.ProgramRows, Tree.ActTree, Tree.Out, Tree.Ret}
 use Rattle.core_program.specs.Tree as parts
 use Rattle.evaluator.specs.{Records.SameFrame, Weight.task_weight, declared.tasks.TransferTask.TransferTask}
 use Rattle.evaluator.specs.Rest.{after_part, after_statement, home_below}
@@ -31,26 +31,13 @@ statement_ended p home (Next.EndLine line) vs = all_one (λ v. refl) (λ ws. ref
 pub other_leaps : (p : ProgramRows) (home : Home) (t : Task) (vs : List Value) (ls : List (List Value)) (label base : ℕ)
     → ((n : Next) → t ≡ Task.Next n → ⊥) → after_part p home t vs ls (parts.Jump label base) ≡ Ret (parts.Jump label base)
 other_leaps p home (Task.Next n) vs ls label base f = absurd (f n refl)
-other_leaps p home (Task.Transfer (TransferTask.Integer a b c d)) vs ls label base f = refl
-other_leaps p home (Task.Transfer (TransferTask.Into a b c d)) vs ls label base f = refl
+other_leaps p home (Task.Transfer (TransferTask.Integer a)) vs ls label base f = refl
+other_leaps p home (Task.Transfer (TransferTask.Into a)) vs ls label base f = refl
 other_leaps p home (Task.Transfer (TransferTask.Written a b c)) vs ls label base f = refl
 other_leaps p home (Task.Transfer (TransferTask.Wide a b c d)) vs ls label base f = refl
 other_leaps p home (Task.Transfer (TransferTask.Width a b c)) vs ls label base f = refl
 other_leaps p home (Task.Transfer (TransferTask.TextWidth a b)) vs ls label base f = refl
 other_leaps p home t vs ls label base f = refl
-
--- a task that no statement ends has no row
-pub other_nothing : (p : ProgramRows) (home : Home) (t : Task) (vs : List Value) (ls : List (List Value))
-    → ((n : Next) → t ≡ Task.Next n → ⊥) → (t ≡ Task.Leave → ⊥) → after_part p home t vs ls parts.Nothing ≡ no_row
-other_nothing p home (Task.Next n) vs ls f g = absurd (f n refl)
-other_nothing p home Task.Leave vs ls f g = absurd (g refl)
-other_nothing p home (Task.Transfer (TransferTask.Integer a b c d)) vs ls f g = refl
-other_nothing p home (Task.Transfer (TransferTask.Into a b c d)) vs ls f g = refl
-other_nothing p home (Task.Transfer (TransferTask.Written a b c)) vs ls f g = refl
-other_nothing p home (Task.Transfer (TransferTask.Wide a b c d)) vs ls f g = refl
-other_nothing p home (Task.Transfer (TransferTask.Width a b c)) vs ls f g = refl
-other_nothing p home (Task.Transfer (TransferTask.TextWidth a b)) vs ls f g = refl
-other_nothing p home t vs ls f g = refl
 
 pub other_lands : (p : ProgramRows) (home : Home) (n : Next) (vs : List Value) (label base : ℕ)
     → ((a b c : ℕ) → n ≡ Next.Sequence a b c → ⊥) → ((a b c : ℕ) → n ≡ Next.Labelled a b c → ⊥)

@@ -1,22 +1,17 @@
 -- Statements by their rows.
-use Rattle.std.proofs.Common.{◌∙◌, ◌≡◌, ℕ, ℤ, Bool, None, Option, Some, ap, option_map, refl}
+use Rattle.std.proofs.Common.{◌∙◌, ◌≡◌, ℕ, ℤ, None, Option, Some, ap, option_map, refl}
 use Rattle.cell_value.specs.declared.{values.Value.Value, ways_out.Kind.Kind}
 use Rattle.core_program.specs.{Accesses.eval, Accesses.locate, Accesses.no_row, Acts.Fault, ProgramRows.ProgramRows, ProgramRows.row_at}
-use Rattle.core_program.specs.{Statements.statement_in, declared.rows.ItemRow.ItemRow, declared.rows.Row.Row, declared.rows.StatementRow.StatementRow}
-use Rattle.core_program.specs.Statements.{begins, bounds, first_turn, inside, line_of, of_records, of_sequence, of_statement, of_turn, on_statement, statement}
+use Rattle.core_program.specs.Statements.{begins, bounds, first_turn, inside, line_of, of_records, of_sequence, of_statement, on_statement, statement}
 use Rattle.core_program.specs.Tree.{ActTree, Halt, Here, Line, Ret, Sub}
 use Rattle.core_program.specs.Tree as parts
-use Rattle.core_program.specs.declared.rows.StatementRow.TheVariants.{Assign, Call, CallFormal, Case, Compound, Dispose, Empty, For, Goto, If, IfElse, Labelled}
-use Rattle.core_program.specs.declared.rows.StatementRow.TheVariants.{New, Pack, Page, Read, Repeat, Turns, While, With, Write}
+use Rattle.core_program.specs.declared.rows.{ItemRow.ItemRow, Row.Row}
+use Rattle.core_program.specs.declared.rows.StatementRow.{StatementRow, TheVariants.Compound, TheVariants.Empty, TheVariants.Labelled, TheVariants.Turns}
 use Rattle.eval_ops.specs.{Counting.both_there, Counting.span_in, Counting.turns_in, Counting.turns_row, Items.element_in}
 use Rattle.eval_ops.specs.declared.counting.{Counting.Counting, ForProgress.ForProgress}
-use Rattle.evaluator.specs.{Rest.after_turn, Rest.carried, Rest.carry_with, Rest.with_numbers, declared.tasks.Home.Home}
+use Rattle.evaluator.specs.{Rest.after_turn, Rest.with_numbers, declared.tasks.Home.Home}
 
 -- ---- a statement begins
-
-pub no_statement : (p : ProgramRows) (n : ℕ) (h : Here) (r : Row) → ((s : StatementRow) → r ≡ Row.Statement s → ⊥) → statement_in p n h r ≡ no_row
-no_statement p n h (Row.Statement s) f = absurd (f s refl)
-no_statement p n h r f = refl
 
 -- one that is neither compound nor empty tells its line
 pub told : (p : ProgramRows) (n : ℕ) (h : Here) (s : StatementRow) (own : ℕ) → line_of s ≡ Some own
@@ -26,63 +21,7 @@ told p n h (Compound statements) own e = absurd (let q : ⊥ = cc in q)
 told p n h (Labelled label inner) own e = absurd (let q : ⊥ = cc in q)
 told p n h s own e = ap (begins p n h s) e
 
--- a statement of a kind that begins as the others do
-pub record HasNoOther (s : StatementRow) : Type 0 where
-  pub empty : s ≡ Empty → ⊥
-  pub compound : (x : ℕ) → s ≡ Compound x → ⊥
-  pub labelled : (a b : ℕ) → s ≡ Labelled a b → ⊥
-
-pub untold : (p : ProgramRows) (n : ℕ) (h : Here) (s : StatementRow) → HasNoOther s → line_of s ≡ None → statement p n h s ≡ no_row
-untold p n h Empty o e = absurd (o.empty refl)
-untold p n h (Compound statements) o e = absurd (o.compound statements refl)
-untold p n h (Labelled label inner) o e = absurd (o.labelled label inner refl)
-untold p n h s o e = ap (begins p n h s) e
-
 -- ---- its line is told
-
-pub no_carried : (p : ProgramRows) (home : Home) (n : ℕ) (r : Row) → ((s : StatementRow) → r ≡ Row.Statement s → ⊥) → carried p home n r ≡ no_row
-no_carried p home n (Row.Statement s) f = absurd (f s refl)
-no_carried p home n r f = refl
-
--- a statement that has no line
-pub record IsOther (s : StatementRow) : Type 0 where
-  pub assign : (a b c d : ℕ) → s ≡ Assign a b c d → ⊥
-  pub call : (a b c d : ℕ) → s ≡ Call a b c d → ⊥
-  pub when : (a b c : ℕ) → s ≡ If a b c → ⊥
-  pub when_else : (a b c d : ℕ) → s ≡ IfElse a b c d → ⊥
-  pub case' : (a b c : ℕ) → s ≡ Case a b c → ⊥
-  pub repeat : (a b c : ℕ) → s ≡ Repeat a b c → ⊥
-  pub while : (a b c : ℕ) → s ≡ While a b c → ⊥
-  pub for' : (a b c : ℕ) → s ≡ For a b c → ⊥
-  pub call_formal : (a b c d : ℕ) → s ≡ CallFormal a b c d → ⊥
-  pub goto : (a b c : ℕ) → s ≡ Goto a b c → ⊥
-  pub with' : (a b c : ℕ) → s ≡ With a b c → ⊥
-  pub new : (a b c : ℕ) → s ≡ New a b c → ⊥
-  pub dispose : (a b c : ℕ) → s ≡ Dispose a b c → ⊥
-  pub read : (e : Bool) (a b : ℕ) → s ≡ Read e a b → ⊥
-  pub write : (e : Bool) (a b : ℕ) → s ≡ Write e a b → ⊥
-  pub page : (a : ℕ) → s ≡ Page a → ⊥
-  pub pack : (e : Bool) (a b c d : ℕ) → s ≡ Pack e a b c d → ⊥
-
-pub other_carried : (p : ProgramRows) (home : Home) (n : ℕ) (s : StatementRow) → IsOther s → carry_with p home n s (line_of s) ≡ no_row
-other_carried p home n (Assign a b c d) o = absurd (o.assign a b c d refl)
-other_carried p home n (Call a b c d) o = absurd (o.call a b c d refl)
-other_carried p home n (If a b c) o = absurd (o.when a b c refl)
-other_carried p home n (IfElse a b c d) o = absurd (o.when_else a b c d refl)
-other_carried p home n (Case a b c) o = absurd (o.case' a b c refl)
-other_carried p home n (Repeat a b c) o = absurd (o.repeat a b c refl)
-other_carried p home n (While a b c) o = absurd (o.while a b c refl)
-other_carried p home n (For a b c) o = absurd (o.for' a b c refl)
-other_carried p home n (CallFormal a b c d) o = absurd (o.call_formal a b c d refl)
-other_carried p home n (Goto a b c) o = absurd (o.goto a b c refl)
-other_carried p home n (With a b c) o = absurd (o.with' a b c refl)
-other_carried p home n (New a b c) o = absurd (o.new a b c refl)
-other_carried p home n (Dispose a b c) o = absurd (o.dispose a b c refl)
-other_carried p home n (Read e a b) o = absurd (o.read e a b refl)
-other_carried p home n (Write e a b) o = absurd (o.write e a b refl)
-other_carried p home n (Page a) o = absurd (o.page a refl)
-other_carried p home n (Pack e a b c d) o = absurd (o.pack e a b c d refl)
-other_carried p home n s o = refl
 
 -- ---- records of with statements
 
@@ -103,16 +42,6 @@ in_sequence p h first None = no_row
 pub sequence_by : (p : ProgramRows) (h : Here) (first : ℕ) (r : Row) → of_sequence p h first r ≡ in_sequence p h first (element_in r)
 sequence_by p h first (Row.Item (ItemRow.Element s next)) = refl
 sequence_by p h first r = refl
-
-pub no_turn : (n : ℕ) (h : Here) (r : Row) → ((s : StatementRow) → r ≡ Row.Statement s → ⊥) → of_turn n h r ≡ no_row
-no_turn n h (Row.Statement s) f = absurd (f s refl)
-no_turn n h r f = refl
-
-pub other_turn : (n : ℕ) (h : Here) (s : StatementRow) → ((a b c : ℕ) → s ≡ While a b c → ⊥) → ((a b c : ℕ) → s ≡ Repeat a b c → ⊥)
-    → of_turn n h (Row.Statement s) ≡ no_row
-other_turn n h (While a b c) f g = absurd (f a b c refl)
-other_turn n h (Repeat a b c) f g = absurd (g a b c refl)
-other_turn n h s f g = refl
 
 -- ---- for statements
 

@@ -1,5 +1,5 @@
 -- No action gives steps back.
-use Rattle.std.proofs.Common.{◌+◌, ◌<◌, ◌≤◌, ℕ, Err, List, None, Ok, Option, Result, Some, arith, subst}
+use Rattle.std.proofs.Common.{◌+◌, ◌<◌, ◌≤◌, ℕ, List, Ok, Option, Result, arith, subst}
 use Rattle.cell_value.specs.declared.entries.Touch.{Touch}
 use Rattle.core_program.{proofs.ActsTakeSteps.Acted, proofs.ActsTakeSteps.acted, proofs.ActsTakeSteps.cost, specs.State.State}
 use Rattle.core_program.specs.Actions.{Action, Fail, Finished, Give, NoMeaning, NotMeant, Perform, Performed, Stopped, before, follow, performs}
@@ -58,6 +58,4 @@ first_falls seen a next x m m' h = subst (TookSome (cost a) m.state.steps) h.1
 
 -- what is left less, by what is left less of another
 pub falls_so : (r : Result (Option Pause) Halt) (a b a' b' : ℕ) → (a < b → a' < b') → Falls r a b → Falls r a' b'
-falls_so (Ok None) a b a' b' f h = f h
-falls_so (Ok (Some s)) a b a' b' f h = tt
-falls_so (Err e) a b a' b' f h = tt
+falls_so r a b a' b' f h g = f (h g)

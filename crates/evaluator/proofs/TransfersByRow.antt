@@ -1,20 +1,15 @@
 -- What is read and written, by its rows.
 use Rattle.std.proofs.Common.{◌+◌, ◌∙◌, ◌≡◌, ◌≤◌, ℕ, None, Ok, Option, Some, option_map, refl}
-use Rattle.core_program.specs.{Actions.performs, Acts.TakeIf, Packing.with_array, Tree.ActTree, Tree.Here}
+use Rattle.core_program.specs.{Actions.performs, Acts.TakeIf, Packing.with_array, ProgramRows.ProgramRows, ProgramRows.row_at, ProgramRows.size_of}
+use Rattle.core_program.specs.{ProgramRows.type_at, Transfers.of_received, Transfers.received, Transfers.with_host, Tree.ActTree, Tree.Here}
 use Rattle.core_program.specs.Accesses.{no_row, type_accessed, with_bounds, with_components, with_size}
 use Rattle.core_program.specs.Input.{further, is_digit, leading, leads_on, scan_on}
-use Rattle.core_program.specs.ProgramRows.{ProgramRows, row_at, size_of, type_at}
-use Rattle.core_program.specs.Transfers.{of_printed, of_received, received, with_host}
-use Rattle.core_program.specs.declared.{components.Components.Components, rows.AccessRow.AccessRow, rows.ItemRow.ItemRow, rows.Row.Row}
+use Rattle.core_program.specs.declared.{components.Components.Components, rows.ItemRow.ItemRow, rows.Row.Row}
 use Rattle.core_program.specs.declared.rows.TypeRow.{TypeRow, TheVariants.Array, TheVariants.Ordinal, TheVariants.Subrange}
 use Rattle.core_program.specs.declared.scan.{Scan.Scan, Scan.TheVariants.Blanks, Scan.TheVariants.Digits, Scanned.Scanned}
 use Rattle.eval_ops.specs.{Arrays.array_in, Arrays.components_in, Arrays.components_of, Arrays.size_in, Items.element_in, Machines.DoesAll, Machines.Moment}
 use Rattle.evaluator.proofs.StepsFall.{first_falls}
 use Rattle.evaluator.specs.TransferFamilies.{host_in}
-
-pub no_printed : (p : ProgramRows) (h : Here) (r : Row) → ((i : ItemRow) → r ≡ Row.Item i → ⊥) → of_printed p h r ≡ no_row
-no_printed p h (Row.Item i) f = absurd (f i refl)
-no_printed p h r f = refl
 
 abbrev pub with_element : ProgramRows → Here → Option (ℕ × ℕ) → ActTree
 with_element p h (Some (access, next)) = received p h access next (row_at p access)
@@ -23,11 +18,6 @@ with_element p h None = no_row
 pub received_by : (p : ProgramRows) (h : Here) (r : Row) → of_received p h r ≡ with_element p h (element_in r)
 received_by p h (Row.Item (ItemRow.Element access next)) = refl
 received_by p h r = refl
-
-pub no_received : (p : ProgramRows) (h : Here) (access next : ℕ) (r : Row) → ((a : AccessRow) → r ≡ Row.Access a → ⊥)
-    → received p h access next r ≡ no_row
-no_received p h access next (Row.Access a) f = absurd (f a refl)
-no_received p h access next r f = refl
 
 -- a turn of the reading of an integer takes a step
 pub scan_falls : (s : Scan) (x : Scanned) (m m' : Moment) → DoesAll {A = Scanned} {X = Scanned} (λ s. s) (performs (scan_on s) m.state) (Ok x) m m'

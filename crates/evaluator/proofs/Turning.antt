@@ -1,20 +1,22 @@
 -- What the turns of a body are made of.
-use Rattle.std.proofs.Common.{if◌then◌else◌, ◌++◌, ◌+◌, ◌<◌, ◌==◌, ◌∙◌, ◌∷◌, ◌≡◌, ◌≤◌, [], ℕ, Bool, Err, List, None, Ok, Option, Result, Some, ap, false}
-use Rattle.std.proofs.Common.{nat_lt, reverse, subst, sym, true}
-use Rattle.std.proofs.lemmas.{Bool.le-ltb, Bool.lt-ltb, List.append-nil, List.reverse-append}
+use Rattle.std.proofs.Common.{if◌then◌else◌, ◌++◌, ◌+◌, ◌<◌, ◌==◌, ◌∙◌, ◌∷◌, ◌≡◌, ◌≤◌, [], ℕ, Bool, Err, List, None, Ok, Option, Result, Some, ap, arith, false}
+use Rattle.std.proofs.Common.{nat_lt, refl, reverse, subst, sym, true}
+use Rattle.std.proofs.lemmas.{Bool.lt-ltb, List.append-nil, List.reverse-append}
 use Rattle.cell_value.specs.declared.values.Value.{Value}
 use Rattle.core_program.proofs.ActsTakeSteps.{Acted, acted}
 use Rattle.core_program.specs.{Actions.Action, Actions.act, Actions.performs, Acts.Spend, Acts.Trouble, Acts.limit_passed, Acts.perform, Layer.layer}
 use Rattle.core_program.specs.{ProgramRows.ProgramRows, ProgramRows.routine_at, Run.Halted, declared.program.Routine.Routine}
 use Rattle.core_program.specs.Accesses.{locate_before, no_row, on_address, spend, until_end}
 use Rattle.core_program.specs.Tree.{ActTree, Enter, Here, Line, Locate, Out, Part, Sub, bind, doing, way_of}
-use Rattle.eval_ops.proofs.ActionsCompose.{does_act}
+use Rattle.eval_ops.proofs.ActionsCompose.{does_act, does_bind, does_stop}
 use Rattle.eval_ops.specs.Machines.{ActionStopped, DoesAct, DoesAll, Gives, Moment}
 use Rattle.eval_ops.specs.declared.halt.Halt.{Halt, TheVariants.Fault, TheVariants.Limited, TheVariants.Memory, TheVariants.OutOfSteps}
 use Rattle.evaluator.proofs.Moves.{begins, bind_doing, call_here, comes_same, comes_then, finished, line_stopped, stopped, stops_then}
-use Rattle.evaluator.specs.{Stops.AtCall, Stops.AtEnd, Stops.Comes, Stops.NextStopIs, Weight.Falls, declared.body.Body.Body, declared.tasks.Pause.Pause}
-use Rattle.evaluator.specs.Rest.{below_top, lists_of, resume, tasks_of, top_list, values_of}
-use Rattle.evaluator.specs.Turns.{EntersRoutine, StopsForGood, Turns, configuration, pause_of}
+use Rattle.evaluator.proofs.StepsFall.{steps_fall}
+use Rattle.evaluator.specs.{Records.SameFrame, Stops.AtCall, Stops.AtEnd, Stops.Comes, Stops.NextStopIs, Weight.Falls, Weight.body_weight, Weight.left_with}
+use Rattle.evaluator.specs.Rest.{below_top, lists_of, paid, resume, tasks_of, top_list, values_of}
+use Rattle.evaluator.specs.Turns.{Before, EntersRoutine, Leads, Moves, StopsForGood, Turns, before, configuration, pause_of}
+use Rattle.evaluator.specs.declared.{body.Body.Body, tasks.Home.Home, tasks.Pause.Pause}
 
 -- what was put on top comes first
 pub reverse_pushed : {A : Type 0} (xs ys : List A) (x : A) → ys ≡ xs ++ x ∷ [] → reverse ys ≡ x ∷ reverse xs
@@ -108,23 +110,16 @@ given seen a (Err Memory) m h = tt
 
 -- a turn that failed leaves no more to do
 pub falls_failed : (r : Result (Option Pause) Halt) (e : Halt) (a b : ℕ) → r ≡ Err e → Falls r a b
-falls_failed r e a b h = subst (λ r. Falls r a b) (sym h) tt
+falls_failed r e a b h = subst (λ r. Falls r a b) (sym h) (λ g. absurd (omega arith))
 
 -- an access before a selector
 pub before_it : (row access : ℕ) (target : Bool) (h : Here) (go : ℕ → ActTree) (K : Out → ActTree) → access < row
     → bind (locate_before row access target h go) K ≡ bind (Sub (Locate access target h) (on_address go)) K
 before_it row access target h go K l = ap (λ b. bind (if b then Sub (Locate access target h) (on_address go) else no_row) K) (lt-ltb access row l)
 
-pub not_before_it : (row access : ℕ) (target : Bool) (h : Here) (go : ℕ → ActTree) (K : Out → ActTree) → row ≤ access
-    → bind (locate_before row access target h go) K ≡ no_row
-not_before_it row access target h go K l = ap (λ b. bind (if b then Sub (Locate access target h) (on_address go) else no_row) K) (le-ltb access row l)
-
 -- a row that is to stand after another one
 pub after_it : (a b : ℕ) (t : ActTree) (K : Out → ActTree) → a < b → bind (if nat_lt a b then t else no_row) K ≡ bind t K
 after_it a b t K l = ap (λ x. bind (if x then t else no_row) K) (lt-ltb a b l)
-
-pub not_after_it : (a b : ℕ) (t : ActTree) (K : Out → ActTree) → b ≤ a → bind (if nat_lt a b then t else no_row) K ≡ no_row
-not_after_it a b t K l = ap (λ x. bind (if x then t else no_row) K) (le-ltb a b l)
 
 -- a call is to be entered, whose link and cells are the last list that waits
 pub call_pauses : {p : ProgramRows} {m : Moment} {K : Out → ActTree} {args : List Value} {ls : List (List Value)} (f cells : ℕ) (a : Body)
@@ -146,9 +141,90 @@ entered_turns p t m f (Err OutOfSteps) a h x e l = absurd h
 entered_turns p t m f (Err (Limited which)) a h x e l = absurd h
 entered_turns p t m f (Err Memory) a h x e l = tt
 
-pub entered_falls : (p : ProgramRows) (t : ActTree) (m : Moment) (f : ℕ) (r : Result (Option Pause) Halt) (a : Body) (left before : ℕ)
-    → EntersRoutine p (configuration t m)
-    f r a → Falls r left before
-entered_falls p t m f (Ok None) a left before h = absurd h
-entered_falls p t m f (Ok (Some s)) a left before h = tt
-entered_falls p t m f (Err e) a left before h = tt
+-- ---- turns as one relation
+
+pub same_frame : {a b : Home} → a ≡ b → SameFrame a b
+same_frame h = record { routine = ap (λ h. h.routine) h; base = ap (λ h. h.base) h }
+
+module _ {p : ProgramRows} {o : Before} {r : Result (Option Pause) Halt} {b : Body} {m' : Moment} where
+  -- a turn that does something else, which is the same
+  pub moves_on : {t : ActTree} {w : ℕ} → Moves p (record o { tree = t; left = w }) r b m' → o.tree ≡ t → w ≤ o.left → Moves p o r b m'
+  moves_on {t = t} h e l = record {
+    turns = turns_same p o.tree t o.moment m' r b e h.turns;
+    falls = λ g. omega (arith, h.falls g, l);
+    frame = h.frame;
+  }
+
+  -- a turn of a body from which values were taken before
+  pub moves_from : {t : ActTree} {w : ℕ} {h : Home} → Moves p (record o { tree = t; left = w; home = h }) r b m' → o.tree ≡ t → w ≤ o.left → h ≡ o.home
+      → Moves p o r b m'
+  moves_from {t = t} h e l k = record {
+    turns = turns_same p o.tree t o.moment m' r b e h.turns;
+    falls = λ g. omega (arith, h.falls g, l);
+    frame = subst (SameFrame b.home) k h.frame;
+  }
+
+  -- a turn after moves
+  pub moves_after : {t : ActTree} {m : Moment} {w : ℕ} → Moves p (record o { tree = t; moment = m; left = w }) r b m' → Comes p o.tree o.moment t m → w ≤ o.left
+      → Moves p o r b m'
+  moves_after {t = t} {m = m} h e l = record {
+    turns = turns_after p o.tree t o.moment m m' r b e h.turns;
+    falls = λ g. omega (arith, h.falls g, l);
+    frame = h.frame;
+  }
+
+  -- a turn that failed
+  pub moves_failed : {line : ℕ} {e : Halt} → r ≡ Err e → b.line ≡ line → b.home ≡ o.home → StopsForGood p (configuration o.tree o.moment) line e m'
+      → Moves p o r b m'
+  moves_failed {line = line} {e = e} f l h g = record {
+    turns = turns_failed p o.tree o.moment m' line e b r l f g;
+    falls = falls_failed r e _ _ f;
+    frame = same_frame h;
+  }
+
+-- a turn that takes no machine
+pub moves_by : {p : ProgramRows} {o : Before} {r : Result (Option Pause) Halt} {b : Body} {t : ActTree} {w : ℕ} → Leads p t r b → Falls r (body_weight b) w
+    → b.home ≡ o.home → o.tree ≡ t → left_with o.moment.state.steps w ≤ o.left → Moves p o r b o.moment
+moves_by {o = o} l f h e k = record {
+  turns = l o.moment o.tree e;
+  falls = λ g. omega (arith, f g, k);
+  frame = same_frame h;
+}
+
+-- the same after moves
+pub moves_after_by : {p : ProgramRows} {o : Before} {r : Result (Option Pause) Halt} {b : Body} {t : ActTree} {m : Moment} {w : ℕ} → Leads p t r b
+    → Falls r (body_weight b) w → b.home ≡ o.home → Comes p o.tree o.moment t m → left_with m.state.steps w ≤ o.left → Moves p o r b m
+moves_after_by {p = p} {o = o} {r = r} {b = b} {t = t} {m = m} l f h e k = record {
+  turns = turns_after p o.tree t o.moment m m r b e (l m t refl);
+  falls = λ g. omega (arith, f g, k);
+  frame = same_frame h;
+}
+
+-- an action was done
+pub after_done : {A X : Type 0} {r : Result (Option Pause) Halt} {b' : Body} (p : ProgramRows) (b : Body) (line : ℕ) (a : Action A) (k : A → ActTree)
+    (K : Out → ActTree) (w : ℕ) (seen : X → A) (x : X) (m m' : Moment) → DoesAll seen (performs a m.state) (Ok x) m m'
+    → Moves p (before b m' (bind (k (seen x)) K) w) r b' m' → Moves p (before b m (bind (doing line a k) K) w) r b' m'
+after_done {r = r} {b' = b'} p b line a k K w seen x m m' d h = record {
+  turns = turns_after p _ _ m m' m' r b' (did p line a k K seen x m m' d) h.turns;
+  falls = λ g. omega (arith, h.falls g, steps_fall seen a x m m' d);
+  frame = h.frame;
+}
+
+-- an action was not done
+pub after_failed : {A X : Type 0} {r : Result (Option Pause) Halt} {b' : Body} (p : ProgramRows) (b : Body) (line : ℕ) (a : Action A) (k : A → ActTree)
+    (K : Out → ActTree) (w : ℕ) (seen : X → A) (e : Halt) (m m' : Moment) → DoesAll seen (performs a m.state) (Err e) m m' → b'.line ≡ line
+    → r ≡ Err e → b'.home ≡ b.home → Moves p (before b m (bind (doing line a k) K) w) r b' m'
+after_failed p b line a k K w seen e m m' d l f h = moves_failed f l h (fails p line a k K seen e m m' d)
+
+-- an action after a step
+pub paid_for : {A X : Type 0} (seen : X → A) (a : Action A) (old mid new : Moment) (r : Result X Halt)
+    → DoesAct {X = Unit {0}} (λ _. tt) (perform (Spend 1) old.state) (Ok tt) old mid → DoesAll seen (performs a mid.state) r mid new
+    → DoesAll seen (performs (paid a) old.state) r old new
+paid_for seen a old mid new r h k =
+    does_bind seen (act (Spend 1)) (λ _. a) tt old mid new r (does_act {X = Unit {0}} (Spend 1) (λ _. tt) old mid (Ok tt) h) k
+
+-- no step was left for it
+pub not_paid : {A X : Type 0} (seen : X → A) (a : Action A) (old new : Moment) (e : Halt)
+    → DoesAct {X = Unit {0}} (λ _. tt) (perform (Spend 1) old.state) (Err e) old new → DoesAll seen (performs (paid a) old.state) (Err e) old new
+not_paid seen a old new e h =
+    does_stop {X = Unit {0}} (λ _. tt) seen (act (Spend 1)) (λ _. a) old new e (does_act {X = Unit {0}} (Spend 1) (λ _. tt) old new (Err e) h)

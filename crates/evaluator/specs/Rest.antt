@@ -2,25 +2,26 @@
 use Rattle.std.specs.Prelude.{if◌then◌else◌, ◌++◌, ◌∷◌, [], ℕ, ℤ, Bool, List, None, Option, Some, false, not, reverse}
 use Rattle.std.specs.Prelude.{true}
 use Rattle.cell_value.specs.declared.values.Value.{Value}
-use Rattle.core_program.specs.{Actions.◌>>=◌, Actions.Action, Actions.Give, Heap.dispose, Heap.pointed_at}
-use Rattle.core_program.specs.{Packing.moves, Run.return_of, Tree.doing, Variants.assign_to, Variants.tag_accessed}
+use Rattle.core_program.specs.{Actions.◌>>=◌, Actions.Action, Actions.Give, Actions.act, Acts.Spend, Heap.dispose}
+use Rattle.core_program.specs.{Heap.pointed_at, Output.end_line, Output.scalar_text, Output.string_text, Packing.copies}
+use Rattle.core_program.specs.{Packing.moves, Run.return_of, Transfers.into, Transfers.on_text, Transfers.print}
+use Rattle.core_program.specs.{Tree.doing, Variants.assign_to, Variants.tag_accessed}
 use Rattle.core_program.specs.Accesses.{address, eval, eval_cells, locate, locate_field, no_row, on_address, on_cells}
 use Rattle.core_program.specs.Accesses.{on_scalar, scalar, spend, value_at, with_components, with_formal, with_size}
 use Rattle.core_program.specs.Cells.{component, frame_out, routine_out, write, writes}
 use Rattle.core_program.specs.Expressions.{enter, gather, on_actual, operation_result, with_frame_size}
-use Rattle.core_program.specs.Output.{end_line, scalar_text, string_text}
 use Rattle.core_program.specs.ProgramRows.{ProgramRows, routine_at, row_at, type_at}
 use Rattle.core_program.specs.Statements.{chosen_by, finally, first_turn, has_turn, inside, line_of, nothing}
 use Rattle.core_program.specs.Statements.{of_statement, on_labelled, on_normal, on_statement, on_value, turn_after}
-use Rattle.core_program.specs.Transfers.{into, on_text, print}
 use Rattle.core_program.specs.Tree.{ActTree, Address, Cells, Enter, Here, Jump, Nothing, Out, Ret, Scalar, Sub, bind}
 use Rattle.core_program.specs.Tree as parts
 use Rattle.core_program.specs.Values.{function_of, is_true, members_added, texts_compared, truth, with_sign_of}
 use Rattle.core_program.specs.declared.{program.Routine.Routine, rows.Row.Row, rows.StatementRow.StatementRow}
 use Rattle.eval_ops.specs.Operators.{dyadic_of}
-use Rattle.evaluator.specs.{Records.without_last, declared.body.Body.Body, declared.tasks.TransferTask.TransferTask}
-use Rattle.evaluator.specs.declared.tasks.{ChoiceTask.ChoiceTask, Home.Home, Located.Located, Next.Next}
-use Rattle.evaluator.specs.declared.tasks.{OperandTask.OperandTask, Part.Part, Task.Task, Way.Way}
+use Rattle.evaluator.specs.{Records.without_last, declared.body.Body.Body}
+use Rattle.evaluator.specs.declared.tasks.{ArrayPlaces.ArrayPlaces, ArrayRows.ArrayRows, ChoiceTask.ChoiceTask}
+use Rattle.evaluator.specs.declared.tasks.{Home.Home, Located.Located, Next.Next, OperandTask.OperandTask, Part.Part}
+use Rattle.evaluator.specs.declared.tasks.{Reading.Reading, Task.Task, TransferTask.TransferTask, Way.Way}
 use Rattle.evaluator.specs.declared.tasks.Now.{Now, TheVariants.Begin, TheVariants.Came, TheVariants.Carry}
 
 abbrev pub here : Home → (line : ℕ) → Here
@@ -58,6 +59,10 @@ after_operand p home (OperandTask.Component array addr line) x v = with_componen
 -- the actual parameters from an item on
 abbrev pub pass : Home → (at line : ℕ) → List Value → ActTree
 pass home at line passed = Sub (parts.Pass at passed (here home line)) Ret
+
+-- an action after a step
+abbrev pub paid : {A : Type 0} → Action A → Action A
+paid a = act (Spend 1) >>= λ _. a
 
 -- a routine that was declared this many blocks out, and the frame of that block
 abbrev pub declared : (routine levels base : ℕ) → Action (ℕ × ℕ)
@@ -123,18 +128,20 @@ after_statement p home (Next.Sequence first at line) vs = on_statement p (here h
 after_statement p home (Next.Labelled row label line) vs = on_labelled row label (here home line)
 after_statement p home t vs = on_normal (after_next p home t vs)
 
--- a value that was read goes into a variable, and then comes the next actual
-abbrev pub stored : ProgramRows → Home → (access of' next line : ℕ) → Value → (addr : ℕ) → ActTree
-stored p home access of' next line v addr =
-    doing line (assign_to p (tag_accessed p (row_at p access)) (type_at p of') addr v) (λ _.
-    Sub (parts.Receive next (here home line)) Ret)
+-- a value that was read is for a variable, which is located
+abbrev pub into_variable : ProgramRows → Home → Reading → Value → ActTree
+into_variable p home a = into p (here home a.line) a.access a.of a.next
+
+-- it goes into the variable, and then comes the next actual
+abbrev pub stored : ProgramRows → Home → Reading → Value → (addr : ℕ) → ActTree
+stored p home a v addr =
+    doing a.line (assign_to p (tag_accessed p (row_at p a.access)) (type_at p a.of) addr v) (λ _.
+    Sub (parts.Receive a.next (here home a.line)) Ret)
 
 -- after a part of an actual of a read or a write statement
 abbrev pub after_transfer : ProgramRows → Home → TransferTask → List Value → List (List Value) → Out → ActTree
-after_transfer p home (TransferTask.Integer access of' next line) vs ls =
-    on_scalar (into p (here home line) access of' next)
-after_transfer p home (TransferTask.Into access of' next line) vs ls =
-    on_address (stored p home access of' next line (top vs))
+after_transfer p home (TransferTask.Integer a) vs ls = on_scalar (into_variable p home a)
+after_transfer p home (TransferTask.Into a) vs ls = on_address (stored p home a (top vs))
 after_transfer p home (TransferTask.Written of' next line) vs ls = on_text p of' (λ text.
     print (here home line) next text None)
 after_transfer p home (TransferTask.Wide of' width next line) vs ls = on_text p of' (λ text.
@@ -144,26 +151,37 @@ after_transfer p home (TransferTask.Width host next line) vs ls = on_scalar (λ 
 after_transfer p home (TransferTask.TextWidth next line) vs ls = on_scalar (λ w.
     print (here home line) next (string_text (top_list ls)) (Some w))
 
--- the cells of arrays are moved, once both are located and the index is known
-abbrev pub arrays_moved : ProgramRows → Home → (packing : Bool) → (unpacked packed wide close line : ℕ) → Value
-    → ActTree
-arrays_moved p home packing unpacked packed wide close line v =
-    moves p (here home line) packing unpacked packed wide close v (finally (here home line))
+-- the cells of arrays are copied, the one way or the other, from or to an address in the unpacked one
+abbrev pub copied : Home → (packing : Bool) → ArrayPlaces → (cells at : ℕ) → ActTree
+copied home packing a cells at =
+    finally (here home a.line) (if packing then copies at a.close cells else copies a.close at cells)
+
+-- the components of arrays are moved, once both are located and the index is known
+abbrev pub arrays_moved : ProgramRows → Home → (packing : Bool) → ArrayPlaces → Value → ActTree
+arrays_moved p home packing a v =
+    moves p (here home a.line) packing a.unpacked a.packed a.wide a.close v (finally (here home a.line))
 
 -- both arrays of a pack or an unpack statement are located
-abbrev pub both_located : ProgramRows → Home → (packing : Bool) → (unpacked index packed first line second : ℕ)
-    → ActTree
-both_located p home true unpacked index packed first line second =
-    eval index (here home line) (arrays_moved p home true unpacked packed first second line)
-both_located p home false unpacked index packed first line second =
-    eval index (here home line) (arrays_moved p home false unpacked packed second first line)
+abbrev pub both_located : ProgramRows → Home → (packing : Bool) → (index : ℕ) → ArrayPlaces → ActTree
+both_located p home packing index a = eval index (here home a.line) (arrays_moved p home packing a)
+
+-- where the arrays are, by the addresses of the one that is located first and of the other
+abbrev pub places : (packing : Bool) → ArrayRows → (first second : ℕ) → ArrayPlaces
+places packing rows first second = record {
+  unpacked = rows.unpacked;
+  packed = rows.packed;
+  wide = if packing then first else second;
+  close = if packing then second else first;
+  line = rows.line;
+}
+
+abbrev pub second_row : (packing : Bool) → ArrayRows → ℕ
+second_row packing rows = if packing then rows.packed else rows.unpacked
 
 -- the first of them is located
-abbrev pub first_located : ProgramRows → Home → (packing : Bool) → (unpacked index packed line first : ℕ) → ActTree
-first_located p home true unpacked index packed line first =
-    locate packed (here home line) (both_located p home true unpacked index packed first line)
-first_located p home false unpacked index packed line first =
-    locate unpacked (here home line) (both_located p home false unpacked index packed first line)
+abbrev pub first_located : ProgramRows → Home → (packing : Bool) → ArrayRows → (first : ℕ) → ActTree
+first_located p home packing rows first = locate (second_row packing rows) (here home rows.line) (λ second.
+    both_located p home packing rows.index (places packing rows first second))
 
 -- what comes after a call
 abbrev pub after_call : (procedure : Bool) → Out → ActTree
@@ -212,12 +230,10 @@ after_part p home (Task.Dispose of' line) vs ls = on_scalar (λ v.
 after_part p home (Task.Next t) vs ls = after_statement p home t vs
 after_part p home Task.Leave vs ls = Ret
 after_part p home (Task.Transfer t) vs ls = after_transfer p home t vs ls
-after_part p home (Task.PackFirst packing unpacked index packed line) vs ls =
-    on_address (first_located p home packing unpacked index packed line)
-after_part p home (Task.PackSecond packing unpacked index packed first line) vs ls =
-    on_address (both_located p home packing unpacked index packed first line)
-after_part p home (Task.PackIndex packing unpacked packed wide close line) vs ls =
-    on_scalar (arrays_moved p home packing unpacked packed wide close line)
+after_part p home (Task.PackFirst packing rows) vs ls = on_address (first_located p home packing rows)
+after_part p home (Task.PackSecond packing rows first) vs ls = on_address (λ second.
+    both_located p home packing rows.index (places packing rows first second))
+after_part p home (Task.PackIndex packing a) vs ls = on_scalar (arrays_moved p home packing a)
 
 -- the values that wait below those that a task holds
 abbrev pub values_below : Task → List Value → List Value
@@ -229,7 +245,7 @@ values_below (Task.Choice (ChoiceTask.Last turns line)) vs = below_top vs
 values_below (Task.Put target of' line) vs = below_top vs
 values_below (Task.Point line) vs = below_top vs
 values_below (Task.Next (Next.Counted row line)) vs = below_top (below_top vs)
-values_below (Task.Transfer (TransferTask.Into access of' next line)) vs = below_top vs
+values_below (Task.Transfer (TransferTask.Into a)) vs = below_top vs
 values_below (Task.Transfer (TransferTask.Width host next line)) vs = below_top vs
 values_below t vs = vs
 
@@ -333,6 +349,10 @@ rest_of p a = from p a a.now
 -- how a body goes on after a part, or after a call that it stopped at
 abbrev pub waiting : ProgramRows → Body → Out → ActTree
 waiting p a = resume p a.home (tasks_of a) (values_of a) (lists_of a)
+
+-- how it goes on once the last list that waits is taken
+abbrev pub under_list : ProgramRows → Body → Out → ActTree
+under_list p a = resume p a.home (tasks_of a) (values_of a) (below_top (lists_of a))
 
 -- what a body had to do with another state of work, and one task more that waits
 abbrev pub from_under : ProgramRows → Body → Now → Task → ActTree

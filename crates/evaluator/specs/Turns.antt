@@ -1,14 +1,16 @@
 -- What a turn of a body does.
-use Rattle.std.specs.Prelude.{◌≡◌, ℕ, Err, None, Ok, Option, Result, Some}
+use Rattle.std.specs.Prelude.{◌+◌, ◌≡◌, ℕ, Err, None, Ok, Option, Result, Some}
 use Rattle.cell_value.specs.declared.ways_out.WayOut.{WayOut}
 use Rattle.core_program.specs.{Acts.limit_passed, ProgramRows.ProgramRows, ProgramRows.routine_at, Replay.end_of}
 use Rattle.core_program.specs.{Run.Ended, Run.Halted, State.State, declared.program.Routine.Routine}
 use Rattle.core_program.specs.Tree.{ActTree, Jump, Nothing, Out, Scalar}
 use Rattle.eval_ops.specs.{Machines.Moment, declared.halt.Halt.Halt}
-use Rattle.evaluator.specs.Rest.{below_top, lists_of, rest_of, resume, tasks_of, top_list, values_of, waiting}
+use Rattle.evaluator.specs.{Records.SameFrame, Rest.waiting, declared.body.Body.Body}
+use Rattle.evaluator.specs.Rest.{below_top, from, from_under, lists_of, rest_of, resume, tasks_of, top_list, values_of}
 use Rattle.evaluator.specs.Stops.{AtCall, AtEnd, AtLine, Comes, NextStopIs, Stop}
-use Rattle.evaluator.specs.declared.body.Body.{Body}
-use Rattle.evaluator.specs.declared.tasks.{Now.Now, Now.TheVariants.Came, Pause.Pause, Way.Way}
+use Rattle.evaluator.specs.Weight.{Falls, body_weight, come, left_with, part_weight, task_weight, tasks_weight}
+use Rattle.evaluator.specs.declared.tasks.{Home.Home, Part.Part, Pause.Pause, Task.Task, Way.Way}
+use Rattle.evaluator.specs.declared.tasks.Now.{Now, TheVariants.Begin, TheVariants.Came}
 use Rattle.evaluator.specs.declared.tasks.Stop as stop
 use Rattle.evaluator.specs.declared.tasks.Stop.TheVariants as stops
 
@@ -73,3 +75,37 @@ EntersRoutine p c routine (Ok (Some (Pause.Enter f))) a =
     NextStopIs p c.tree c.moment (pause_of p a (Pause.Enter f)) c.moment × (f ≡ routine)
 EntersRoutine p c routine (Err Halt.Memory) a = Unit {0}
 EntersRoutine p c routine r a = ⊥
+
+-- where a turn begins: what is to be done, at which moment, how much is left, and where the body is at work
+pub record Before : Type 0 where
+  pub tree : ActTree
+  pub moment : Moment
+  pub left : ℕ
+  pub home : Home
+
+-- a body at a moment, with something to do that weighs so much besides the tasks that wait
+abbrev pub before : Body → Moment → ActTree → (weight : ℕ) → Before
+before a m t weight = record {
+  tree = t;
+  moment = m;
+  left = left_with m.state.steps (weight + tasks_weight a);
+  home = a.home;
+}
+
+-- a part begins
+abbrev pub beginning : ProgramRows → Body → Moment → Part → Before
+beginning p a m part = before a m (from p a (Begin part)) (part_weight part)
+
+-- a task goes on after a part
+abbrev pub continuing : ProgramRows → Body → Moment → Way → Task → Before
+continuing p a m way task = before a m (from_under p a (Came way) task) (come + task_weight task)
+
+-- a turn: the run comes to a stop, or to what the body has now to do, of which less is left
+pub record Moves (p : ProgramRows) (b : Before) (r : Result (Option Pause) Halt) (a : Body) (m : Moment) : Type 0 where
+  pub turns : Turns p (configuration b.tree b.moment) r a m
+  pub falls : Falls r (left_with m.state.steps (body_weight a)) b.left
+  pub frame : SameFrame a.home b.home
+
+-- a turn at any moment that takes no machine, from what is to be done
+abbrev pub Leads : ProgramRows → ActTree → Result (Option Pause) Halt → Body → Type 0
+Leads p t r a = (m : Moment) (u : ActTree) → u ≡ t → Turns p (configuration u m) r a m

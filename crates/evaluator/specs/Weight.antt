@@ -1,5 +1,5 @@
 -- What a body has still to do, as a number that falls from turn to turn.
-use Rattle.std.specs.Prelude.{◌*◌, ◌+◌, ◌-◌, ◌<◌, ℕ, None, Ok, Option, Result, sum_by}
+use Rattle.std.specs.Prelude.{◌*◌, ◌+◌, ◌-◌, ◌<◌, ◌≡◌, ℕ, None, Ok, Option, Result, sum_by}
 use Rattle.eval_ops.specs.declared.{halt.Halt.Halt, machine.Machine.Machine}
 use Rattle.evaluator.specs.declared.body.Body.{Body}
 use Rattle.evaluator.specs.declared.tasks.{ChoiceTask.ChoiceTask, Located.Located, Next.Next, OperandTask.OperandTask}
@@ -62,7 +62,11 @@ left_with steps weight = 1099511627776 * steps + weight
 abbrev pub measure_of : Body → Machine → ℕ
 measure_of a m = left_with m.steps (body_weight a)
 
+-- whether a turn came to no stop
+abbrev pub went_on : Result (Option Pause) Halt → ℕ
+went_on (Ok None) = 1
+went_on result = 0
+
 -- a turn that came to no stop left less
 abbrev pub Falls : Result (Option Pause) Halt → (left before : ℕ) → Type 0
-Falls (Ok None) left before = left < before
-Falls result left before = Unit {0}
+Falls result left before = went_on result ≡ 1 → left < before

@@ -7,10 +7,10 @@ ghost use Rattle.core_program.specs.Accesses.{address, cells_at, locate_before, 
 ghost use Rattle.core_program.specs.Accesses.{on_address, scalar, spend as spend_in, value_at, with_bounds};
 ghost use Rattle.core_program.specs.Cells as action;
 ghost use Rattle.core_program.specs.Tree.{ActTree, Locate, Sub, bind, doing};
-ghost use Rattle.eval_ops.specs.Machines.{IsReady, Moment, moment_of};
-ghost use Rattle.evaluator.specs.{Turns.Turns, Turns.configuration, Weight.task_weight, Weight.tasks_weight};
-ghost use Rattle.evaluator.specs.Rest.{from, from_under, here, waiting};
-ghost use Rattle.evaluator.specs.Weight.{Falls, body_weight, come, left_with, measure_of, now_weight, part_weight};
+ghost use Rattle.eval_ops.specs.Machines.{IsReady, moment_of};
+ghost use Rattle.evaluator.specs.Rest.{from_under, here, waiting};
+ghost use Rattle.evaluator.specs.Turns.{Leads, Moves, before, beginning, continuing};
+ghost use Rattle.evaluator.specs.Weight.{Falls, body_weight, come, part_weight, tasks_weight};
 
 use crate::actuals::add_cell;
 use crate::body::{Body, Turned};
@@ -35,12 +35,8 @@ pub fn locate(
     line: u32,
 ) -> Turned
     requires ready { IsReady machine.old }
-    ensures turns { Turns program.now (configuration (from program.now body.old
-        (Now.Begin (Part.Locate row target line))) (moment_of machine.old)) result body.new
-        (moment_of machine.new) }
-    ensures falls { Falls result (measure_of body.new machine.new)
-        (left_with machine.old.steps (now_weight (Now.Begin (Part.Locate row target line)) + tasks_weight body.old)) }
-    ensures home { body.new.home ≡ body.old.home }
+    ensures moves { Moves program.now (beginning program.now body.old (moment_of machine.old) (Part.Locate row target
+        line)) result body.new (moment_of machine.new) }
     ensures ready { IsReady machine.new }
 {
     match program.row(row) {
@@ -63,11 +59,9 @@ fn begin_access(
     line: u32,
 ) -> Turned
     requires ready { IsReady machine.old }
-    ensures turns { Turns program.now (configuration (bind (of_access program.now row target (here body.old.home line)
-        access) (waiting program.now body.old)) (moment_of machine.old)) result body.new (moment_of machine.new) }
-    ensures falls { Falls result (measure_of body.new machine.new)
-        (left_with machine.old.steps (part_weight (Part.Locate row target line) + tasks_weight body.old)) }
-    ensures home { body.new.home ≡ body.old.home }
+    ensures moves { Moves program.now (before body.old (moment_of machine.old) (bind (of_access program.now row target
+        (here body.old.home line) access) (waiting program.now body.old)) (part_weight (Part.Locate row target line)))
+        result body.new (moment_of machine.new) }
     ensures ready { IsReady machine.new }
 {
     match access {
@@ -115,12 +109,9 @@ fn variable(
     line: u32,
 ) -> Turned
     requires ready { IsReady machine.old }
-    ensures turns { Turns program.now (configuration (bind (spend_in (here body.old.home line) (doing line
-        (cell_out levels body.old.home.base place) address)) (waiting program.now body.old)) (moment_of machine.old))
-        result body.new (moment_of machine.new) }
-    ensures falls { Falls result (measure_of body.new machine.new)
-        (left_with machine.old.steps (tasks_weight body.old)) }
-    ensures home { body.new.home ≡ body.old.home }
+    ensures moves { Moves program.now (before body.old (moment_of machine.old) (bind (spend_in (here body.old.home line)
+        (doing line (cell_out levels body.old.home.base place) address)) (waiting program.now body.old)) 0) result
+        body.new (moment_of machine.new) }
     ensures ready { IsReady machine.new }
 {
     match spend(machine, 1) {
@@ -139,12 +130,9 @@ fn reference(
     line: u32,
 ) -> Turned
     requires ready { IsReady machine.old }
-    ensures turns { Turns program.now (configuration (bind (spend_in (here body.old.home line) (doing line
-        (reference_out levels body.old.home.base place) address)) (waiting program.now body.old))
-        (moment_of machine.old)) result body.new (moment_of machine.new) }
-    ensures falls { Falls result (measure_of body.new machine.new)
-        (left_with machine.old.steps (tasks_weight body.old)) }
-    ensures home { body.new.home ≡ body.old.home }
+    ensures moves { Moves program.now (before body.old (moment_of machine.old) (bind (spend_in (here body.old.home line)
+        (doing line (reference_out levels body.old.home.base place) address)) (waiting program.now body.old)) 0) result
+        body.new (moment_of machine.new) }
     ensures ready { IsReady machine.new }
 {
     match spend(machine, 1) {
@@ -163,12 +151,8 @@ pub fn continue_access(
     addr: u32,
 ) -> Turned
     requires ready { IsReady machine.old }
-    ensures turns { Turns program.now (configuration (from_under program.now body.old (Now.Came (Way.Address addr))
-        (Task.Located located))
-        (moment_of machine.old)) result body.new (moment_of machine.new) }
-    ensures falls { Falls result (measure_of body.new machine.new)
-        (left_with machine.old.steps (come + task_weight (Task.Located located) + tasks_weight body.old)) }
-    ensures home { body.new.home ≡ body.old.home }
+    ensures moves { Moves program.now (continuing program.now body.old (moment_of machine.old) (Way.Address addr)
+        (Task.Located located)) result body.new (moment_of machine.new) }
     ensures ready { IsReady machine.new }
 {
     match located {
@@ -219,11 +203,11 @@ fn locate_first(
     target: bool,
     line: u32,
 ) -> Turned
-    ensures turns { (p : ProgramRows) (go : ℕ → ActTree) (m : Moment)
+    ensures turns { (p : ProgramRows) (go : ℕ → ActTree)
         → from_under p body.old (Now.Begin (Part.Locate access target line)) (Task.Located located)
         ≡ bind (Sub (Locate access target (here body.old.home line)) (on_address go)) (waiting p body.old)
-        → Turns p (configuration (bind (locate_before row access target (here body.old.home line) go)
-        (waiting p body.old)) m) result body.new m }
+        → Leads p (bind (locate_before row access target (here body.old.home line) go) (waiting p body.old)) result
+        body.new }
     ensures falls { Falls result (body_weight body.new)
         (part_weight (Part.Locate row target line) + tasks_weight body.old) }
     ensures home { body.new.home ≡ body.old.home }
@@ -245,12 +229,9 @@ fn locate_first(
 /// The variable to which the pointer at an address points (6.5.4).
 fn follow_pointer(body: &mut Body, machine: &mut Machine, line: u32, addr: u32) -> Turned
     requires ready { IsReady machine.old }
-    ensures turns { (p : ProgramRows) → Turns p (configuration (bind (spend_in (here body.old.home line)
-        (doing line (pointed_at_in addr) address)) (waiting p body.old)) (moment_of machine.old))
-        result body.new (moment_of machine.new) }
-    ensures falls { Falls result (measure_of body.new machine.new)
-        (left_with machine.old.steps (tasks_weight body.old)) }
-    ensures home { body.new.home ≡ body.old.home }
+    ensures moves { (p : ProgramRows) → Moves p (before body.old (moment_of machine.old) (bind (spend_in (here
+        body.old.home line) (doing line (pointed_at_in addr) address)) (waiting p body.old)) 0) result body.new
+        (moment_of machine.new) }
     ensures ready { IsReady machine.new }
 {
     match spend(machine, 1) {
@@ -270,11 +251,8 @@ fn variable_value(
     addr: u32,
 ) -> Turned
     requires ready { IsReady machine.old }
-    ensures turns { Turns program.now (configuration (bind (value_at program.now line addr kind)
-        (waiting program.now body.old)) (moment_of machine.old)) result body.new (moment_of machine.new) }
-    ensures falls { Falls result (measure_of body.new machine.new)
-        (left_with machine.old.steps (come + 1 + tasks_weight body.old)) }
-    ensures home { body.new.home ≡ body.old.home }
+    ensures moves { Moves program.now (before body.old (moment_of machine.old) (bind (value_at program.now line addr
+        kind) (waiting program.now body.old)) (come + 1)) result body.new (moment_of machine.new) }
     ensures ready { IsReady machine.new }
 {
     match kind {
@@ -311,12 +289,9 @@ fn set_value(
     addr: u32,
 ) -> Turned
     requires ready { IsReady machine.old }
-    ensures turns { (p : ProgramRows) → Turns p (configuration (bind (with_bounds base (λ least greatest.
-        doing line (action.set_at least greatest addr) scalar)) (waiting p body.old)) (moment_of machine.old)) result
+    ensures moves { (p : ProgramRows) → Moves p (before body.old (moment_of machine.old) (bind (with_bounds base (λ
+        least greatest. doing line (action.set_at least greatest addr) scalar)) (waiting p body.old)) (come + 1)) result
         body.new (moment_of machine.new) }
-    ensures falls { Falls result (measure_of body.new machine.new)
-        (left_with machine.old.steps (come + 1 + tasks_weight body.old)) }
-    ensures home { body.new.home ≡ body.old.home }
     ensures ready { IsReady machine.new }
 {
     match base {
@@ -345,11 +320,8 @@ fn variable_cells(
     addr: u32,
 ) -> Turned
     requires ready { IsReady machine.old }
-    ensures turns { Turns program.now (configuration (bind (cells_at line addr cells) (waiting program.now body.old))
-        (moment_of machine.old)) result body.new (moment_of machine.new) }
-    ensures falls { Falls result (measure_of body.new machine.new)
-        (left_with machine.old.steps (come + 1 + tasks_weight body.old)) }
-    ensures home { body.new.home ≡ body.old.home }
+    ensures moves { Moves program.now (before body.old (moment_of machine.old) (bind (cells_at line addr cells) (waiting
+        program.now body.old)) (come + 1)) result body.new (moment_of machine.new) }
     ensures ready { IsReady machine.new }
 {
     match read_cells(alloc, machine, addr, cells) {
@@ -370,11 +342,8 @@ fn locate_field(
     field: u32,
 ) -> Turned
     requires ready { IsReady machine.old }
-    ensures turns { Turns program.now (configuration (bind (field_in program.now target line addr field)
-        (waiting program.now body.old)) (moment_of machine.old)) result body.new (moment_of machine.new) }
-    ensures falls { Falls result (measure_of body.new machine.new)
-        (left_with machine.old.steps (come + 1 + tasks_weight body.old)) }
-    ensures home { body.new.home ≡ body.old.home }
+    ensures moves { Moves program.now (before body.old (moment_of machine.old) (bind (field_in program.now target line
+        addr field) (waiting program.now body.old)) (come + 1)) result body.new (moment_of machine.new) }
     ensures ready { IsReady machine.new }
 {
     let found = field_at(alloc, program, machine, target, addr, program.row(field));
@@ -393,12 +362,9 @@ fn within(
     line: u32,
 ) -> Turned
     requires ready { IsReady machine.old }
-    ensures turns { Turns program.now (configuration (bind (spend_in (here body.old.home line) (with_record
-        (slice_get body.old.home.records place) (λ addr. field_in program.now target line addr field)))
-        (waiting program.now body.old)) (moment_of machine.old)) result body.new (moment_of machine.new) }
-    ensures falls { Falls result (measure_of body.new machine.new)
-        (left_with machine.old.steps (tasks_weight body.old)) }
-    ensures home { body.new.home ≡ body.old.home }
+    ensures moves { Moves program.now (before body.old (moment_of machine.old) (bind (spend_in (here body.old.home line)
+        (with_record (slice_get body.old.home.records place) (λ addr. field_in program.now target line addr field)))
+        (waiting program.now body.old)) 0) result body.new (moment_of machine.new) }
     ensures ready { IsReady machine.new }
 {
     match spend(machine, 1) {
@@ -419,9 +385,8 @@ pub(crate) fn locate_component(
     line: u32,
     value: Value,
 ) -> Turned
-    ensures turns { (m : Moment) → Turns program.now (configuration (bind (with_components program.now array (λ a.
-        doing line (action.component a addr value) address))
-        (waiting program.now body.old)) m) result body.new m }
+    ensures turns { Leads program.now (bind (with_components program.now array (λ a. doing line (action.component a addr
+        value) address)) (waiting program.now body.old)) result body.new }
     ensures falls { Falls result (body_weight body.new) (come + 1 + tasks_weight body.old) }
     ensures home { body.new.home ≡ body.old.home }
 {
@@ -458,10 +423,12 @@ fn locate_component_in(
     line: u32,
     value: Value,
 ) -> Turned
-    ensures turns { (m : Moment) → Turns program.now (configuration
-        (bind (with_bounds index (λ least greatest. doing line
-        (action.component (record { least = least; greatest = greatest; size = size }) addr value) address))
-        (waiting program.now body.old)) m) result body.new m }
+    ensures turns { Leads program.now (bind (with_bounds index (λ least greatest. doing line (action.component (record {
+      least = least;
+      greatest = greatest;
+      size = size;
+    }) addr value) address)) (waiting program.now body.old)) result
+        body.new }
     ensures falls { Falls result (body_weight body.new) (come + 1 + tasks_weight body.old) }
     ensures home { body.new.home ≡ body.old.home }
 {

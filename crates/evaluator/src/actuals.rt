@@ -1,15 +1,15 @@
 //! Actual parameters.
 
-ghost use Rattle.std.specs.Prelude.{◌++◌, ◌+◌, ◌∷◌, ◌≡◌, [], ℕ, IfErr, None, OnOk};
+ghost use Rattle.std.specs.Prelude.{◌++◌, ◌+◌, ◌∷◌, ◌≡◌, [], ℕ, IfErr, OnOk};
 ghost use Rattle.cell_value.specs.declared.values.Value.{Value as CellValue};
 ghost use Rattle.core_program.specs.{Accesses.with_formal, Actions.Action, Actions.performs, Tree.bind, Tree.doing};
 ghost use Rattle.core_program.specs.Cells as action;
 ghost use Rattle.core_program.specs.Expressions as expressions;
 ghost use Rattle.eval_ops.specs.Machines.{DoesAll, IsReady, Moment, machine_state, moment_of};
-ghost use Rattle.evaluator.specs.{Rest.top_list, Rest.values_of, Turns.Turns, Turns.configuration};
-ghost use Rattle.evaluator.specs.Rest.{below_top, declared, from, from_under, here, lists_of, pass, resume, tasks_of};
-ghost use Rattle.evaluator.specs.Weight.{Falls, body_weight, come, left_with, measure_of, now_weight, part_weight};
-ghost use Rattle.evaluator.specs.Weight.{task_weight, tasks_weight};
+ghost use Rattle.evaluator.specs.Rest.{below_top, declared, from_under, here, lists_of, paid, pass, resume, tasks_of};
+ghost use Rattle.evaluator.specs.Rest.{top_list, under_list, values_of};
+ghost use Rattle.evaluator.specs.Turns.{Leads, Moves, before, beginning};
+ghost use Rattle.evaluator.specs.Weight.{Falls, body_weight, come, part_weight, task_weight, tasks_weight};
 
 use crate::body::{Body, Turned};
 use crate::tasks::{Located, Now, Part, Task, Way};
@@ -29,11 +29,8 @@ pub fn pass_actuals(
     line: u32,
 ) -> Turned
     requires ready { IsReady machine.old }
-    ensures turns { Turns program.now (configuration (from program.now body.old (Now.Begin (Part.Pass at line)))
-        (moment_of machine.old)) result body.new (moment_of machine.new) }
-    ensures falls { Falls result (measure_of body.new machine.new)
-        (left_with machine.old.steps (now_weight (Now.Begin (Part.Pass at line)) + tasks_weight body.old)) }
-    ensures home { body.new.home ≡ body.old.home }
+    ensures moves { Moves program.now (beginning program.now body.old (moment_of machine.old) (Part.Pass at line))
+        result body.new (moment_of machine.new) }
     ensures ready { IsReady machine.new }
 {
     if at == LIST_END {
@@ -55,14 +52,9 @@ fn pass_actual(
     line: u32,
 ) -> Turned
     requires ready { IsReady machine.old }
-    ensures turns { Turns program.now (configuration (bind (expressions.of_actual program.now
-        (top_list (lists_of body.old))
-        (here body.old.home line) (Row.Item item)) (resume program.now body.old.home (tasks_of body.old)
-        (values_of body.old) (below_top (lists_of body.old)))) (moment_of machine.old)) result body.new
-        (moment_of machine.new) }
-    ensures falls { Falls result (measure_of body.new machine.new)
-        (left_with machine.old.steps (come + 1 + tasks_weight body.old)) }
-    ensures home { body.new.home ≡ body.old.home }
+    ensures moves { Moves program.now (before body.old (moment_of machine.old) (bind
+        (expressions.of_actual program.now (top_list (lists_of body.old)) (here body.old.home line) (Row.Item item))
+        (under_list program.now body.old)) (come + 1)) result body.new (moment_of machine.new) }
     ensures ready { IsReady machine.new }
 {
     match item {
@@ -82,27 +74,18 @@ fn pass_actual(
             routine,
             levels,
             next,
-        } => match spend(machine, 1) {
-            Ok(()) => {
-                let found = routine_in(machine, routine, levels, body.home.base);
-                add_routine(body, alloc, program, found, next, line)
-            }
-            Err(halt) => body.fail(line, halt),
-        },
+        } => {
+            let found = routine_in(machine, routine, levels, body.home.base);
+            add_routine(body, alloc, program, found, next, line)
+        }
         ItemRow::RoutineFormal {
             formal,
             levels,
             next,
-        } => pass_formal(
-            body,
-            alloc,
-            program,
-            machine,
-            program.row(formal),
-            levels,
-            next,
-            line,
-        ),
+        } => {
+            let formal = program.row(formal);
+            pass_formal(body, alloc, program, machine, formal, levels, next, line)
+        }
         _ => body.no_row(),
     }
 }
@@ -119,29 +102,23 @@ fn pass_formal(
     line: u32,
 ) -> Turned
     requires ready { IsReady machine.old }
-    ensures turns { Turns program.now (configuration (bind (with_formal formal (λ place heading.
-        expressions.pass_routine (here body.old.home line) next (top_list (lists_of body.old))
-        (action.routine_out program.now heading levels body.old.home.base place))) (resume program.now body.old.home
-        (tasks_of body.old) (values_of body.old) (below_top (lists_of body.old)))) (moment_of machine.old)) result
-        body.new (moment_of machine.new) }
-    ensures falls { Falls result (measure_of body.new machine.new)
-        (left_with machine.old.steps (come + 1 + tasks_weight body.old)) }
-    ensures home { body.new.home ≡ body.old.home }
+    ensures moves { Moves program.now (before body.old (moment_of machine.old) (bind (with_formal formal
+        (λ place heading. expressions.pass_routine (here body.old.home line) next (top_list (lists_of body.old))
+        (action.routine_out program.now heading levels body.old.home.base place))) (under_list program.now body.old))
+        (come + 1)) result body.new (moment_of machine.new) }
     ensures ready { IsReady machine.new }
 {
     match formal {
-        Row::Name(NameRow::RoutineFormal { place, heading, .. }) => match spend(machine, 1) {
-            Ok(()) => {
-                let found = routine_out(program, machine, heading, levels, body.home.base, place);
-                add_routine(body, alloc, program, found, next, line)
-            }
-            Err(halt) => body.fail(line, halt),
-        },
+        Row::Name(NameRow::RoutineFormal { place, heading, .. }) => {
+            let found = formal_out(program, machine, heading, levels, body.home.base, place);
+            add_routine(body, alloc, program, found, next, line)
+        }
         _ => body.no_row(),
     }
 }
 
-/// An action on a line gave an actual routine parameter and the frame in which it was declared, or it was not done.
+/// A step was taken, and then an action on a line gave an actual routine parameter and the frame in which it was
+/// declared, or one of them was not done.
 fn add_routine(
     body: &mut Body,
     alloc: Global,
@@ -150,24 +127,16 @@ fn add_routine(
     next: u32,
     line: u32,
 ) -> Turned
-    ensures turns { (a : Action (ℕ × ℕ)) (m m' : Moment) → DoesAll (λ x. x) (performs a m.state) found m m'
-        → Turns program.now (configuration (bind (doing line a (λ (routine, frame). pass body.old.home next line
-        (top_list (lists_of body.old) ++ CellValue.Routine routine frame ∷ []))) (resume program.now body.old.home
-        (tasks_of body.old) (values_of body.old) (below_top (lists_of body.old)))) m) result body.new m' }
-    ensures less { (a : Action (ℕ × ℕ)) (m m' : Moment) → DoesAll (λ x. x) (performs a m.state) found m m'
-        → Falls result (left_with m'.state.steps (body_weight body.new))
-        (left_with m.state.steps (part_weight (Part.Pass next line) + 1 + tasks_weight body.old)) }
-    ensures home { body.new.home ≡ body.old.home }
+    ensures moves { (a : Action (ℕ × ℕ)) (m m' : Moment) → DoesAll (λ x. x) (performs (paid a) m.state) found m m'
+        → Moves program.now (before body.old m (bind (doing line (paid a) (λ (routine, frame).
+        pass body.old.home next line (top_list (lists_of body.old) ++ CellValue.Routine routine frame ∷ [])))
+        (under_list program.now body.old)) 0) result body.new m' }
 {
     match found {
-        Ok((routine, frame)) => add_cell(
-            body,
-            alloc,
-            program,
-            Value::Routine(routine, frame),
-            next,
-            line,
-        ),
+        Ok((routine, frame)) => {
+            let value = Value::Routine(routine, frame);
+            add_cell(body, alloc, program, value, next, line)
+        }
         Err(halt) => body.fail(line, halt),
     }
 }
@@ -182,9 +151,8 @@ pub fn add_actual(
     line: u32,
     value: Value,
 ) -> Turned
-    ensures turns { (m : Moment) → Turns program.now (configuration (from_under program.now body.old
-        (Now.Came (Way.Scalar value)) (Task.Actual of next line)) m)
-        result body.new m }
+    ensures turns { Leads program.now (from_under program.now body.old (Now.Came (Way.Scalar value)) (Task.Actual of
+        next line)) result body.new }
     ensures falls { Falls result (body_weight body.new) (come + task_weight (Task.Actual of next line)
         + tasks_weight body.old) }
     ensures home { body.new.home ≡ body.old.home }
@@ -204,9 +172,9 @@ pub fn add_cell(
     next: u32,
     line: u32,
 ) -> Turned
-    ensures turns { (m : Moment) → Turns program.now (configuration (bind (pass body.old.home next line
-        (top_list (lists_of body.old) ++ value ∷ [])) (resume program.now body.old.home (tasks_of body.old)
-        (values_of body.old) (below_top (lists_of body.old)))) m) result body.new m }
+    ensures turns { Leads program.now (bind (pass body.old.home next line (top_list (lists_of body.old) ++ value ∷ []))
+        (resume program.now body.old.home (tasks_of body.old) (values_of body.old) (below_top (lists_of body.old))))
+        result body.new }
     ensures falls { Falls result (body_weight body.new)
         (part_weight (Part.Pass next line) + 1 + tasks_weight body.old) }
     ensures home { body.new.home ≡ body.old.home }
@@ -227,9 +195,8 @@ pub fn add_actual_cells(
     next: u32,
     line: u32,
 ) -> Turned
-    ensures turns { (m : Moment) → Turns program.now (configuration (from_under program.now body.old
-        (Now.Came Way.Cells) (Task.Actual of next line)) m)
-        result body.new m }
+    ensures turns { Leads program.now (from_under program.now body.old (Now.Came Way.Cells) (Task.Actual of next line))
+        result body.new }
     ensures falls { Falls result (body_weight body.new) (come + task_weight (Task.Actual of next line)
         + tasks_weight body.old) }
     ensures home { body.new.home ≡ body.old.home }
@@ -242,7 +209,8 @@ pub fn add_actual_cells(
     Ok(None)
 }
 
-/// A routine that was declared this many blocks out, as an actual parameter, and the base of the frame of that block.
+/// A step is taken, and this is a routine that was declared this many blocks out, with the base of the frame of that
+/// block.
 fn routine_in(
     machine: &mut Machine,
     routine: u32,
@@ -250,12 +218,32 @@ fn routine_in(
     base: u32,
 ) -> Result<(u32, u32), Halt>
     requires ready { IsReady machine.old }
-    ensures action { DoesAll (λ x. x) (performs (declared routine levels base) (machine_state machine.old)) result
-        (moment_of machine.old) (moment_of machine.new) }
+    ensures action { DoesAll (λ x. x) (performs (paid (declared routine levels base)) (machine_state machine.old))
+        result (moment_of machine.old) (moment_of machine.new) }
     ensures ready { IsReady machine.new }
 {
+    spend(machine, 1)?;
     let frame = frame_out(machine, levels, base)?;
     Ok((routine, frame))
+}
+
+/// A step is taken, and this is what a routine parameter stands for.
+fn formal_out(
+    program: &Program,
+    machine: &mut Machine,
+    heading: u32,
+    levels: u32,
+    base: u32,
+    place: u32,
+) -> Result<(u32, u32), Halt>
+    requires ready { IsReady machine.old }
+    ensures action { DoesAll (λ x. x) (performs (paid (action.routine_out program.now heading levels base place))
+        (machine_state machine.old)) result (moment_of machine.old) (moment_of machine.new) }
+    ensures ready { IsReady machine.new }
+{
+    spend(machine, 1)?;
+    let found = routine_out(program, machine, heading, levels, base, place)?;
+    Ok(found)
 }
 
 /// Puts a value at the end of a list. A list of 4,294,967,295 values takes no more, which counts as out of memory.

@@ -3,10 +3,9 @@
 ghost use Rattle.std.specs.Prelude.{if◌then◌else◌, ◌+◌, ◌≡◌};
 ghost use Rattle.core_program.specs.{ProgramRows.ProgramRows, Tree.bind};
 ghost use Rattle.core_program.specs.Statements as statements;
-ghost use Rattle.eval_ops.specs.Machines.{IsReady, Moment, moment_of};
-ghost use Rattle.evaluator.specs.Rest.{from, from_under, here, waiting};
-ghost use Rattle.evaluator.specs.Turns.{Turns, configuration};
-ghost use Rattle.evaluator.specs.Weight.{Falls, body_weight, come, left_with, measure_of, task_weight, tasks_weight};
+ghost use Rattle.eval_ops.specs.Machines.{IsReady, moment_of};
+ghost use Rattle.evaluator.specs.{Rest.from, Rest.from_under, Rest.here, Rest.waiting, Turns.Leads, Turns.Moves};
+ghost use Rattle.evaluator.specs.{Turns.continuing, Weight.Falls, Weight.body_weight, Weight.come, Weight.tasks_weight};
 
 use crate::body::{Body, Turned};
 use crate::counting::{first_turn, turn_ended};
@@ -27,12 +26,8 @@ pub fn continue_statement(
     value: Value,
 ) -> Turned
     requires ready { IsReady machine.old }
-    ensures turns { Turns program.now
-        (configuration (from_under program.now body.old (Now.Came (Way.Scalar value)) (Task.Choice choice))
-        (moment_of machine.old)) result body.new (moment_of machine.new) }
-    ensures falls { Falls result (measure_of body.new machine.new)
-        (left_with machine.old.steps (come + task_weight (Task.Choice choice) + tasks_weight body.old)) }
-    ensures home { body.new.home ≡ body.old.home }
+    ensures moves { Moves program.now (continuing program.now body.old (moment_of machine.old) (Way.Scalar value)
+        (Task.Choice choice)) result body.new (moment_of machine.new) }
     ensures ready { IsReady machine.new }
 {
     match choice {
@@ -79,9 +74,8 @@ pub fn continue_statement(
 /// A turn of a while statement begins, if its condition holds, and else the statement has ended.
 #[inline(always)]
 fn again(body: &mut Body, taken: bool, row: u32, inner: u32, line: u32) -> Turned
-    ensures turns { (p : ProgramRows) (m : Moment) → Turns p
-        (configuration (if taken then from_under p body.old (Now.Begin (Part.Exec inner line))
-        (Task.Next (Next.Again row line)) else from p body.old (Now.Came Way.Nothing)) m) result body.new m }
+    ensures turns { (p : ProgramRows) → Leads p (if taken then from_under p body.old (Now.Begin (Part.Exec inner line))
+        (Task.Next (Next.Again row line)) else from p body.old (Now.Came Way.Nothing)) result body.new }
     ensures falls { Falls result (body_weight body.new) (come + 1 + tasks_weight body.old) }
     ensures home { body.new.home ≡ body.old.home }
 {
@@ -97,9 +91,8 @@ fn again(body: &mut Body, taken: bool, row: u32, inner: u32, line: u32) -> Turne
 
 /// A case statement goes on by the value of its index: with the statement that it chooses, if there is one.
 fn choose_case(body: &mut Body, program: &Program, choices: u32, line: u32, value: Value) -> Turned
-    ensures turns { (m : Moment) → Turns program.now
-        (configuration (bind (statements.chosen_by program.now (here body.old.home line) choices value)
-        (waiting program.now body.old)) m) result body.new m }
+    ensures turns { Leads program.now (bind (statements.chosen_by program.now (here body.old.home line) choices value)
+        (waiting program.now body.old)) result body.new }
     ensures falls { Falls result (body_weight body.new) (come + 1 + tasks_weight body.old) }
     ensures home { body.new.home ≡ body.old.home }
 {
@@ -120,11 +113,8 @@ pub fn follow_statement(
     next: Next,
 ) -> Turned
     requires ready { IsReady machine.old }
-    ensures turns { Turns program.now (configuration (from_under program.now body.old (Now.Came Way.Nothing)
-        (Task.Next next)) (moment_of machine.old)) result body.new (moment_of machine.new) }
-    ensures falls { Falls result (measure_of body.new machine.new)
-        (left_with machine.old.steps (come + task_weight (Task.Next next) + tasks_weight body.old)) }
-    ensures home { body.new.home ≡ body.old.home }
+    ensures moves { Moves program.now (continuing program.now body.old (moment_of machine.old) Way.Nothing (Task.Next
+        next)) result body.new (moment_of machine.new) }
     ensures ready { IsReady machine.new }
 {
     match next {

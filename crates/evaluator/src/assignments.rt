@@ -1,9 +1,9 @@
 //! Assignments.
 
 ghost use Rattle.std.specs.Prelude.{◌+◌, ◌≡◌};
-ghost use Rattle.eval_ops.specs.Machines.{IsReady, Moment, moment_of};
-ghost use Rattle.evaluator.specs.{Rest.from_under, Turns.Turns, Turns.configuration};
-ghost use Rattle.evaluator.specs.Weight.{Falls, body_weight, come, left_with, measure_of, task_weight, tasks_weight};
+ghost use Rattle.eval_ops.specs.Machines.{IsReady, moment_of};
+ghost use Rattle.evaluator.specs.{Rest.from_under, Turns.Leads, Turns.Moves, Turns.continuing};
+ghost use Rattle.evaluator.specs.Weight.{Falls, body_weight, come, task_weight, tasks_weight};
 
 use crate::body::{Body, Turned};
 use crate::tasks::{Now, Part, Task, Way};
@@ -21,9 +21,8 @@ pub fn locate_target(
     line: u32,
     value: Value,
 ) -> Turned
-    ensures turns { (m : Moment) → Turns program.now
-        (configuration (from_under program.now body.old (Now.Came (Way.Scalar value)) (Task.Target target of line)) m)
-        result body.new m }
+    ensures turns { Leads program.now (from_under program.now body.old (Now.Came (Way.Scalar value)) (Task.Target target
+        of line)) result body.new }
     ensures falls { Falls result (body_weight body.new)
         (come + task_weight (Task.Target target of line) + tasks_weight body.old) }
     ensures home { body.new.home ≡ body.old.home }
@@ -47,9 +46,8 @@ pub fn locate_target_cells(
     of: u32,
     line: u32,
 ) -> Turned
-    ensures turns { (m : Moment) → Turns program.now
-        (configuration (from_under program.now body.old (Now.Came Way.Cells) (Task.Target target of line)) m) result
-        body.new m }
+    ensures turns { Leads program.now (from_under program.now body.old (Now.Came Way.Cells) (Task.Target target of
+        line)) result body.new }
     ensures falls { Falls result (body_weight body.new)
         (come + task_weight (Task.Target target of line) + tasks_weight body.old) }
     ensures home { body.new.home ≡ body.old.home }
@@ -76,12 +74,8 @@ pub fn put(
     addr: u32,
 ) -> Turned
     requires ready { IsReady machine.old }
-    ensures turns { Turns program.now
-        (configuration (from_under program.now body.old (Now.Came (Way.Address addr)) (Task.Put target of line))
-        (moment_of machine.old)) result body.new (moment_of machine.new) }
-    ensures falls { Falls result (measure_of body.new machine.new)
-        (left_with machine.old.steps (come + task_weight (Task.Put target of line) + tasks_weight body.old)) }
-    ensures home { body.new.home ≡ body.old.home }
+    ensures moves { Moves program.now (continuing program.now body.old (moment_of machine.old) (Way.Address addr)
+        (Task.Put target of line)) result body.new (moment_of machine.new) }
     ensures ready { IsReady machine.new }
 {
     let value = body.take_value();
@@ -108,12 +102,8 @@ pub fn put_cells(
     addr: u32,
 ) -> Turned
     requires ready { IsReady machine.old }
-    ensures turns { Turns program.now
-        (configuration (from_under program.now body.old (Now.Came (Way.Address addr)) (Task.PutCells line))
-        (moment_of machine.old)) result body.new (moment_of machine.new) }
-    ensures falls { Falls result (measure_of body.new machine.new)
-        (left_with machine.old.steps (come + task_weight (Task.PutCells line) + tasks_weight body.old)) }
-    ensures home { body.new.home ≡ body.old.home }
+    ensures moves { Moves program.now (continuing program.now body.old (moment_of machine.old) (Way.Address addr)
+        (Task.PutCells line)) result body.new (moment_of machine.new) }
     ensures ready { IsReady machine.new }
 {
     let list = body.take_list(alloc);

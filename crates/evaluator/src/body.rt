@@ -1,16 +1,16 @@
 //! A body, and the single steps on it.
 
-ghost use Rattle.std.specs.Prelude.{if◌then◌else◌, ◌+◌, ◌∷◌, ◌≡◌, ℕ, Err, None, Ok, Some, max};
+ghost use Rattle.std.specs.Prelude.{if◌then◌else◌, ◌+◌, ◌∷◌, ◌≡◌, ℕ, Err, Some, max};
 ghost use Rattle.cell_value.specs.declared.values.Value.{Value as CellValue};
-ghost use Rattle.core_program.specs.{Accesses.address, Accesses.no_row, Accesses.scalar, Actions.Action};
-ghost use Rattle.core_program.specs.{Actions.performs, ProgramRows.ProgramRows, ProgramRows.routine_at, Replay.end_of};
-ghost use Rattle.core_program.specs.{Run.Ended, Run.whole, Statements.nothing, Tree.Cells as CellsOut, Tree.Out};
-ghost use Rattle.core_program.specs.{Tree.bind, Tree.doing, declared.program.Routine.Routine as RoutineRow};
+ghost use Rattle.core_program.specs.{Accesses.address, Accesses.scalar, Actions.Action, Actions.performs};
+ghost use Rattle.core_program.specs.{ProgramRows.ProgramRows, ProgramRows.routine_at, Replay.end_of, Run.Ended};
+ghost use Rattle.core_program.specs.{Run.whole, Statements.nothing, declared.program.Routine.Routine as RoutineRow};
+ghost use Rattle.core_program.specs.Tree.{Cells as CellsOut, Out, bind, doing};
 ghost use Rattle.eval_ops.specs.Machines.{DoesAll, Moment};
 ghost use Rattle.evaluator.specs.Rest.{below_top, from, from_under, home_below, left_now, lists_below, lists_of};
 ghost use Rattle.evaluator.specs.Rest.{rest_of, resume, tasks_of, top, top_list, values_below, values_of, waiting};
-ghost use Rattle.evaluator.specs.Turns.{Turns, configuration};
-ghost use Rattle.evaluator.specs.Weight.{Falls, body_weight, come, left_with, now_weight, task_weight, tasks_weight};
+ghost use Rattle.evaluator.specs.Turns.{Configuration, Leads, Moves, Turns, before};
+ghost use Rattle.evaluator.specs.Weight.{Falls, body_weight, come, now_weight, task_weight, tasks_weight};
 
 use crate::records::Records;
 use crate::tasks::{
@@ -80,8 +80,7 @@ impl Body {
     /// Puts a task on top of those that wait, and sets what is now at work.
     #[inline(always)]
     pub fn wait(&mut self, task: Task, now: Now) -> Turned
-        ensures turns { (p : ProgramRows) (m : Moment) → Turns p (configuration (from_under p self.old now task) m)
-            result self.new m }
+        ensures turns { (p : ProgramRows) → Leads p (from_under p self.old now task) result self.new }
         ensures home { self.new.home ≡ self.old.home }
         ensures falls { Falls result (body_weight self.new)
             (now_weight now + task_weight task + tasks_weight self.old + 1) }
@@ -94,9 +93,8 @@ impl Body {
     /// Lets a value wait, which the task holds that is put on top, and sets what is now at work.
     #[inline(always)]
     pub fn hold(&mut self, value: Value, task: Task, now: Now) -> Turned
-        ensures turns { (p : ProgramRows) (m : Moment) → Turns p (configuration
-            (left_now p self.old.home now (task ∷ tasks_of self.old)
-            (value ∷ values_of self.old) (lists_of self.old)) m) result self.new m }
+        ensures turns { (p : ProgramRows) → Leads p (left_now p self.old.home now (task ∷ tasks_of self.old) (value ∷
+            values_of self.old) (lists_of self.old)) result self.new }
         ensures home { self.new.home ≡ self.old.home }
         ensures falls { Falls result (body_weight self.new)
             (now_weight now + task_weight task + tasks_weight self.old + 1) }
@@ -110,8 +108,7 @@ impl Body {
     /// Sets what is now at work.
     #[inline(always)]
     pub fn go(&mut self, now: Now) -> Turned
-        ensures turns { (p : ProgramRows) (m : Moment) → Turns p (configuration (from p self.old now) m) result self.new
-            m }
+        ensures turns { (p : ProgramRows) → Leads p (from p self.old now) result self.new }
         ensures home { self.new.home ≡ self.old.home }
         ensures falls { Falls result (body_weight self.new) (now_weight now + tasks_weight self.old + 1) }
     {
@@ -133,7 +130,7 @@ impl Body {
     /// Stops for good, since the tables are not whole. That never comes of a program; it counts as out of memory.
     #[inline(always)]
     pub fn no_row(&mut self) -> Turned
-        ensures turns { (p : ProgramRows) (m : Moment) → Turns p (configuration no_row m) result self.new m }
+        ensures turns { (p : ProgramRows) (c : Configuration) (m : Moment) → Turns p c result self.new m }
         ensures fails { result ≡ Err Halt.Memory }
         ensures home { self.new.home ≡ self.old.home }
         ensures falls { Falls result (body_weight self.new) 0 }
@@ -144,14 +141,12 @@ impl Body {
     /// An action on a line gave the value of an expression, or it was not done.
     #[inline(always)]
     pub fn scalar(&mut self, line: u32, done: Result<Value, Halt>) -> Turned
-        ensures turns { (p : ProgramRows) (a : Action CellValue) (m m' : Moment)
+        ensures moves { (p : ProgramRows) (a : Action CellValue) (m m' : Moment)
             → DoesAll (λ v. v) (performs a m.state) done m m'
-            → Turns p (configuration (bind (doing line a scalar) (waiting p self.old)) m) result self.new m' }
-        ensures home { self.new.home ≡ self.old.home }
+            → Moves p (before self.old m (bind (doing line a scalar) (waiting p self.old)) (come + 1)) result
+            self.new m' }
         ensures falls { Falls result (body_weight self.new) (come + tasks_weight self.old + 1) }
-        ensures less { (a : Action CellValue) (m m' : Moment) → DoesAll (λ v. v) (performs a m.state) done m m'
-            → Falls result (left_with m'.state.steps (body_weight self.new))
-            (left_with m.state.steps (come + tasks_weight self.old + 1)) }
+        ensures home { self.new.home ≡ self.old.home }
     {
         match done {
             Ok(value) => self.go(Now::Came(Way::Scalar(value))),
@@ -162,14 +157,12 @@ impl Body {
     /// An action on a line gave the address of a variable, or it was not done.
     #[inline(always)]
     pub fn address(&mut self, line: u32, done: Result<u32, Halt>) -> Turned
-        ensures turns { (p : ProgramRows) (a : Action ℕ) (m m' : Moment)
+        ensures moves { (p : ProgramRows) (a : Action ℕ) (m m' : Moment)
             → DoesAll (λ n. n) (performs a m.state) done m m'
-            → Turns p (configuration (bind (doing line a address) (waiting p self.old)) m) result self.new m' }
-        ensures home { self.new.home ≡ self.old.home }
+            → Moves p (before self.old m (bind (doing line a address) (waiting p self.old)) (come + 1)) result
+            self.new m' }
         ensures falls { Falls result (body_weight self.new) (come + tasks_weight self.old + 1) }
-        ensures less { (a : Action ℕ) (m m' : Moment) → DoesAll (λ n. n) (performs a m.state) done m m'
-            → Falls result (left_with m'.state.steps (body_weight self.new))
-            (left_with m.state.steps (come + tasks_weight self.old + 1)) }
+        ensures home { self.new.home ≡ self.old.home }
     {
         match done {
             Ok(addr) => self.go(Now::Came(Way::Address(addr))),
@@ -180,14 +173,10 @@ impl Body {
     /// An action on a line, after which a statement has ended, was done or not.
     #[inline(always)]
     pub fn finally(&mut self, line: u32, done: Result<(), Halt>) -> Turned
-        ensures turns { (p : ProgramRows) (a : Action (Unit {0})) (m m' : Moment)
+        ensures moves { (p : ProgramRows) (a : Action (Unit {0})) (m m' : Moment)
             → DoesAll (λ _. tt) (performs a m.state) done m m'
-            → Turns p (configuration (bind (doing line a (λ _. nothing)) (waiting p self.old)) m) result self.new m' }
-        ensures home { self.new.home ≡ self.old.home }
-        ensures falls { Falls result (body_weight self.new) (come + tasks_weight self.old + 1) }
-        ensures less { (a : Action (Unit {0})) (m m' : Moment) → DoesAll (λ _. tt) (performs a m.state) done m m'
-            → Falls result (left_with m'.state.steps (body_weight self.new))
-            (left_with m.state.steps (come + tasks_weight self.old + 1)) }
+            → Moves p (before self.old m (bind (doing line a (λ _. nothing)) (waiting p self.old)) (come + 1)) result
+            self.new m' }
     {
         match done {
             Ok(()) => self.go(Now::Came(Way::Nothing)),
@@ -197,8 +186,7 @@ impl Body {
 
     /// The values of cells are what came.
     pub fn give_cells(&mut self, values: Cells) -> Turned
-        ensures turns { (p : ProgramRows) (m : Moment) → Turns p (configuration (waiting p self.old (CellsOut values))
-            m) result self.new m }
+        ensures turns { (p : ProgramRows) → Leads p (waiting p self.old (CellsOut values)) result self.new }
         ensures falls { Falls result (body_weight self.new) (come + 1 + tasks_weight self.old) }
         ensures home { self.new.home ≡ self.old.home }
     {
@@ -210,8 +198,8 @@ impl Body {
     /// What is now at work is the one, or else the other.
     #[inline(always)]
     pub fn either(&mut self, taken: bool, now: Now, otherwise: Now) -> Turned
-        ensures turns { (p : ProgramRows) (m : Moment) → Turns p
-            (configuration (if taken then from p self.old now else from p self.old otherwise) m) result self.new m }
+        ensures turns { (p : ProgramRows) → Leads p (if taken then from p self.old now else from p self.old otherwise)
+            result self.new }
         ensures falls { Falls result (body_weight self.new)
             (max (now_weight now) (now_weight otherwise) + tasks_weight self.old + 1) }
         ensures home { self.new.home ≡ self.old.home }
@@ -281,7 +269,7 @@ impl Body {
                 self.drop_value();
                 self.drop_value();
             }
-            Task::Transfer(TransferTask::Into { .. }) => self.drop_value(),
+            Task::Transfer(TransferTask::Into(_)) => self.drop_value(),
             Task::Transfer(TransferTask::Width { .. }) => self.drop_value(),
             Task::Transfer(TransferTask::TextWidth { .. }) => self.drop_list(alloc),
             Task::Leave => self.home.records.leave(),

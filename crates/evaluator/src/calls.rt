@@ -6,10 +6,10 @@ ghost use Rattle.core_program.specs.{Actions.Action, Actions.performs, Acts.limi
 ghost use Rattle.core_program.specs.{Tree.Enter, Tree.bind, Tree.doing, declared.program.Routine.Routine as RoutineRow};
 ghost use Rattle.core_program.specs.ProgramRows.{ProgramRows, routine_at};
 ghost use Rattle.eval_ops.specs.Machines.{DoesAll, IsReady, Moment, moment_of};
-ghost use Rattle.evaluator.specs.{Rest.top_list, Rest.values_of, Weight.tasks_weight};
-ghost use Rattle.evaluator.specs.Rest.{after_call, below_top, from_under, left_now, lists_of, resume, tasks_of};
-ghost use Rattle.evaluator.specs.Turns.{EntersRoutine, Turns, configuration};
-ghost use Rattle.evaluator.specs.Weight.{Falls, body_weight, come, left_with, measure_of, part_weight, task_weight};
+ghost use Rattle.evaluator.specs.Rest.{after_call, below_top, left_now, lists_of, resume, tasks_of, top_list};
+ghost use Rattle.evaluator.specs.Rest.{under_list, values_of};
+ghost use Rattle.evaluator.specs.Turns.{EntersRoutine, Leads, Moves, before, configuration, continuing};
+ghost use Rattle.evaluator.specs.Weight.{Falls, body_weight, part_weight, task_weight, tasks_weight};
 
 use crate::actuals::{append, append_all};
 use crate::body::{Body, Turned};
@@ -22,9 +22,8 @@ use std::alloc::Global;
 
 /// A call begins with its actual parameters, and the task is to go on with them.
 pub fn begin_call(body: &mut Body, alloc: Global, task: Task, actuals: u32, line: u32) -> Turned
-    ensures turns { (p : ProgramRows) (m : Moment) → Turns p (configuration (left_now p body.old.home
-        (Now.Begin (Part.Pass actuals line)) (task ∷ tasks_of body.old) (values_of body.old)
-        ([] ∷ lists_of body.old)) m) result body.new m }
+    ensures turns { (p : ProgramRows) → Leads p (left_now p body.old.home (Now.Begin (Part.Pass actuals line)) (task ∷
+        tasks_of body.old) (values_of body.old) ([] ∷ lists_of body.old)) result body.new }
     ensures falls { Falls result (body_weight body.new)
         (part_weight (Part.Pass actuals line) + task_weight task + tasks_weight body.old + 1) }
     ensures home { body.new.home ≡ body.old.home }
@@ -47,13 +46,8 @@ pub fn call(
     line: u32,
 ) -> Turned
     requires ready { IsReady machine.old }
-    ensures turns { Turns program.now (configuration (from_under program.now body.old (Now.Came Way.Cells)
-        (Task.Call procedure routine levels line))
-        (moment_of machine.old)) result body.new (moment_of machine.new) }
-    ensures falls { Falls result (measure_of body.new machine.new)
-        (left_with machine.old.steps (come + task_weight (Task.Call procedure routine levels line)
-        + tasks_weight body.old)) }
-    ensures home { body.new.home ≡ body.old.home }
+    ensures moves { Moves program.now (continuing program.now body.old (moment_of machine.old) Way.Cells (Task.Call
+        procedure routine levels line)) result body.new (moment_of machine.new) }
     ensures ready { IsReady machine.new }
 {
     match program.routine(routine) {
@@ -88,13 +82,8 @@ pub fn call_formal(
     line: u32,
 ) -> Turned
     requires ready { IsReady machine.old }
-    ensures turns { Turns program.now (configuration (from_under program.now body.old (Now.Came Way.Cells)
-        (Task.CallFormal procedure formal levels line))
-        (moment_of machine.old)) result body.new (moment_of machine.new) }
-    ensures falls { Falls result (measure_of body.new machine.new)
-        (left_with machine.old.steps (come + task_weight (Task.CallFormal procedure formal levels line)
-        + tasks_weight body.old)) }
-    ensures home { body.new.home ≡ body.old.home }
+    ensures moves { Moves program.now (continuing program.now body.old (moment_of machine.old) Way.Cells
+        (Task.CallFormal procedure formal levels line)) result body.new (moment_of machine.new) }
     ensures ready { IsReady machine.new }
 {
     match program.row(formal) {
@@ -118,13 +107,10 @@ fn enter_found(
     line: u32,
 ) -> Turned
     requires ready { IsReady machine.now }
-    ensures turns { (a : Action (ℕ × ℕ)) (m : Moment) → DoesAll (λ x. x) (performs a m.state) found m
-        (moment_of machine.now) → Turns program.now (configuration (bind (doing line a (λ (routine, frame).
+    ensures moves { (a : Action (ℕ × ℕ)) (m : Moment) → DoesAll (λ x. x) (performs a m.state) found m
+        (moment_of machine.now) → Moves program.now (before body.old m (bind (doing line a (λ (routine, frame).
         entered program.now routine frame (top_list (lists_of body.old)) (after_call procedure)))
-        (resume program.now body.old.home (tasks_of body.old) (values_of body.old) (below_top (lists_of body.old)))) m)
-        result body.new (moment_of machine.now) }
-    ensures falls { (left before : ℕ) → Falls result left before }
-    ensures home { body.new.home ≡ body.old.home }
+        (under_list program.now body.old)) 0) result body.new (moment_of machine.now) }
 {
     match found {
         Ok((routine, frame)) => match program.routine(routine) {
@@ -159,12 +145,10 @@ fn enter(
     line: u32,
 ) -> Turned
     requires ready { IsReady machine.now }
-    ensures turns { (p : ProgramRows) (r : RoutineRow) → routine_at p routine ≡ Some r → r.cells ≡ cells
-        → Turns p (configuration (bind (Enter routine cells (CellValue.Frame frame ∷ top_list (lists_of body.old))
-        (after_call procedure)) (resume p body.old.home (tasks_of body.old) (values_of body.old)
-        (below_top (lists_of body.old)))) (moment_of machine.now)) result body.new (moment_of machine.now) }
-    ensures falls { (left before : ℕ) → Falls result left before }
-    ensures home { body.new.home ≡ body.old.home }
+    ensures moves { (p : ProgramRows) (r : RoutineRow) → routine_at p routine ≡ Some r → r.cells ≡ cells
+        → Moves p (before body.old (moment_of machine.now) (bind (Enter routine cells
+        (CellValue.Frame frame ∷ top_list (lists_of body.old)) (after_call procedure)) (under_list p body.old)) 0)
+        result body.new (moment_of machine.now) }
 {
     match limit_passed(machine, cells) {
         None => stop_at_call(body, alloc, procedure, routine, frame),

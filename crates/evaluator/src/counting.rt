@@ -5,11 +5,10 @@ ghost use Rattle.cell_value.specs.declared.values.Value.TheVariants as CellValue
 ghost use Rattle.core_program.specs.ProgramRows.{ProgramRows, row_at};
 ghost use Rattle.core_program.specs.Statements as statements;
 ghost use Rattle.core_program.specs.Tree.{Count, Exec, Sub, bind};
-ghost use Rattle.eval_ops.specs.Counting.{turns_row};
-ghost use Rattle.eval_ops.specs.Machines.{Gives, IsReady, Moment, moment_of};
+ghost use Rattle.eval_ops.specs.{Counting.turns_row, Machines.Gives, Machines.IsReady, Machines.moment_of};
 ghost use Rattle.evaluator.specs.Rest.{after_turn, here, waiting, with_numbers};
-ghost use Rattle.evaluator.specs.Turns.{Turns, configuration};
-ghost use Rattle.evaluator.specs.Weight.{Falls, body_weight, come, left_with, measure_of, tasks_weight};
+ghost use Rattle.evaluator.specs.Turns.{Leads, Moves, before};
+ghost use Rattle.evaluator.specs.Weight.{Falls, body_weight, come, tasks_weight};
 
 use crate::body::{Body, Turned};
 use crate::tasks::{Next, Now, Part, Task};
@@ -42,12 +41,9 @@ pub(crate) fn first_turn(
     last: Value,
 ) -> Turned
     requires ready { IsReady machine.old }
-    ensures turns { Turns program.now (configuration (bind
-        (statements.first_turn program.now (here body.old.home line) turns (row_at program.now turns) first last)
-        (waiting program.now body.old)) (moment_of machine.old)) result body.new (moment_of machine.new) }
-    ensures falls { Falls result (measure_of body.new machine.new)
-        (left_with machine.old.steps (come + 1 + tasks_weight body.old)) }
-    ensures home { body.new.home ≡ body.old.home }
+    ensures moves { Moves program.now (before body.old (moment_of machine.old) (bind (statements.first_turn program.now
+        (here body.old.home line) turns (row_at program.now turns) first last) (waiting program.now body.old)) (come +
+        1)) result body.new (moment_of machine.new) }
     ensures ready { IsReady machine.new }
 {
     match counting_at(program, turns, first, last) {
@@ -74,12 +70,9 @@ fn begin_turns(
 ) -> Turned
     requires ready { IsReady machine.old }
     requires row { row_at program.now turns ≡ turns_row counting }
-    ensures turns { Turns program.now (configuration (bind (statements.first_turn program.now (here body.old.home line)
-        turns (turns_row counting) (CellValue.Number span.value) (CellValue.Number span.last))
-        (waiting program.now body.old)) (moment_of machine.old)) result body.new (moment_of machine.new) }
-    ensures falls { Falls result (measure_of body.new machine.new)
-        (left_with machine.old.steps (come + 1 + tasks_weight body.old)) }
-    ensures home { body.new.home ≡ body.old.home }
+    ensures moves { Moves program.now (before body.old (moment_of machine.old) (bind (statements.first_turn program.now
+        (here body.old.home line) turns (turns_row counting) (CellValue.Number span.value) (CellValue.Number span.last))
+        (waiting program.now body.old)) (come + 1)) result body.new (moment_of machine.new) }
     ensures ready { IsReady machine.new }
 {
     if !has_turn(counting.direction, span) {
@@ -94,12 +87,8 @@ fn begin_turns(
 /// The control variable of a for statement that ended is undefined.
 fn undefine(body: &mut Body, alloc: Global, machine: &mut Machine, place: u32, line: u32) -> Turned
     requires ready { IsReady machine.old }
-    ensures turns { (p : ProgramRows) → Turns p
-        (configuration (bind (statements.undefine (here body.old.home line) place) (waiting p body.old))
-        (moment_of machine.old)) result body.new (moment_of machine.new) }
-    ensures falls { Falls result (measure_of body.new machine.new)
-        (left_with machine.old.steps (come + 1 + tasks_weight body.old)) }
-    ensures home { body.new.home ≡ body.old.home }
+    ensures moves { (p : ProgramRows) → Moves p (before body.old (moment_of machine.old) (bind (statements.undefine
+        (here body.old.home line) place) (waiting p body.old)) (come + 1)) result body.new (moment_of machine.new) }
     ensures ready { IsReady machine.new }
 {
     let done = write_cell(
@@ -123,12 +112,9 @@ fn count(
 ) -> Turned
     requires ready { IsReady machine.old }
     requires turn { statements.has_turn counting.direction span.value span.last ≡ true }
-    ensures turns { (p : ProgramRows) → row_at p row ≡ turns_row counting → Turns p
-        (configuration (Sub (Count row span.value span.last (here body.old.home line)) (waiting p body.old))
-        (moment_of machine.old)) result body.new (moment_of machine.new) }
-    ensures falls { Falls result (measure_of body.new machine.new)
-        (left_with machine.old.steps (come + tasks_weight body.old)) }
-    ensures home { body.new.home ≡ body.old.home }
+    ensures moves { (p : ProgramRows) → row_at p row ≡ turns_row counting → Moves p (before body.old (moment_of
+        machine.old) (Sub (Count row span.value span.last (here body.old.home line)) (waiting p body.old)) come) result
+        body.new (moment_of machine.new) }
     ensures ready { IsReady machine.new }
 {
     let variable = moved(body.home.base, counting.place);
@@ -140,10 +126,9 @@ fn count(
 
 /// The body of a for statement begins, in a turn whose value the control variable has.
 fn do_body(body: &mut Body, row: u32, line: u32, inner: u32, span: ForProgress) -> Turned
-    ensures turns { (p : ProgramRows) (m : Moment) → Turns p (configuration
-        (Sub (Exec inner (here body.old.home line)) (λ out. bind
-        (statements.on_normal (after_turn body.old.home row line span.value span.last (row_at p row)) out)
-        (waiting p body.old))) m) result body.new m }
+    ensures turns { (p : ProgramRows) → Leads p (Sub (Exec inner (here body.old.home line)) (λ out. bind
+        (statements.on_normal (after_turn body.old.home row line span.value span.last (row_at p row)) out) (waiting p
+        body.old))) result body.new }
     ensures falls { Falls result (body_weight body.new) (come + tasks_weight body.old) }
     ensures home { body.new.home ≡ body.old.home }
 {
@@ -167,12 +152,9 @@ pub(crate) fn turn_ended(
     last: Value,
 ) -> Turned
     requires ready { IsReady machine.old }
-    ensures turns { Turns program.now (configuration (bind
-        (with_numbers value last (λ i last. after_turn body.old.home row line i last (row_at program.now row)))
-        (waiting program.now body.old)) (moment_of machine.old)) result body.new (moment_of machine.new) }
-    ensures falls { Falls result (measure_of body.new machine.new)
-        (left_with machine.old.steps (come + 1 + tasks_weight body.old)) }
-    ensures home { body.new.home ≡ body.old.home }
+    ensures moves { Moves program.now (before body.old (moment_of machine.old) (bind (with_numbers value last (λ i last.
+        after_turn body.old.home row line i last (row_at program.now row))) (waiting program.now body.old)) (come + 1))
+        result body.new (moment_of machine.new) }
     ensures ready { IsReady machine.new }
 {
     match counting_at(program, row, value, last) {
@@ -192,12 +174,9 @@ fn next_turn(
     span: ForProgress,
 ) -> Turned
     requires ready { IsReady machine.old }
-    ensures turns { (p : ProgramRows) → row_at p row ≡ turns_row counting → Turns p
-        (configuration (bind (after_turn body.old.home row line span.value span.last (turns_row counting))
-        (waiting p body.old)) (moment_of machine.old)) result body.new (moment_of machine.new) }
-    ensures falls { Falls result (measure_of body.new machine.new)
-        (left_with machine.old.steps (come + 1 + tasks_weight body.old)) }
-    ensures home { body.new.home ≡ body.old.home }
+    ensures moves { (p : ProgramRows) → row_at p row ≡ turns_row counting → Moves p (before body.old (moment_of
+        machine.old) (bind (after_turn body.old.home row line span.value span.last (turns_row counting)) (waiting p
+        body.old)) (come + 1)) result body.new (moment_of machine.new) }
     ensures ready { IsReady machine.new }
 {
     if !has_turn(counting.direction, span) {

@@ -2,11 +2,11 @@
 
 ghost use Rattle.std.specs.Prelude.{◌*◌, ◌+◌, ◌≡◌};
 ghost use Rattle.core_program.specs.{Expressions.of_expression, ProgramRows.ProgramRows, Tree.bind};
-ghost use Rattle.eval_ops.specs.{Machines.IsReady, Machines.Moment, Machines.moment_of, Operators.dyadic_of};
-ghost use Rattle.evaluator.specs.{Turns.Turns, Turns.configuration, Weight.tasks_weight};
+ghost use Rattle.eval_ops.specs.{Machines.IsReady, Machines.moment_of, Operators.dyadic_of};
 ghost use Rattle.evaluator.specs.ExpressionFamilies.{of_designator, of_monadic, of_operation, of_other};
-ghost use Rattle.evaluator.specs.Rest.{from, from_under, here, waiting};
-ghost use Rattle.evaluator.specs.Weight.{Falls, body_weight, come, left_with, measure_of, now_weight, task_weight};
+ghost use Rattle.evaluator.specs.Rest.{from_under, here, waiting};
+ghost use Rattle.evaluator.specs.Turns.{Leads, Moves, before, beginning};
+ghost use Rattle.evaluator.specs.Weight.{Falls, body_weight, come, task_weight, tasks_weight};
 
 use crate::accesses::locate_component;
 use crate::body::{Body, Turned};
@@ -48,11 +48,8 @@ pub fn evaluate(
     line: u32,
 ) -> Turned
     requires ready { IsReady machine.old }
-    ensures turns { Turns program.now (configuration (from program.now body.old (Now.Begin (Part.Eval row line)))
-        (moment_of machine.old)) result body.new (moment_of machine.new) }
-    ensures falls { Falls result (measure_of body.new machine.new)
-        (left_with machine.old.steps (now_weight (Now.Begin (Part.Eval row line)) + tasks_weight body.old)) }
-    ensures home { body.new.home ≡ body.old.home }
+    ensures moves { Moves program.now (beginning program.now body.old (moment_of machine.old) (Part.Eval row line))
+        result body.new (moment_of machine.new) }
     ensures ready { IsReady machine.new }
 {
     match program.row(row) {
@@ -85,11 +82,9 @@ fn begin_stepped(
     line: u32,
 ) -> Turned
     requires ready { IsReady machine.old }
-    ensures turns { Turns program.now (configuration (bind (of_expression program.now (here body.old.home line)
-        expression) (waiting program.now body.old)) (moment_of machine.old)) result body.new (moment_of machine.new) }
-    ensures falls { Falls result (measure_of body.new machine.new)
-        (left_with machine.old.steps (2 * come + tasks_weight body.old)) }
-    ensures home { body.new.home ≡ body.old.home }
+    ensures moves { Moves program.now (before body.old (moment_of machine.old) (bind (of_expression program.now (here
+        body.old.home line) expression) (waiting program.now body.old)) (2 * come)) result body.new (moment_of
+        machine.new) }
     ensures ready { IsReady machine.new }
 {
     match expression {
@@ -113,9 +108,8 @@ fn begin_expression(
     expression: ExpressionRow,
     line: u32,
 ) -> Turned
-    ensures turns { (m : Moment) → Turns program.now (configuration
-        (bind (of_operation program.now (here body.old.home line)
-        expression) (waiting program.now body.old)) m) result body.new m }
+    ensures turns { Leads program.now (bind (of_operation program.now (here body.old.home line) expression) (waiting
+        program.now body.old)) result body.new }
     ensures falls { Falls result (body_weight body.new) (2 * come + tasks_weight body.old) }
     ensures home { body.new.home ≡ body.old.home }
 {
@@ -140,9 +134,8 @@ fn other_expression(
     expression: ExpressionRow,
     line: u32,
 ) -> Turned
-    ensures turns { (m : Moment) → Turns program.now (configuration
-        (bind (of_other program.now (here body.old.home line)
-        expression) (waiting program.now body.old)) m) result body.new m }
+    ensures turns { Leads program.now (bind (of_other program.now (here body.old.home line) expression) (waiting
+        program.now body.old)) result body.new }
     ensures falls { Falls result (body_weight body.new) (2 * come + tasks_weight body.old) }
     ensures home { body.new.home ≡ body.old.home }
 {
@@ -167,8 +160,8 @@ fn other_expression(
 /// An expression whose step is taken, with a sign, `not` or a required function of an ordinal (6.7.2.2, 6.7.2.3,
 /// 6.6.6): its operand begins.
 fn monadic(body: &mut Body, expression: ExpressionRow, line: u32) -> Turned
-    ensures turns { (p : ProgramRows) (m : Moment) → Turns p (configuration
-        (bind (of_monadic p (here body.old.home line) expression) (waiting p body.old)) m) result body.new m }
+    ensures turns { (p : ProgramRows) → Leads p (bind (of_monadic p (here body.old.home line) expression) (waiting p
+        body.old)) result body.new }
     ensures falls { Falls result (body_weight body.new) (2 * come + tasks_weight body.old) }
     ensures home { body.new.home ≡ body.old.home }
 {
@@ -201,8 +194,8 @@ fn monadic(body: &mut Body, expression: ExpressionRow, line: u32) -> Turned
 
 /// A function designator (6.7.3) whose step is taken: its actual parameters begin.
 fn designator(body: &mut Body, alloc: Global, expression: ExpressionRow, line: u32) -> Turned
-    ensures turns { (p : ProgramRows) (m : Moment) → Turns p (configuration
-        (bind (of_designator p (here body.old.home line) expression) (waiting p body.old)) m) result body.new m }
+    ensures turns { (p : ProgramRows) → Leads p (bind (of_designator p (here body.old.home line) expression) (waiting p
+        body.old)) result body.new }
     ensures falls { Falls result (body_weight body.new) (2 * come + tasks_weight body.old) }
     ensures home { body.new.home ≡ body.old.home }
 {
@@ -250,9 +243,8 @@ pub fn continue_expression(
     operand: OperandTask,
     value: Value,
 ) -> Turned
-    ensures turns { (m : Moment) → Turns program.now (configuration (from_under program.now body.old
-        (Now.Came (Way.Scalar value)) (Task.Operand operand)) m)
-        result body.new m }
+    ensures turns { Leads program.now (from_under program.now body.old (Now.Came (Way.Scalar value)) (Task.Operand
+        operand)) result body.new }
     ensures falls { Falls result (body_weight body.new) (come + task_weight (Task.Operand operand)
         + tasks_weight body.old) }
     ensures home { body.new.home ≡ body.old.home }

@@ -1,13 +1,12 @@
 //! The statements on variables of the heap (6.6.5.3).
 
-ghost use Rattle.std.specs.Prelude.{◌+◌, ◌≡◌, ℕ};
+ghost use Rattle.std.specs.Prelude.{◌+◌, ℕ};
 ghost use Rattle.core_program.specs.{Accesses.with_size, Statements.point, Tree.bind, Tree.doing};
 ghost use Rattle.core_program.specs.Heap as action;
 ghost use Rattle.core_program.specs.ProgramRows.{ProgramRows, type_at};
 ghost use Rattle.eval_ops.specs.Machines.{IsReady, moment_of};
-ghost use Rattle.evaluator.specs.{StatementFamilies.of_heap, Turns.Turns, Turns.configuration};
-ghost use Rattle.evaluator.specs.Rest.{from_under, here, waiting};
-ghost use Rattle.evaluator.specs.Weight.{Falls, come, left_with, measure_of, task_weight, tasks_weight};
+ghost use Rattle.evaluator.specs.{Rest.here, Rest.waiting, StatementFamilies.of_heap, Weight.come};
+ghost use Rattle.evaluator.specs.Turns.{Moves, before, continuing};
 
 use crate::body::{Body, Turned};
 use crate::tasks::{Now, Part, Task, Way};
@@ -26,11 +25,9 @@ pub(crate) fn heap_statement(
     statement: StatementRow,
 ) -> Turned
     requires ready { IsReady machine.old }
-    ensures turns { (row : ℕ) → Turns program.now (configuration (bind (of_heap program.now body.old.home row statement)
-        (waiting program.now body.old)) (moment_of machine.old)) result body.new (moment_of machine.new) }
-    ensures falls { Falls result (measure_of body.new machine.new)
-        (left_with machine.old.steps (come + 10 + tasks_weight body.old)) }
-    ensures home { body.new.home ≡ body.old.home }
+    ensures moves { (row : ℕ) → Moves program.now (before body.old (moment_of machine.old) (bind (of_heap program.now
+        body.old.home row statement) (waiting program.now body.old)) (come + 10)) result body.new (moment_of
+        machine.new) }
     ensures ready { IsReady machine.new }
 {
     match statement {
@@ -56,12 +53,9 @@ fn make(
     line: u32,
 ) -> Turned
     requires ready { IsReady machine.old }
-    ensures turns { Turns program.now (configuration (bind (with_size (type_at program.now of) (λ cells. doing line
-        (action.made_variable cells of) (point (here body.old.home line) access))) (waiting program.now body.old))
-        (moment_of machine.old)) result body.new (moment_of machine.new) }
-    ensures falls { Falls result (measure_of body.new machine.new)
-        (left_with machine.old.steps (come + 1 + tasks_weight body.old)) }
-    ensures home { body.new.home ≡ body.old.home }
+    ensures moves { Moves program.now (before body.old (moment_of machine.old) (bind (with_size (type_at program.now of)
+        (λ cells. doing line (action.made_variable cells of) (point (here body.old.home line) access))) (waiting
+        program.now body.old)) (come + 1)) result body.new (moment_of machine.new) }
     ensures ready { IsReady machine.new }
 {
     match size_of(program, of) {
@@ -81,12 +75,9 @@ fn make_of_size(
     line: u32,
 ) -> Turned
     requires ready { IsReady machine.old }
-    ensures turns { (p : ProgramRows) → Turns p (configuration (bind (doing line (action.made_variable cells of)
-        (point (here body.old.home line) access)) (waiting p body.old)) (moment_of machine.old)) result body.new
-        (moment_of machine.new) }
-    ensures falls { Falls result (measure_of body.new machine.new)
-        (left_with machine.old.steps (come + tasks_weight body.old)) }
-    ensures home { body.new.home ≡ body.old.home }
+    ensures moves { (p : ProgramRows) → Moves p (before body.old (moment_of machine.old) (bind (doing line
+        (action.made_variable cells of) (point (here body.old.home line) access)) (waiting p body.old)) come) result
+        body.new (moment_of machine.new) }
     ensures ready { IsReady machine.new }
 {
     match make_variable(alloc, machine, cells, of) {
@@ -113,12 +104,8 @@ pub fn put_pointer(
     addr: u32,
 ) -> Turned
     requires ready { IsReady machine.old }
-    ensures turns { Turns program.now
-        (configuration (from_under program.now body.old (Now.Came (Way.Address addr)) (Task.Point line))
-        (moment_of machine.old)) result body.new (moment_of machine.new) }
-    ensures falls { Falls result (measure_of body.new machine.new)
-        (left_with machine.old.steps (come + task_weight (Task.Point line) + tasks_weight body.old)) }
-    ensures home { body.new.home ≡ body.old.home }
+    ensures moves { Moves program.now (continuing program.now body.old (moment_of machine.old) (Way.Address addr)
+        (Task.Point line)) result body.new (moment_of machine.new) }
     ensures ready { IsReady machine.new }
 {
     let value = body.take_value();
@@ -137,12 +124,8 @@ pub fn dispose_of(
     value: Value,
 ) -> Turned
     requires ready { IsReady machine.old }
-    ensures turns { Turns program.now
-        (configuration (from_under program.now body.old (Now.Came (Way.Scalar value)) (Task.Dispose of line))
-        (moment_of machine.old)) result body.new (moment_of machine.new) }
-    ensures falls { Falls result (measure_of body.new machine.new)
-        (left_with machine.old.steps (come + task_weight (Task.Dispose of line) + tasks_weight body.old)) }
-    ensures home { body.new.home ≡ body.old.home }
+    ensures moves { Moves program.now (continuing program.now body.old (moment_of machine.old) (Way.Scalar value)
+        (Task.Dispose of line)) result body.new (moment_of machine.new) }
     ensures ready { IsReady machine.new }
 {
     match size_of(program, of) {

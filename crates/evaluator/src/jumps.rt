@@ -1,14 +1,12 @@
 //! Jumps.
 
-ghost use Rattle.std.specs.Prelude.{◌&&◌, ◌+◌, ◌==◌, ◌≡◌, None, Some};
-ghost use Rattle.eval_ops.specs.Machines.{Moment};
-ghost use Rattle.evaluator.specs.{Records.SameFrame, Rest.from_under, Turns.Turns, Turns.configuration};
+ghost use Rattle.std.specs.Prelude.{◌&&◌, ◌+◌, ◌==◌, ◌≡◌};
+ghost use Rattle.evaluator.specs.{Records.SameFrame, Rest.from_under, Turns.Leads};
 ghost use Rattle.evaluator.specs.Weight.{Falls, body_weight, come, task_weight, tasks_weight};
 
 use crate::body::{Body, Turned};
 use crate::tasks::{Next, Now, Part, Task, Way};
 use core_program::Program;
-use eval_ops::labelled_in;
 use std::alloc::Global;
 
 /// Whether a jump to a label in the frame at a base is to this label of this frame.
@@ -27,8 +25,8 @@ pub(crate) fn leap(
     label: u32,
     base: u32,
 ) -> Turned
-    ensures turns { (m : Moment) → Turns program.now
-        (configuration (from_under program.now body.old (Now.Came (Way.Jump label base)) task) m) result body.new m }
+    ensures turns { Leads program.now (from_under program.now body.old (Now.Came (Way.Jump label base)) task) result
+        body.new }
     ensures falls { Falls result (body_weight body.new) (come + task_weight task + tasks_weight body.old) }
     ensures frame { SameFrame body.new.home body.old.home }
 {
@@ -51,9 +49,8 @@ fn land(
     label: u32,
     base: u32,
 ) -> Turned
-    ensures turns { (m : Moment) → Turns program.now
-        (configuration (from_under program.now body.old (Now.Came (Way.Jump label base)) (Task.Next next)) m) result
-        body.new m }
+    ensures turns { Leads program.now (from_under program.now body.old (Now.Came (Way.Jump label base)) (Task.Next
+        next)) result body.new }
     ensures falls { Falls result (body_weight body.new)
         (come + task_weight (Task.Next next) + tasks_weight body.old) }
     ensures home { body.new.home ≡ body.old.home }
@@ -62,7 +59,7 @@ fn land(
     match next {
         Next::Sequence { first, line, .. } => {
             if base == body.home.base {
-                match labelled_in(program, first, label) {
+                match program.labelled_in(first, label) {
                     Some(Some(at)) => body.go(Now::Begin(Part::Sequence { first, at, line })),
                     Some(None) => body.go(outward),
                     None => body.no_row(),

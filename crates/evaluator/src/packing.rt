@@ -1,138 +1,125 @@
 //! Pack and unpack statements (6.6.5.4).
 
-ghost use Rattle.std.specs.Prelude.{if◌then◌else◌, ◌+◌, ◌≡◌};
-ghost use Rattle.core_program.specs.{ProgramRows.ProgramRows, ProgramRows.row_at, Tree.bind, Tree.doing};
+ghost use Rattle.std.specs.Prelude.{if◌then◌else◌, ◌+◌, ◌≡◌, ℕ};
+ghost use Rattle.core_program.specs.{Actions.Action, Tree.bind, Tree.doing};
 ghost use Rattle.core_program.specs.Packing as arrays;
-ghost use Rattle.core_program.specs.Statements as meaning;
-ghost use Rattle.eval_ops.specs.Machines.{IsReady, Moment, moment_of};
-ghost use Rattle.evaluator.specs.{Rest.from_under, Rest.here, Rest.waiting, Turns.Turns, Turns.configuration};
-ghost use Rattle.evaluator.specs.Weight.{Falls, body_weight, come, left_with, measure_of, tasks_weight};
+ghost use Rattle.core_program.specs.ProgramRows.{ProgramRows, row_at};
+ghost use Rattle.eval_ops.specs.Machines.{Gives, IsReady, moment_of};
+ghost use Rattle.evaluator.specs.Rest.{copied, from_under, places, second_row, waiting};
+ghost use Rattle.evaluator.specs.Turns.{Leads, Moves, before};
+ghost use Rattle.evaluator.specs.Weight.{Falls, body_weight, come, tasks_weight};
 
 use crate::body::{Body, Turned};
-use crate::tasks::{Now, Part, Task, Way};
+use crate::tasks::{ArrayPlaces, ArrayRows, Now, Part, Task, Way};
 use cell_value::Value;
 use core_program::{Components, Program};
-use eval_ops::{Machine, array_of, copy_cells, first_moved};
+use eval_ops::{Halt, Machine, array_of, copy_cells, first_moved};
 use std::alloc::Global;
 
+/// The array that a pack or an unpack statement locates first.
+pub(crate) fn first_row(packing: bool, rows: ArrayRows) -> u32
+    ensures { result ≡ (if packing then rows.unpacked else rows.packed) }
+{
+    if packing { rows.unpacked } else { rows.packed }
+}
+
+/// The array that it locates second.
+fn row_after(packing: bool, rows: ArrayRows) -> u32
+    ensures { result ≡ second_row packing rows }
+{
+    if packing { rows.packed } else { rows.unpacked }
+}
+
 /// The first array of a pack or an unpack statement is located: the second one is to be.
-pub fn locate_second(
-    body: &mut Body,
-    packing: bool,
-    unpacked: u32,
-    index: u32,
-    packed: u32,
-    line: u32,
-    addr: u32,
-) -> Turned
-    ensures turns { (p : ProgramRows) (m : Moment) → Turns p (configuration
-        (from_under p body.old (Now.Came (Way.Address addr))
-        (Task.PackFirst packing unpacked index packed line)) m) result body.new m }
+pub fn locate_second(body: &mut Body, packing: bool, rows: ArrayRows, addr: u32) -> Turned
+    ensures turns { (p : ProgramRows) → Leads p (from_under p body.old (Now.Came (Way.Address addr))
+        (Task.PackFirst packing rows)) result body.new }
     ensures falls { Falls result (body_weight body.new) (come + 1 + tasks_weight body.old) }
     ensures home { body.new.home ≡ body.old.home }
 {
+    let second = Part::Locate {
+        row: row_after(packing, rows),
+        target: false,
+        line: rows.line,
+    };
     let task = Task::PackSecond {
         packing,
-        unpacked,
-        index,
-        packed,
+        rows,
         first: addr,
-        line,
     };
-    if packing {
-        body.wait(
-            task,
-            Now::Begin(Part::Locate {
-                row: packed,
-                target: false,
-                line,
-            }),
-        )
-    } else {
-        body.wait(
-            task,
-            Now::Begin(Part::Locate {
-                row: unpacked,
-                target: false,
-                line,
-            }),
-        )
-    }
+    body.wait(task, Now::Begin(second))
 }
 
 /// Both arrays of a pack or an unpack statement are located: the index is evaluated.
 pub fn pack_by_index(
     body: &mut Body,
     packing: bool,
-    unpacked: u32,
-    index: u32,
-    packed: u32,
+    rows: ArrayRows,
     first: u32,
-    line: u32,
     addr: u32,
 ) -> Turned
-    ensures turns { (p : ProgramRows) (m : Moment) → Turns p (configuration
-        (from_under p body.old (Now.Came (Way.Address addr))
-        (Task.PackSecond packing unpacked index packed first line)) m) result body.new m }
+    ensures turns { (p : ProgramRows) → Leads p (from_under p body.old (Now.Came (Way.Address addr))
+        (Task.PackSecond packing rows first)) result body.new }
     ensures falls { Falls result (body_weight body.new) (come + 1 + tasks_weight body.old) }
     ensures home { body.new.home ≡ body.old.home }
 {
-    let value = Now::Begin(Part::Eval { row: index, line });
+    let found = places_of(packing, rows, first, addr);
+    let value = Part::Eval {
+        row: rows.index,
+        line: found.line,
+    };
+    let task = Task::PackIndex {
+        packing,
+        places: found,
+    };
+    body.wait(task, Now::Begin(value))
+}
+
+/// The arrays with the addresses at which they were located, one after the other.
+fn places_of(packing: bool, rows: ArrayRows, first: u32, second: u32) -> ArrayPlaces
+    ensures { result ≡ places packing rows first second }
+{
     if packing {
-        body.wait(
-            Task::PackIndex {
-                packing: true,
-                unpacked,
-                packed,
-                wide: first,
-                close: addr,
-                line,
-            },
-            value,
-        )
+        ArrayPlaces {
+            unpacked: rows.unpacked,
+            packed: rows.packed,
+            wide: first,
+            close: second,
+            line: rows.line,
+        }
     } else {
-        body.wait(
-            Task::PackIndex {
-                packing: false,
-                unpacked,
-                packed,
-                wide: addr,
-                close: first,
-                line,
-            },
-            value,
-        )
+        ArrayPlaces {
+            unpacked: rows.unpacked,
+            packed: rows.packed,
+            wide: second,
+            close: first,
+            line: rows.line,
+        }
     }
 }
 
-/// The index of a pack or an unpack statement is known, and its arrays are at these addresses: the components are
-/// moved.
+/// The index of a pack or an unpack statement is known, and its arrays are found: the components are moved.
 pub fn move_arrays(
     body: &mut Body,
     alloc: Global,
     program: &Program,
     machine: &mut Machine,
     packing: bool,
-    unpacked: u32,
-    packed: u32,
-    wide: u32,
-    close: u32,
-    line: u32,
+    places: ArrayPlaces,
     value: Value,
 ) -> Turned
     requires ready { IsReady machine.old }
-    ensures turns { Turns program.now (configuration (from_under program.now body.old (Now.Came (Way.Scalar value))
-        (Task.PackIndex packing unpacked packed wide close line)) (moment_of machine.old)) result body.new
+    ensures moves { Moves program.now (before body.old (moment_of machine.old) (from_under program.now body.old
+        (Now.Came (Way.Scalar value)) (Task.PackIndex packing places)) (come + 1)) result body.new
         (moment_of machine.new) }
-    ensures falls { Falls result (measure_of body.new machine.new)
-        (left_with machine.old.steps (come + 1 + tasks_weight body.old)) }
-    ensures home { body.new.home ≡ body.old.home }
     ensures ready { IsReady machine.new }
 {
-    match array_of(program, unpacked) {
-        Some((_, components)) => move_by(
-            body, alloc, program, machine, packing, components, packed, wide, close, line, value,
-        ),
+    match array_of(program, places.unpacked) {
+        Some((_, components)) => {
+            move_by(
+                body, alloc, program, machine, packing, components, places, value,
+            )
+        }
         None => body.no_row(),
     }
 }
@@ -145,58 +132,46 @@ fn move_by(
     machine: &mut Machine,
     packing: bool,
     unpacked: Components,
-    packed: u32,
-    wide: u32,
-    close: u32,
-    line: u32,
+    places: ArrayPlaces,
     value: Value,
 ) -> Turned
     requires ready { IsReady machine.old }
-    ensures turns { Turns program.now (configuration (bind (arrays.with_array program.now (row_at program.now packed)
-        (λ cells small.
-        doing line (arrays.first_moved unpacked small wide value) (λ at. meaning.finally (here body.old.home line)
-        (if packing then arrays.copies at close cells else arrays.copies close at cells))))
-        (waiting program.now body.old)) (moment_of machine.old)) result body.new (moment_of machine.new) }
-    ensures falls { Falls result (measure_of body.new machine.new)
-        (left_with machine.old.steps (come + 1 + tasks_weight body.old)) }
-    ensures home { body.new.home ≡ body.old.home }
+    ensures moves { Moves program.now (before body.old (moment_of machine.old)
+        (bind (arrays.with_array program.now (row_at program.now places.packed) (λ cells small.
+        doing places.line (arrays.first_moved unpacked small places.wide value)
+        (copied body.old.home packing places cells))) (waiting program.now body.old)) (come + 1)) result body.new
+        (moment_of machine.new) }
     ensures ready { IsReady machine.new }
 {
-    match array_of(program, packed) {
-        Some((cells, components)) => move_cells(
-            body, alloc, machine, packing, unpacked, components, wide, close, cells, line, value,
-        ),
+    match array_of(program, places.packed) {
+        Some((cells, packed)) => {
+            let start = first_moved(unpacked, packed, places.wide, value);
+            move_from(body, alloc, machine, packing, places, start, cells)
+        }
         None => body.no_row(),
     }
 }
 
-/// The same, by the components of both arrays, and the cells of the packed one.
-fn move_cells(
+/// The component of the unpacked array is known from which on it goes, or there is none: so many cells are moved.
+fn move_from(
     body: &mut Body,
     alloc: Global,
     machine: &mut Machine,
     packing: bool,
-    unpacked: Components,
-    packed: Components,
-    wide: u32,
-    close: u32,
+    places: ArrayPlaces,
+    start: Result<u32, Halt>,
     cells: u32,
-    line: u32,
-    value: Value,
 ) -> Turned
     requires ready { IsReady machine.old }
-    ensures turns { (p : ProgramRows) → Turns p (configuration (bind
-        (doing line (arrays.first_moved unpacked packed wide value) (λ at. meaning.finally (here body.old.home line)
-        (if packing then arrays.copies at close cells else arrays.copies close at cells))) (waiting p body.old))
-        (moment_of machine.old)) result body.new (moment_of machine.new) }
-    ensures falls { Falls result (measure_of body.new machine.new)
-        (left_with machine.old.steps (come + 1 + tasks_weight body.old)) }
-    ensures home { body.new.home ≡ body.old.home }
+    ensures moves { (p : ProgramRows) (a : Action ℕ) → Gives (λ n. n) a start
+        → Moves p (before body.old (moment_of machine.old) (bind (doing places.line a
+        (copied body.old.home packing places cells)) (waiting p body.old)) (come + 1)) result body.new
+        (moment_of machine.new) }
     ensures ready { IsReady machine.new }
 {
-    match first_moved(unpacked, packed, wide, value) {
-        Ok(at) => copy(body, alloc, machine, packing, at, close, cells, line),
-        Err(halt) => body.fail(line, halt),
+    match start {
+        Ok(at) => copy(body, alloc, machine, packing, places, at, cells),
+        Err(halt) => body.fail(places.line, halt),
     }
 }
 
@@ -206,25 +181,21 @@ fn copy(
     alloc: Global,
     machine: &mut Machine,
     packing: bool,
+    places: ArrayPlaces,
     at: u32,
-    close: u32,
     cells: u32,
-    line: u32,
 ) -> Turned
     requires ready { IsReady machine.old }
-    ensures turns { (p : ProgramRows) → Turns p (configuration (bind (meaning.finally (here body.old.home line)
-        (if packing then arrays.copies at close cells else arrays.copies close at cells)) (waiting p body.old))
-        (moment_of machine.old)) result body.new (moment_of machine.new) }
-    ensures falls { Falls result (measure_of body.new machine.new)
-        (left_with machine.old.steps (come + 1 + tasks_weight body.old)) }
-    ensures home { body.new.home ≡ body.old.home }
+    ensures moves { (p : ProgramRows) → Moves p (before body.old (moment_of machine.old)
+        (bind (copied body.old.home packing places cells at) (waiting p body.old)) (come + 1)) result body.new
+        (moment_of machine.new) }
     ensures ready { IsReady machine.new }
 {
     if packing {
-        let done = copy_cells(alloc, machine, at, close, cells);
-        body.finally(line, done)
+        let done = copy_cells(alloc, machine, at, places.close, cells);
+        body.finally(places.line, done)
     } else {
-        let done = copy_cells(alloc, machine, close, at, cells);
-        body.finally(line, done)
+        let done = copy_cells(alloc, machine, places.close, at, cells);
+        body.finally(places.line, done)
     }
 }

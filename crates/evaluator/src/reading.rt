@@ -6,13 +6,13 @@ ghost use Rattle.core_program.specs.Output as output;
 ghost use Rattle.core_program.specs.ProgramRows.{ProgramRows, row_at, type_at};
 ghost use Rattle.core_program.specs.Transfers as transfers;
 ghost use Rattle.core_program.specs.Tree.{bind, doing};
-ghost use Rattle.eval_ops.specs.Machines.{IsReady, Moment, moment_of};
-ghost use Rattle.evaluator.specs.{Turns.Turns, Turns.configuration, Weight.tasks_weight};
-ghost use Rattle.evaluator.specs.Rest.{from, from_under, here, waiting};
-ghost use Rattle.evaluator.specs.Weight.{Falls, body_weight, come, left_with, measure_of, part_weight, task_weight};
+ghost use Rattle.eval_ops.specs.Machines.{IsReady, moment_of};
+ghost use Rattle.evaluator.specs.Rest.{from_under, here, into_variable, waiting};
+ghost use Rattle.evaluator.specs.Turns.{Leads, Moves, before, beginning, continuing};
+ghost use Rattle.evaluator.specs.Weight.{Falls, body_weight, come, tasks_weight};
 
 use crate::body::{Body, Turned};
-use crate::tasks::{Now, Part, Task, TransferTask, Way};
+use crate::tasks::{Now, Part, Reading, Task, TransferTask, Way};
 use crate::writing::{go_after, host_of};
 use cell_value::Value;
 use core_program::rows::{CHAR, LIST_END, Row};
@@ -31,11 +31,8 @@ pub fn receive(
     line: u32,
 ) -> Turned
     requires ready { IsReady machine.old }
-    ensures turns { Turns program.now (configuration (from program.now body.old (Now.Begin (Part.Receive at line)))
-        (moment_of machine.old)) result body.new (moment_of machine.new) }
-    ensures falls { Falls result (measure_of body.new machine.new)
-        (left_with machine.old.steps (part_weight (Part.Receive at line) + tasks_weight body.old)) }
-    ensures home { body.new.home ≡ body.old.home }
+    ensures moves { Moves program.now (beginning program.now body.old (moment_of machine.old) (Part.Receive at line))
+        result body.new (moment_of machine.new) }
     ensures ready { IsReady machine.new }
 {
     if at == LIST_END {
@@ -57,19 +54,21 @@ fn receive_actual(
     line: u32,
 ) -> Turned
     requires ready { IsReady machine.old }
-    ensures turns { Turns program.now (configuration (bind (transfers.received program.now (here body.old.home line)
-        access next
-        (row_at program.now access)) (waiting program.now body.old)) (moment_of machine.old)) result body.new
-        (moment_of machine.new) }
-    ensures falls { Falls result (measure_of body.new machine.new)
-        (left_with machine.old.steps (come + 1 + tasks_weight body.old)) }
-    ensures home { body.new.home ≡ body.old.home }
+    ensures moves { Moves program.now (before body.old (moment_of machine.old) (bind (transfers.received program.now
+        (here body.old.home line) access next (row_at program.now access)) (waiting program.now body.old)) (come + 1))
+        result body.new (moment_of machine.new) }
     ensures ready { IsReady machine.new }
 {
     match program.row(access) {
         Row::Access(accessed) => {
             let of = type_accessed(accessed);
-            read_variable(body, program, machine, access, of, next, line)
+            let reading = Reading {
+                access,
+                of,
+                next,
+                line,
+            };
+            read_variable(body, program, machine, reading)
         }
         _ => body.no_row(),
     }
@@ -80,23 +79,17 @@ fn read_variable(
     body: &mut Body,
     program: &Program,
     machine: &mut Machine,
-    access: u32,
-    of: u32,
-    next: u32,
-    line: u32,
+    reading: Reading,
 ) -> Turned
     requires ready { IsReady machine.old }
-    ensures turns { Turns program.now (configuration (bind (transfers.with_host of (type_at program.now of) (λ host.
-        transfers.read_for (here body.old.home line) host
-        (transfers.into program.now (here body.old.home line) access of next))) (waiting program.now body.old))
-        (moment_of machine.old)) result body.new (moment_of machine.new) }
-    ensures falls { Falls result (measure_of body.new machine.new)
-        (left_with machine.old.steps (come + 1 + tasks_weight body.old)) }
-    ensures home { body.new.home ≡ body.old.home }
+    ensures moves { Moves program.now (before body.old (moment_of machine.old)
+        (bind (transfers.with_host reading.of (type_at program.now reading.of) (λ host.
+        transfers.read_for (here body.old.home reading.line) host (into_variable program.now body.old.home reading)))
+        (waiting program.now body.old)) (come + 1)) result body.new (moment_of machine.new) }
     ensures ready { IsReady machine.new }
 {
-    match host_of(program, of) {
-        Some(host) => read_for(body, machine, host, access, of, next, line),
+    match host_of(program, reading.of) {
+        Some(host) => read_for(body, machine, host, reading),
         None => body.no_row(),
     }
 }
@@ -109,105 +102,65 @@ fn is_char(host: u32) -> bool
 }
 
 /// A char or an integer is read for a variable of a type with this host.
-fn read_for(
-    body: &mut Body,
-    machine: &mut Machine,
-    host: u32,
-    access: u32,
-    of: u32,
-    next: u32,
-    line: u32,
-) -> Turned
+fn read_for(body: &mut Body, machine: &mut Machine, host: u32, reading: Reading) -> Turned
     requires ready { IsReady machine.old }
-    ensures turns { (p : ProgramRows) → Turns p (configuration (bind (transfers.read_for (here body.old.home line)
-        host (transfers.into p (here body.old.home line) access of next)) (waiting p body.old))
-        (moment_of machine.old)) result body.new (moment_of machine.new) }
-    ensures falls { Falls result (measure_of body.new machine.new)
-        (left_with machine.old.steps (come + 1 + tasks_weight body.old)) }
-    ensures home { body.new.home ≡ body.old.home }
+    ensures moves { (p : ProgramRows) → Moves p (before body.old (moment_of machine.old)
+        (bind (transfers.read_for (here body.old.home reading.line) host (into_variable p body.old.home reading))
+        (waiting p body.old)) (come + 1)) result body.new (moment_of machine.new) }
     ensures ready { IsReady machine.new }
 {
     if is_char(host) {
-        read_char(body, machine, access, of, next, line)
+        read_char(body, machine, reading)
     } else {
+        let number = Part::Scanning {
+            scan: Scan::Blanks,
+            line: reading.line,
+        };
         body.wait(
-            Task::Transfer(TransferTask::Integer {
-                access,
-                of,
-                next,
-                line,
-            }),
-            Now::Begin(Part::Scanning {
-                scan: Scan::Blanks,
-                line,
-            }),
+            Task::Transfer(TransferTask::Integer(reading)),
+            Now::Begin(number),
         )
     }
 }
 
 /// A char is read, and then the variable is located that is to get it.
-fn read_char(
-    body: &mut Body,
-    machine: &mut Machine,
-    access: u32,
-    of: u32,
-    next: u32,
-    line: u32,
-) -> Turned
+fn read_char(body: &mut Body, machine: &mut Machine, reading: Reading) -> Turned
     requires ready { IsReady machine.old }
-    ensures turns { (p : ProgramRows) → Turns p (configuration (bind (doing line input.next_char
-        (transfers.into p (here body.old.home line) access of next)) (waiting p body.old)) (moment_of machine.old))
-        result body.new (moment_of machine.new) }
-    ensures falls { Falls result (measure_of body.new machine.new)
-        (left_with machine.old.steps (come + 1 + tasks_weight body.old)) }
-    ensures home { body.new.home ≡ body.old.home }
+    ensures moves { (p : ProgramRows) → Moves p (before body.old (moment_of machine.old)
+        (bind (doing reading.line input.next_char (into_variable p body.old.home reading)) (waiting p body.old))
+        (come + 1)) result body.new (moment_of machine.new) }
     ensures ready { IsReady machine.new }
 {
     match next_char(machine) {
-        Ok(value) => locate_read(body, access, of, next, line, value),
-        Err(halt) => body.fail(line, halt),
+        Ok(value) => locate_read(body, reading, value),
+        Err(halt) => body.fail(reading.line, halt),
     }
 }
 
 /// A value was read, and the variable is located that is to get it.
-pub(crate) fn locate_read(
-    body: &mut Body,
-    access: u32,
-    of: u32,
-    next: u32,
-    line: u32,
-    value: Value,
-) -> Turned
-    ensures turns { (p : ProgramRows) (m : Moment) → Turns p
-        (configuration (bind (transfers.into p (here body.old.home line) access of next value) (waiting p body.old)) m)
-        result body.new m }
+pub(crate) fn locate_read(body: &mut Body, reading: Reading, value: Value) -> Turned
+    ensures turns { (p : ProgramRows) → Leads p (bind (into_variable p body.old.home reading value)
+        (waiting p body.old)) result body.new }
     ensures falls { Falls result (body_weight body.new) (come + tasks_weight body.old) }
     ensures home { body.new.home ≡ body.old.home }
 {
+    let variable = Part::Locate {
+        row: reading.access,
+        target: true,
+        line: reading.line,
+    };
     body.hold(
         value,
-        Task::Transfer(TransferTask::Into {
-            access,
-            of,
-            next,
-            line,
-        }),
-        Now::Begin(Part::Locate {
-            row: access,
-            target: true,
-            line,
-        }),
+        Task::Transfer(TransferTask::Into(reading)),
+        Now::Begin(variable),
     )
 }
 
 /// A turn of the reading of an integer.
 pub fn scan(body: &mut Body, machine: &mut Machine, scan: Scan, line: u32) -> Turned
     requires ready { IsReady machine.old }
-    ensures turns { (p : ProgramRows) → Turns p (configuration (from p body.old (Now.Begin (Part.Scanning scan line)))
-        (moment_of machine.old)) result body.new (moment_of machine.new) }
-    ensures falls { Falls result (measure_of body.new machine.new)
-        (left_with machine.old.steps (part_weight (Part.Scanning scan line) + tasks_weight body.old)) }
-    ensures home { body.new.home ≡ body.old.home }
+    ensures moves { (p : ProgramRows) → Moves p (beginning p body.old (moment_of machine.old) (Part.Scanning scan line))
+        result body.new (moment_of machine.new) }
     ensures ready { IsReady machine.new }
 {
     match scan_on(machine, scan) {
@@ -218,8 +171,8 @@ pub fn scan(body: &mut Body, machine: &mut Machine, scan: Scan, line: u32) -> Tu
 
 /// After a turn of the reading of an integer.
 fn after_scan(body: &mut Body, scanned: Scanned, line: u32) -> Turned
-    ensures turns { (p : ProgramRows) (m : Moment) → Turns p (configuration
-        (bind (transfers.on_scanned (here body.old.home line) scanned) (waiting p body.old)) m) result body.new m }
+    ensures turns { (p : ProgramRows) → Leads p (bind (transfers.on_scanned (here body.old.home line) scanned) (waiting
+        p body.old)) result body.new }
     ensures falls { Falls result (body_weight body.new) (come + 1 + tasks_weight body.old) }
     ensures home { body.new.home ≡ body.old.home }
 {
@@ -232,11 +185,8 @@ fn after_scan(body: &mut Body, scanned: Scanned, line: u32) -> Turned
 /// An item of the rest of a line, and those after it.
 pub fn pass_line(body: &mut Body, machine: &mut Machine, line: u32) -> Turned
     requires ready { IsReady machine.old }
-    ensures turns { (p : ProgramRows) → Turns p (configuration (from p body.old (Now.Begin (Part.RestOfLine line)))
-        (moment_of machine.old)) result body.new (moment_of machine.new) }
-    ensures falls { Falls result (measure_of body.new machine.new)
-        (left_with machine.old.steps (part_weight (Part.RestOfLine line) + tasks_weight body.old)) }
-    ensures home { body.new.home ≡ body.old.home }
+    ensures moves { (p : ProgramRows) → Moves p (beginning p body.old (moment_of machine.old) (Part.RestOfLine line))
+        result body.new (moment_of machine.new) }
     ensures ready { IsReady machine.new }
 {
     match past_item(machine) {
@@ -259,22 +209,13 @@ pub fn store_read(
     addr: u32,
 ) -> Turned
     requires ready { IsReady machine.old }
-    ensures turns { Turns program.now
-        (configuration (from_under program.now body.old (Now.Came (Way.Address addr)) (Task.Transfer transfer))
-        (moment_of machine.old)) result body.new (moment_of machine.new) }
-    ensures falls { Falls result (measure_of body.new machine.new)
-        (left_with machine.old.steps (come + task_weight (Task.Transfer transfer) + tasks_weight body.old)) }
-    ensures home { body.new.home ≡ body.old.home }
+    ensures moves { Moves program.now (continuing program.now body.old (moment_of machine.old) (Way.Address addr)
+        (Task.Transfer transfer)) result body.new (moment_of machine.new) }
     ensures ready { IsReady machine.new }
 {
     match transfer {
-        TransferTask::Into {
-            access,
-            of,
-            next,
-            line,
-        } => store(body, alloc, program, machine, access, of, next, line, addr),
-        TransferTask::Integer { .. } => body.no_row(),
+        TransferTask::Into(reading) => store(body, alloc, program, machine, reading, addr),
+        TransferTask::Integer(_) => body.no_row(),
         TransferTask::Written { .. } => body.no_row(),
         TransferTask::Wide { .. } => body.no_row(),
         TransferTask::Width { .. } => body.no_row(),
@@ -288,36 +229,33 @@ fn store(
     alloc: Global,
     program: &Program,
     machine: &mut Machine,
-    access: u32,
-    of: u32,
-    next: u32,
-    line: u32,
+    reading: Reading,
     addr: u32,
 ) -> Turned
     requires ready { IsReady machine.old }
-    ensures turns { Turns program.now (configuration (from_under program.now body.old (Now.Came (Way.Address addr))
-        (Task.Transfer (TransferTask.Into access of next line))) (moment_of machine.old)) result body.new
-        (moment_of machine.new) }
-    ensures falls { Falls result (measure_of body.new machine.new)
-        (left_with machine.old.steps (come + 2 + tasks_weight body.old)) }
-    ensures home { body.new.home ≡ body.old.home }
+    ensures moves { Moves program.now (before body.old (moment_of machine.old) (from_under program.now body.old
+        (Now.Came (Way.Address addr)) (Task.Transfer (TransferTask.Into reading))) (come + 2)) result
+        body.new (moment_of machine.new) }
     ensures ready { IsReady machine.new }
 {
     let value = body.take_value();
-    let tag = tag_accessed(program, program.row(access));
+    let tag = tag_accessed(program, program.row(reading.access));
     let done = assign_to(
         alloc,
         program,
         machine,
         tag,
-        program.type_row(of),
+        program.type_row(reading.of),
         addr,
         value,
     );
     go_after(
         body,
-        line,
+        reading.line,
         done,
-        Now::Begin(Part::Receive { at: next, line }),
+        Now::Begin(Part::Receive {
+            at: reading.next,
+            line: reading.line,
+        }),
     )
 }

@@ -1,6 +1,6 @@
 //! How a routine returns.
 
-ghost use Rattle.std.specs.Prelude.{◌≡◌, [], Err, IfOk, None, Ok, Some};
+ghost use Rattle.std.specs.Prelude.{◌≡◌, [], IfOk, None};
 ghost use Rattle.cell_value.specs.declared.values.Value.{Value as CellValue};
 ghost use Rattle.core_program.specs.{Accesses.scalar, Actions.Action, Actions.performs, ProgramRows.ProgramRows};
 ghost use Rattle.core_program.specs.{ProgramRows.routine_at, Run.type_in_heading, Tree.doing};

@@ -4,8 +4,7 @@ ghost use Rattle.std.specs.Prelude.{◌+◌, ◌≡◌, slice_get};
 ghost use Rattle.core_program.specs.{ProgramRows.ProgramRows, Tree.Ret, Tree.Scalar, Tree.Sub, Tree.bind};
 ghost use Rattle.core_program.specs.Expressions as expressions;
 ghost use Rattle.core_program.specs.Tree as parts;
-ghost use Rattle.eval_ops.specs.Machines.{Moment};
-ghost use Rattle.evaluator.specs.{Rest.waiting, Turns.Turns, Turns.configuration};
+ghost use Rattle.evaluator.specs.{Rest.waiting, Turns.Leads};
 ghost use Rattle.evaluator.specs.Rest.{below_top, from, from_under, here, lists_of, resume, tasks_of, top, values_of};
 ghost use Rattle.evaluator.specs.Weight.{Falls, body_weight, come, part_weight, task_weight, tasks_weight};
 
@@ -19,8 +18,8 @@ use std::alloc::Global;
 
 /// A string: the values of its components.
 pub(crate) fn give_string(body: &mut Body, alloc: Global, program: &Program, token: u32) -> Turned
-    ensures turns { (p : ProgramRows) (m : Moment) → Turns p (configuration (bind (expressions.string_in
-        (slice_get program.now.texts token)) (waiting p body.old)) m) result body.new m }
+    ensures turns { (p : ProgramRows) → Leads p (bind (expressions.string_in (slice_get program.now.texts token))
+        (waiting p body.old)) result body.new }
     ensures falls { Falls result (body_weight body.new) (come + 1 + tasks_weight body.old) }
     ensures home { body.new.home ≡ body.old.home }
 {
@@ -35,8 +34,8 @@ pub(crate) fn give_string(body: &mut Body, alloc: Global, program: &Program, tok
 
 /// The left one of two strings has its values, which wait: the right one begins.
 pub fn begin_right_text(body: &mut Body, order: Order, right: u32, line: u32) -> Turned
-    ensures turns { (p : ProgramRows) (m : Moment) → Turns p (configuration (from_under p body.old (Now.Came Way.Cells)
-        (Task.TextRight order right line)) m) result body.new m }
+    ensures turns { (p : ProgramRows) → Leads p (from_under p body.old (Now.Came Way.Cells) (Task.TextRight order right
+        line)) result body.new }
     ensures falls { Falls result (body_weight body.new)
         (come + task_weight (Task.TextRight order right line) + tasks_weight body.old) }
     ensures home { body.new.home ≡ body.old.home }
@@ -49,8 +48,8 @@ pub fn begin_right_text(body: &mut Body, order: Order, right: u32, line: u32) ->
 
 /// Both of two strings have their values.
 pub fn end_texts(body: &mut Body, alloc: Global, order: Order, line: u32) -> Turned
-    ensures turns { (p : ProgramRows) (m : Moment) → Turns p (configuration (from_under p body.old (Now.Came Way.Cells)
-        (Task.Texts order line)) m) result body.new m }
+    ensures turns { (p : ProgramRows) → Leads p (from_under p body.old (Now.Came Way.Cells) (Task.Texts order line))
+        result body.new }
     ensures falls { Falls result (body_weight body.new)
         (come + task_weight (Task.Texts order line) + tasks_weight body.old) }
     ensures home { body.new.home ≡ body.old.home }
@@ -62,8 +61,8 @@ pub fn end_texts(body: &mut Body, alloc: Global, order: Order, line: u32) -> Tur
 
 /// The members of a set constructor from an item on begin, where those before it made this set.
 pub(crate) fn gather_from(body: &mut Body, set: Value, at: u32, line: u32) -> Turned
-    ensures turns { (p : ProgramRows) (m : Moment) → Turns p (configuration (bind (Sub (parts.Gather at set
-        (here body.old.home line)) Ret) (waiting p body.old)) m) result body.new m }
+    ensures turns { (p : ProgramRows) → Leads p (bind (Sub (parts.Gather at set (here body.old.home line)) Ret) (waiting
+        p body.old)) result body.new }
     ensures falls { Falls result (body_weight body.new)
         (part_weight (Part.Gather at line) + 1 + tasks_weight body.old) }
     ensures home { body.new.home ≡ body.old.home }
@@ -75,8 +74,7 @@ pub(crate) fn gather_from(body: &mut Body, set: Value, at: u32, line: u32) -> Tu
 
 /// The members of a set constructor from an item on (6.7.1).
 pub fn gather(body: &mut Body, program: &Program, at: u32, line: u32) -> Turned
-    ensures turns { (m : Moment) → Turns program.now (configuration
-        (from program.now body.old (Now.Begin (Part.Gather at line))) m) result body.new m }
+    ensures turns { Leads program.now (from program.now body.old (Now.Begin (Part.Gather at line))) result body.new }
     ensures falls { Falls result (body_weight body.new)
         (part_weight (Part.Gather at line) + tasks_weight body.old) }
     ensures home { body.new.home ≡ body.old.home }
@@ -92,9 +90,9 @@ pub fn gather(body: &mut Body, program: &Program, at: u32, line: u32) -> Turned
 
 /// The same, by what kind of item it is.
 fn gather_item(body: &mut Body, item: ItemRow, line: u32) -> Turned
-    ensures turns { (p : ProgramRows) (m : Moment) → Turns p (configuration (bind (expressions.of_members
-        (top (values_of body.old)) (here body.old.home line) (Row.Item item)) (resume p body.old.home
-        (tasks_of body.old) (below_top (values_of body.old)) (lists_of body.old))) m) result body.new m }
+    ensures turns { (p : ProgramRows) → Leads p (bind (expressions.of_members (top (values_of body.old)) (here
+        body.old.home line) (Row.Item item)) (resume p body.old.home (tasks_of body.old) (below_top (values_of
+        body.old)) (lists_of body.old))) result body.new }
     ensures falls { Falls result (body_weight body.new) (come + 1 + tasks_weight body.old) }
     ensures home { body.new.home ≡ body.old.home }
 {
@@ -113,8 +111,8 @@ fn gather_item(body: &mut Body, item: ItemRow, line: u32) -> Turned
 
 /// The members of a set constructor are all known: the set that waited is its value.
 fn give_set(body: &mut Body) -> Turned
-    ensures turns { (p : ProgramRows) (m : Moment) → Turns p (configuration (resume p body.old.home (tasks_of body.old)
-        (below_top (values_of body.old)) (lists_of body.old) (Scalar (top (values_of body.old)))) m) result body.new m }
+    ensures turns { (p : ProgramRows) → Leads p (resume p body.old.home (tasks_of body.old) (below_top (values_of
+        body.old)) (lists_of body.old) (Scalar (top (values_of body.old)))) result body.new }
     ensures falls { Falls result (body_weight body.new) (come + 1 + tasks_weight body.old) }
     ensures home { body.new.home ≡ body.old.home }
 {
@@ -129,8 +127,8 @@ pub(crate) fn gathered(
     next: u32,
     line: u32,
 ) -> Turned
-    ensures turns { (p : ProgramRows) (m : Moment) → Turns p (configuration
-        (bind (expressions.gather (here body.old.home line) next done) (waiting p body.old)) m) result body.new m }
+    ensures turns { (p : ProgramRows) → Leads p (bind (expressions.gather (here body.old.home line) next done) (waiting
+        p body.old)) result body.new }
     ensures falls { Falls result (body_weight body.new)
         (part_weight (Part.Gather next line) + 1 + tasks_weight body.old) }
     ensures home { body.new.home ≡ body.old.home }
@@ -143,9 +141,8 @@ pub(crate) fn gathered(
 
 /// A member of a set constructor is known.
 pub(crate) fn gather_member(body: &mut Body, next: u32, line: u32, value: Value) -> Turned
-    ensures turns { (p : ProgramRows) (m : Moment) → Turns p (configuration
-        (from_under p body.old (Now.Came (Way.Scalar value))
-        (Task.Operand (OperandTask.Member next line))) m) result body.new m }
+    ensures turns { (p : ProgramRows) → Leads p (from_under p body.old (Now.Came (Way.Scalar value)) (Task.Operand
+        (OperandTask.Member next line))) result body.new }
     ensures falls { Falls result (body_weight body.new)
         (come + task_weight (Task.Operand (OperandTask.Member next line)) + tasks_weight body.old) }
     ensures home { body.new.home ≡ body.old.home }
@@ -156,8 +153,8 @@ pub(crate) fn gather_member(body: &mut Body, next: u32, line: u32, value: Value)
 
 /// Both ends of a range of members are known.
 pub fn gather_range(body: &mut Body, next: u32, line: u32, value: Value) -> Turned
-    ensures turns { (p : ProgramRows) (m : Moment) → Turns p (configuration
-        (from_under p body.old (Now.Came (Way.Scalar value)) (Task.Range next line)) m) result body.new m }
+    ensures turns { (p : ProgramRows) → Leads p (from_under p body.old (Now.Came (Way.Scalar value)) (Task.Range next
+        line)) result body.new }
     ensures falls { Falls result (body_weight body.new) (come + task_weight (Task.Range next line)
         + tasks_weight body.old) }
     ensures home { body.new.home ≡ body.old.home }

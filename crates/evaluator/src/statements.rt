@@ -4,10 +4,10 @@ ghost use Rattle.std.specs.Prelude.{◌+◌, ◌≡◌, ℕ};
 ghost use Rattle.core_program.specs.{Acts.Spend, Cells.frame_out, ProgramRows.ProgramRows, ProgramRows.row_at};
 ghost use Rattle.core_program.specs.Statements as statements;
 ghost use Rattle.core_program.specs.Tree.{Do, Jump, Line, Ret, bind, doing};
-ghost use Rattle.eval_ops.specs.Machines.{IsReady, Moment, moment_of};
+ghost use Rattle.eval_ops.specs.Machines.{IsReady, moment_of};
 ghost use Rattle.evaluator.specs.Rest.{carry_with, from, from_under, here, waiting};
 ghost use Rattle.evaluator.specs.StatementFamilies.{of_conditional, of_procedure, of_repetitive};
-ghost use Rattle.evaluator.specs.Turns.{Turns, configuration};
+ghost use Rattle.evaluator.specs.Turns.{Leads, Moves, Turns, before, beginning, configuration};
 ghost use Rattle.evaluator.specs.Weight.{Falls, body_weight, come, left_with, measure_of, now_weight, operand_most};
 ghost use Rattle.evaluator.specs.Weight.{part_weight, task_weight, tasks_weight};
 
@@ -66,11 +66,8 @@ pub fn execute(
     line: u32,
 ) -> Turned
     requires ready { IsReady machine.old }
-    ensures turns { Turns program.now (configuration (from program.now body.old (Now.Begin (Part.Exec row line)))
-        (moment_of machine.old)) result body.new (moment_of machine.new) }
-    ensures falls { Falls result (measure_of body.new machine.new)
-        (left_with machine.old.steps (now_weight (Now.Begin (Part.Exec row line)) + tasks_weight body.old)) }
-    ensures home { body.new.home ≡ body.old.home }
+    ensures moves { Moves program.now (beginning program.now body.old (moment_of machine.old) (Part.Exec row line))
+        result body.new (moment_of machine.new) }
     ensures ready { IsReady machine.new }
 {
     match program.row(row) {
@@ -88,12 +85,9 @@ fn begin_statement(
     statement: StatementRow,
 ) -> Turned
     requires ready { IsReady machine.old }
-    ensures turns { (p : ProgramRows) → row_at p row ≡ Row.Statement statement
-        → Turns p (configuration (bind (statements.statement p row (here body.old.home line) statement)
-        (waiting p body.old)) (moment_of machine.old)) result body.new (moment_of machine.new) }
-    ensures falls { Falls result (measure_of body.new machine.new)
-        (left_with machine.old.steps (part_weight (Part.Exec row line) + tasks_weight body.old)) }
-    ensures home { body.new.home ≡ body.old.home }
+    ensures moves { (p : ProgramRows) → row_at p row ≡ Row.Statement statement → Moves p (before body.old (moment_of
+        machine.old) (bind (statements.statement p row (here body.old.home line) statement) (waiting p body.old))
+        (part_weight (Part.Exec row line))) result body.new (moment_of machine.new) }
     ensures ready { IsReady machine.new }
 {
     match statement {
@@ -135,11 +129,8 @@ pub fn carry(
     row: u32,
 ) -> Turned
     requires ready { IsReady machine.old }
-    ensures turns { Turns program.now (configuration (from program.now body.old (Now.Carry row))
-        (moment_of machine.old)) result body.new (moment_of machine.new) }
-    ensures falls { Falls result (measure_of body.new machine.new)
-        (left_with machine.old.steps (now_weight (Now.Carry row) + tasks_weight body.old)) }
-    ensures home { body.new.home ≡ body.old.home }
+    ensures moves { Moves program.now (before body.old (moment_of machine.old) (from program.now body.old (Now.Carry
+        row)) (now_weight (Now.Carry row))) result body.new (moment_of machine.new) }
     ensures ready { IsReady machine.new }
 {
     match program.row(row) {
@@ -158,12 +149,9 @@ fn carry_on(
     statement: StatementRow,
 ) -> Turned
     requires ready { IsReady machine.old }
-    ensures turns { Turns program.now (configuration (bind
-        (carry_with program.now body.old.home row statement (statements.line_of statement))
-        (waiting program.now body.old)) (moment_of machine.old)) result body.new (moment_of machine.new) }
-    ensures falls { Falls result (measure_of body.new machine.new)
-        (left_with machine.old.steps (now_weight (Now.Carry row) + tasks_weight body.old)) }
-    ensures home { body.new.home ≡ body.old.home }
+    ensures moves { Moves program.now (before body.old (moment_of machine.old) (bind (carry_with program.now
+        body.old.home row statement (statements.line_of statement)) (waiting program.now body.old)) (now_weight
+        (Now.Carry row))) result body.new (moment_of machine.new) }
     ensures ready { IsReady machine.new }
 {
     match statement {
@@ -207,13 +195,9 @@ fn carry_on(
 /// A goto statement (6.8.2.4): the links lead to the frame of its label.
 fn jump(body: &mut Body, machine: &mut Machine, label: u32, levels: u32, line: u32) -> Turned
     requires ready { IsReady machine.old }
-    ensures turns { (p : ProgramRows) → Turns p (configuration (bind
-        (doing line (frame_out levels body.old.home.base) (λ base.
-        Ret (Jump label base))) (waiting p body.old)) (moment_of machine.old)) result body.new
+    ensures moves { (p : ProgramRows) → Moves p (before body.old (moment_of machine.old) (bind (doing line (frame_out
+        levels body.old.home.base) (λ base. Ret (Jump label base))) (waiting p body.old)) (come + 1)) result body.new
         (moment_of machine.new) }
-    ensures falls { Falls result (measure_of body.new machine.new)
-        (left_with machine.old.steps (come + 1 + tasks_weight body.old)) }
-    ensures home { body.new.home ≡ body.old.home }
     ensures ready { IsReady machine.new }
 {
     match frame_out(machine, levels, body.home.base) {
@@ -224,8 +208,8 @@ fn jump(body: &mut Body, machine: &mut Machine, label: u32, levels: u32, line: u
 
 /// A procedure statement (6.8.2.3) whose line is told: its actual parameters begin.
 fn procedure_statement(body: &mut Body, alloc: Global, statement: StatementRow) -> Turned
-    ensures turns { (p : ProgramRows) (row : ℕ) (m : Moment) → Turns p
-        (configuration (bind (of_procedure p body.old.home row statement) (waiting p body.old)) m) result body.new m }
+    ensures turns { (p : ProgramRows) (row : ℕ) → Leads p (bind (of_procedure p body.old.home row statement) (waiting p
+        body.old)) result body.new }
     ensures falls { Falls result (body_weight body.new) (come + 10 + tasks_weight body.old) }
     ensures home { body.new.home ≡ body.old.home }
 {
@@ -270,8 +254,8 @@ fn procedure_statement(body: &mut Body, alloc: Global, statement: StatementRow) 
 
 /// A conditional statement (6.8.3.3) whose line is told: its condition or index begins.
 fn conditional(body: &mut Body, statement: StatementRow) -> Turned
-    ensures turns { (p : ProgramRows) (row : ℕ) (m : Moment) → Turns p
-        (configuration (bind (of_conditional p body.old.home row statement) (waiting p body.old)) m) result body.new m }
+    ensures turns { (p : ProgramRows) (row : ℕ) → Leads p (bind (of_conditional p body.old.home row statement) (waiting
+        p body.old)) result body.new }
     ensures falls { Falls result (body_weight body.new) (come + 10 + tasks_weight body.old) }
     ensures home { body.new.home ≡ body.old.home }
 {
@@ -310,9 +294,8 @@ fn conditional(body: &mut Body, statement: StatementRow) -> Turned
 /// An expression of a statement begins, and the statement is to go on by its value.
 #[inline(always)]
 pub(crate) fn by_value(body: &mut Body, line: u32, expression: u32, choice: ChoiceTask) -> Turned
-    ensures turns { (p : ProgramRows) (m : Moment) → Turns p
-        (configuration (from_under p body.old (Now.Begin (Part.Eval expression line)) (Task.Choice choice)) m) result
-        body.new m }
+    ensures turns { (p : ProgramRows) → Leads p (from_under p body.old (Now.Begin (Part.Eval expression line))
+        (Task.Choice choice)) result body.new }
     ensures falls { Falls result (body_weight body.new) (operand_most + task_weight (Task.Choice choice)
         + tasks_weight body.old) }
     ensures home { body.new.home ≡ body.old.home }
@@ -326,9 +309,8 @@ pub(crate) fn by_value(body: &mut Body, line: u32, expression: u32, choice: Choi
 
 /// A repetitive statement (6.8.3.6) whose line is told: its first turn begins, or the bounds of a for statement.
 fn repetitive(body: &mut Body, program: &Program, row: u32, statement: StatementRow) -> Turned
-    ensures turns { (m : Moment) → Turns program.now
-        (configuration (bind (of_repetitive program.now body.old.home row statement) (waiting program.now body.old)) m)
-        result body.new m }
+    ensures turns { Leads program.now (bind (of_repetitive program.now body.old.home row statement) (waiting program.now
+        body.old)) result body.new }
     ensures falls { Falls result (body_weight body.new) (come + 10 + tasks_weight body.old) }
     ensures home { body.new.home ≡ body.old.home }
 {
@@ -346,9 +328,8 @@ fn repetitive(body: &mut Body, program: &Program, row: u32, statement: Statement
 
 /// A for statement begins: both bounds are evaluated before the first turn.
 fn begin_for(body: &mut Body, program: &Program, line: u32, initial: u32, turns: u32) -> Turned
-    ensures turns { (m : Moment) → Turns program.now
-        (configuration (bind (statements.bounds program.now (here body.old.home line) initial turns
-        (row_at program.now turns)) (waiting program.now body.old)) m) result body.new m }
+    ensures turns { Leads program.now (bind (statements.bounds program.now (here body.old.home line) initial turns
+        (row_at program.now turns)) (waiting program.now body.old)) result body.new }
     ensures falls { Falls result (body_weight body.new) (come + tasks_weight body.old) }
     ensures home { body.new.home ≡ body.old.home }
 {
@@ -367,8 +348,8 @@ fn begin_for(body: &mut Body, program: &Program, line: u32, initial: u32, turns:
 
 /// The statements from an item on, of the sequence that begins with the first item.
 pub fn sequence(body: &mut Body, program: &Program, first: u32, at: u32, line: u32) -> Turned
-    ensures turns { (m : Moment) → Turns program.now
-        (configuration (from program.now body.old (Now.Begin (Part.Sequence first at line))) m) result body.new m }
+    ensures turns { Leads program.now (from program.now body.old (Now.Begin (Part.Sequence first at line))) result
+        body.new }
     ensures falls { Falls result (body_weight body.new)
         (now_weight (Now.Begin (Part.Sequence first at line)) + tasks_weight body.old) }
     ensures home { body.new.home ≡ body.old.home }
@@ -391,8 +372,7 @@ pub fn sequence(body: &mut Body, program: &Program, first: u32, at: u32, line: u
 
 /// A turn of a while or repeat statement.
 pub fn turn_again(body: &mut Body, program: &Program, row: u32, line: u32) -> Turned
-    ensures turns { (m : Moment) → Turns program.now
-        (configuration (from program.now body.old (Now.Begin (Part.Turn row line))) m) result body.new m }
+    ensures turns { Leads program.now (from program.now body.old (Now.Begin (Part.Turn row line))) result body.new }
     ensures falls { Falls result (body_weight body.new)
         (now_weight (Now.Begin (Part.Turn row line)) + tasks_weight body.old) }
     ensures home { body.new.home ≡ body.old.home }
@@ -405,9 +385,8 @@ pub fn turn_again(body: &mut Body, program: &Program, row: u32, line: u32) -> Tu
 
 /// A turn of a while or repeat statement, by its row.
 fn turn_of(body: &mut Body, row: u32, line: u32, statement: StatementRow) -> Turned
-    ensures turns { (p : ProgramRows) (m : Moment) → Turns p
-        (configuration (bind (statements.of_turn row (here body.old.home line) (Row.Statement statement))
-        (waiting p body.old)) m) result body.new m }
+    ensures turns { (p : ProgramRows) → Leads p (bind (statements.of_turn row (here body.old.home line) (Row.Statement
+        statement)) (waiting p body.old)) result body.new }
     ensures falls { Falls result (body_weight body.new) (come + 4 + tasks_weight body.old) }
     ensures home { body.new.home ≡ body.old.home }
 {

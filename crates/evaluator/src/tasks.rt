@@ -186,23 +186,22 @@ pub enum Next {
     EndLine { line: u32 },
 }
 
+/// An actual of a read statement: the variable, by the row of its access, and its type. `next` is the item after it.
+#[derive(Clone, Copy)]
+pub struct Reading {
+    pub access: u32,
+    pub of: u32,
+    pub next: u32,
+    pub line: u32,
+}
+
 /// What waits for a part of an actual of a read or a write statement.
 #[derive(Clone, Copy)]
 pub enum TransferTask {
     /// An integer that is read for a variable, which is located once the integer is known.
-    Integer {
-        access: u32,
-        of: u32,
-        next: u32,
-        line: u32,
-    },
+    Integer(Reading),
     /// The variable that is to get what was read, which is the last value that waits.
-    Into {
-        access: u32,
-        of: u32,
-        next: u32,
-        line: u32,
-    },
+    Into(Reading),
     /// What is written.
     Written {
         of: u32,
@@ -227,6 +226,25 @@ pub enum TransferTask {
         next: u32,
         line: u32,
     },
+}
+
+/// The arrays of a pack or an unpack statement (6.6.5.4), and the index from which on it goes, by their rows.
+#[derive(Clone, Copy)]
+pub struct ArrayRows {
+    pub unpacked: u32,
+    pub index: u32,
+    pub packed: u32,
+    pub line: u32,
+}
+
+/// The same arrays by their rows, and by their addresses: the unpacked one is the wide one.
+#[derive(Clone, Copy)]
+pub struct ArrayPlaces {
+    pub unpacked: u32,
+    pub packed: u32,
+    pub wide: u32,
+    pub close: u32,
+    pub line: u32,
 }
 
 /// What waits for a part that is at work.
@@ -309,28 +327,18 @@ pub enum Task {
     /// The first array of a pack or an unpack statement, before the second one.
     PackFirst {
         packing: bool,
-        unpacked: u32,
-        index: u32,
-        packed: u32,
-        line: u32,
+        rows: ArrayRows,
     },
     /// The second array, where the first one is at an address.
     PackSecond {
         packing: bool,
-        unpacked: u32,
-        index: u32,
-        packed: u32,
+        rows: ArrayRows,
         first: u32,
-        line: u32,
     },
-    /// The index, where the arrays are at these addresses.
+    /// The index, where both arrays are found.
     PackIndex {
         packing: bool,
-        unpacked: u32,
-        packed: u32,
-        wide: u32,
-        close: u32,
-        line: u32,
+        places: ArrayPlaces,
     },
     /// The end of what is inside of the last record of a with statement.
     Leave,

@@ -5,25 +5,21 @@ ghost use Rattle.core_program.specs.{Output.end_line, ProgramRows.ProgramRows, T
 ghost use Rattle.core_program.specs.Packing as arrays;
 ghost use Rattle.core_program.specs.Statements as meaning;
 ghost use Rattle.core_program.specs.Tree as parts;
-ghost use Rattle.eval_ops.specs.Machines.{IsReady, Moment, moment_of};
-ghost use Rattle.evaluator.specs.{Rest.here, Rest.waiting, TransferFamilies.of_transfer};
-ghost use Rattle.evaluator.specs.Turns.{Turns, configuration};
-ghost use Rattle.evaluator.specs.Weight.{Falls, body_weight, come, left_with, measure_of, tasks_weight};
+ghost use Rattle.eval_ops.specs.Machines.{IsReady, moment_of};
+ghost use Rattle.evaluator.specs.{Rest.here, Rest.waiting, TransferFamilies.of_transfer, Turns.Leads, Turns.Moves};
+ghost use Rattle.evaluator.specs.{Turns.before, Weight.Falls, Weight.body_weight, Weight.come, Weight.tasks_weight};
 
 use crate::body::{Body, Turned};
-use crate::tasks::{Next, Now, Part, Task};
+use crate::packing::first_row;
+use crate::tasks::{ArrayRows, Next, Now, Part, Task};
 use core_program::rows::StatementRow;
 use eval_ops::{Machine, end_page};
 
 /// A read, write, page, pack or unpack statement whose line is told.
 pub fn transfer_statement(body: &mut Body, machine: &mut Machine, statement: StatementRow) -> Turned
     requires ready { IsReady machine.old }
-    ensures turns { (p : ProgramRows) (row : ℕ) → Turns p
-        (configuration (bind (of_transfer p body.old.home row statement) (waiting p body.old)) (moment_of machine.old))
-        result body.new (moment_of machine.new) }
-    ensures falls { Falls result (measure_of body.new machine.new)
-        (left_with machine.old.steps (come + 10 + tasks_weight body.old)) }
-    ensures home { body.new.home ≡ body.old.home }
+    ensures moves { (p : ProgramRows) (row : ℕ) → Moves p (before body.old (moment_of machine.old) (bind (of_transfer p
+        body.old.home row statement) (waiting p body.old)) (come + 10)) result body.new (moment_of machine.new) }
     ensures ready { IsReady machine.new }
 {
     match statement {
@@ -47,17 +43,24 @@ pub fn transfer_statement(body: &mut Body, machine: &mut Machine, statement: Sta
             unpacked,
             index,
             packed,
-        } => begin_pack(body, packing, unpacked, index, packed, line),
+        } => {
+            let rows = ArrayRows {
+                unpacked,
+                index,
+                packed,
+                line,
+            };
+            begin_pack(body, packing, rows)
+        }
         _ => body.no_row(),
     }
 }
 
 /// The actuals of a read statement begin. After them comes the rest of the line, if it ends one.
 fn begin_read(body: &mut Body, ends_line: bool, actuals: u32, line: u32) -> Turned
-    ensures turns { (p : ProgramRows) (m : Moment) → Turns p (configuration (bind (Sub (parts.Receive actuals
-        (here body.old.home line)) (meaning.on_normal (if ends_line
-        then Sub (parts.RestOfLine (here body.old.home line)) Ret else meaning.nothing))) (waiting p body.old)) m)
-        result body.new m }
+    ensures turns { (p : ProgramRows) → Leads p (bind (Sub (parts.Receive actuals (here body.old.home line))
+        (meaning.on_normal (if ends_line then Sub (parts.RestOfLine (here body.old.home line)) Ret else
+        meaning.nothing))) (waiting p body.old)) result body.new }
     ensures falls { Falls result (body_weight body.new) (come + 10 + tasks_weight body.old) }
     ensures home { body.new.home ≡ body.old.home }
 {
@@ -71,10 +74,9 @@ fn begin_read(body: &mut Body, ends_line: bool, actuals: u32, line: u32) -> Turn
 
 /// The actuals of a write statement begin. After them comes the end of the line, if it ends one.
 fn begin_write(body: &mut Body, ends_line: bool, actuals: u32, line: u32) -> Turned
-    ensures turns { (p : ProgramRows) (m : Moment) → Turns p (configuration (bind (Sub (parts.Print actuals
-        (here body.old.home line)) (meaning.on_normal (if ends_line
-        then meaning.finally (here body.old.home line) end_line else meaning.nothing))) (waiting p body.old)) m)
-        result body.new m }
+    ensures turns { (p : ProgramRows) → Leads p (bind (Sub (parts.Print actuals (here body.old.home line))
+        (meaning.on_normal (if ends_line then meaning.finally (here body.old.home line) end_line else meaning.nothing)))
+        (waiting p body.old)) result body.new }
     ensures falls { Falls result (body_weight body.new) (come + 10 + tasks_weight body.old) }
     ensures home { body.new.home ≡ body.old.home }
 {
@@ -87,44 +89,17 @@ fn begin_write(body: &mut Body, ends_line: bool, actuals: u32, line: u32) -> Tur
 }
 
 /// The first array of a pack or an unpack statement is to be located.
-fn begin_pack(
-    body: &mut Body,
-    packing: bool,
-    unpacked: u32,
-    index: u32,
-    packed: u32,
-    line: u32,
-) -> Turned
-    ensures turns { (p : ProgramRows) (m : Moment) → Turns p (configuration
-        (bind (arrays.pack p (here body.old.home line) packing
-        unpacked index packed (meaning.finally (here body.old.home line))) (waiting p body.old)) m) result body.new m }
+fn begin_pack(body: &mut Body, packing: bool, rows: ArrayRows) -> Turned
+    ensures turns { (p : ProgramRows) → Leads p (bind (arrays.pack p (here body.old.home rows.line) packing
+        rows.unpacked rows.index rows.packed (meaning.finally (here body.old.home rows.line))) (waiting p body.old))
+        result body.new }
     ensures falls { Falls result (body_weight body.new) (come + 10 + tasks_weight body.old) }
     ensures home { body.new.home ≡ body.old.home }
 {
-    let task = Task::PackFirst {
-        packing,
-        unpacked,
-        index,
-        packed,
-        line,
+    let first = Part::Locate {
+        row: first_row(packing, rows),
+        target: false,
+        line: rows.line,
     };
-    if packing {
-        body.wait(
-            task,
-            Now::Begin(Part::Locate {
-                row: unpacked,
-                target: false,
-                line,
-            }),
-        )
-    } else {
-        body.wait(
-            task,
-            Now::Begin(Part::Locate {
-                row: packed,
-                target: false,
-                line,
-            }),
-        )
-    }
+    body.wait(Task::PackFirst { packing, rows }, Now::Begin(first))
 }

@@ -1,11 +1,11 @@
 //! The run of a body from stop to stop.
 
-ghost use Rattle.std.specs.Prelude.{◌+◌, ◌≡◌, Err, IfOk, None, Ok, Some};
+ghost use Rattle.std.specs.Prelude.{◌≡◌, IfOk};
 ghost use Rattle.core_program.specs.{ProgramRows.ProgramRows, Replay.end_of, Run.Ended, State.State};
 ghost use Rattle.eval_ops.specs.Machines.{IsReady, machine_state, moment_of};
-ghost use Rattle.evaluator.specs.{Records.SameFrame, Rest.from, Rest.from_under, Rest.rest_of, Stops.NextStopIs};
-ghost use Rattle.evaluator.specs.Turns.{MayGoOn, PausesInRoom, Turns, configuration, ended_by, pause_of, stop_of};
-ghost use Rattle.evaluator.specs.Weight.{Falls, come, left_with, measure_of, part_weight, task_weight, tasks_weight};
+ghost use Rattle.evaluator.specs.{Records.SameFrame, Rest.from, Rest.rest_of, Stops.NextStopIs, Turns.pause_of};
+ghost use Rattle.evaluator.specs.{Turns.stop_of, Weight.come, Weight.now_weight};
+ghost use Rattle.evaluator.specs.Turns.{MayGoOn, Moves, PausesInRoom, before, beginning, continuing, ended_by};
 
 use crate::accesses::{continue_access, locate};
 use crate::actuals::{add_actual, add_actual_cells, pass_actuals};
@@ -88,10 +88,8 @@ fn way_ended(now: Now) -> (WayOut, Option<Value>)
 /// A turn: a part begins, or a task goes on after one.
 fn turn(body: &mut Body, alloc: Global, program: &Program, machine: &mut Machine) -> Turned
     requires ready { IsReady machine.old }
-    ensures turns { Turns program.now (configuration (rest_of program.now body.old) (moment_of machine.old)) result
-        body.new (moment_of machine.new) }
-    ensures falls { Falls result (measure_of body.new machine.new) (measure_of body.old machine.old) }
-    ensures frame { SameFrame body.new.home body.old.home }
+    ensures moves { Moves program.now (before body.old (moment_of machine.old) (rest_of program.now body.old)
+        (now_weight body.old.now)) result body.new (moment_of machine.new) }
     ensures ready { IsReady machine.new }
 {
     match body.now {
@@ -110,11 +108,8 @@ fn begin(
     part: Part,
 ) -> Turned
     requires ready { IsReady machine.old }
-    ensures turns { Turns program.now (configuration (from program.now body.old (Now.Begin part))
-        (moment_of machine.old)) result body.new (moment_of machine.new) }
-    ensures falls { Falls result (measure_of body.new machine.new)
-        (left_with machine.old.steps (part_weight part + tasks_weight body.old)) }
-    ensures frame { SameFrame body.new.home body.old.home }
+    ensures moves { Moves program.now (beginning program.now body.old (moment_of machine.old) part) result body.new
+        (moment_of machine.new) }
     ensures ready { IsReady machine.new }
 {
     match part {
@@ -143,11 +138,8 @@ fn begin(
 /// The statement part of the body's routine begins.
 fn block(body: &mut Body, program: &Program, machine: &mut Machine) -> Turned
     requires ready { IsReady machine.old }
-    ensures turns { Turns program.now (configuration (from program.now body.old (Now.Begin Part.Block))
-        (moment_of machine.old)) result body.new (moment_of machine.new) }
-    ensures falls { Falls result (measure_of body.new machine.new)
-        (left_with machine.old.steps (part_weight Part.Block + tasks_weight body.old)) }
-    ensures frame { SameFrame body.new.home body.old.home }
+    ensures moves { Moves program.now (beginning program.now body.old (moment_of machine.old) Part.Block) result
+        body.new (moment_of machine.new) }
     ensures ready { IsReady machine.new }
 {
     body.home.records.leave_all();
@@ -173,11 +165,8 @@ fn came(
     way: Way,
 ) -> Turned
     requires ready { IsReady machine.old }
-    ensures turns { Turns program.now (configuration (from program.now body.old (Now.Came way)) (moment_of machine.old))
-        result body.new (moment_of machine.new) }
-    ensures falls { Falls result (measure_of body.new machine.new)
-        (left_with machine.old.steps (come + tasks_weight body.old)) }
-    ensures frame { SameFrame body.new.home body.old.home }
+    ensures moves { Moves program.now (before body.old (moment_of machine.old) (from program.now body.old (Now.Came
+        way)) come) result body.new (moment_of machine.new) }
     ensures ready { IsReady machine.new }
 {
     match body.tasks.pop() {
@@ -196,11 +185,8 @@ fn work(
     way: Way,
 ) -> Turned
     requires ready { IsReady machine.old }
-    ensures turns { Turns program.now (configuration (from_under program.now body.old (Now.Came way) task)
-        (moment_of machine.old)) result body.new (moment_of machine.new) }
-    ensures falls { Falls result (measure_of body.new machine.new)
-        (left_with machine.old.steps (come + task_weight task + tasks_weight body.old)) }
-    ensures frame { SameFrame body.new.home body.old.home }
+    ensures moves { Moves program.now (continuing program.now body.old (moment_of machine.old) way task) result body.new
+        (moment_of machine.new) }
     ensures ready { IsReady machine.new }
 {
     match way {
@@ -221,11 +207,8 @@ fn after_nothing(
     task: Task,
 ) -> Turned
     requires ready { IsReady machine.old }
-    ensures turns { Turns program.now (configuration (from_under program.now body.old (Now.Came Way.Nothing) task)
-        (moment_of machine.old)) result body.new (moment_of machine.new) }
-    ensures falls { Falls result (measure_of body.new machine.new)
-        (left_with machine.old.steps (come + task_weight task + tasks_weight body.old)) }
-    ensures frame { SameFrame body.new.home body.old.home }
+    ensures moves { Moves program.now (continuing program.now body.old (moment_of machine.old) Way.Nothing task) result
+        body.new (moment_of machine.new) }
     ensures ready { IsReady machine.new }
 {
     match task {
@@ -245,11 +228,8 @@ fn after_scalar(
     value: Value,
 ) -> Turned
     requires ready { IsReady machine.old }
-    ensures turns { Turns program.now (configuration (from_under program.now body.old (Now.Came (Way.Scalar value))
-        task) (moment_of machine.old)) result body.new (moment_of machine.new) }
-    ensures falls { Falls result (measure_of body.new machine.new)
-        (left_with machine.old.steps (come + task_weight task + tasks_weight body.old)) }
-    ensures frame { SameFrame body.new.home body.old.home }
+    ensures moves { Moves program.now (continuing program.now body.old (moment_of machine.old) (Way.Scalar value) task)
+        result body.new (moment_of machine.new) }
     ensures ready { IsReady machine.new }
 {
     match task {
@@ -263,16 +243,9 @@ fn after_scalar(
         Task::Transfer(transfer) => {
             continue_transfer(body, alloc, program, machine, transfer, value)
         }
-        Task::PackIndex {
-            packing,
-            unpacked,
-            packed,
-            wide,
-            close,
-            line,
-        } => move_arrays(
-            body, alloc, program, machine, packing, unpacked, packed, wide, close, line, value,
-        ),
+        Task::PackIndex { packing, places } => {
+            move_arrays(body, alloc, program, machine, packing, places, value)
+        }
         Task::Leave => leave(body, Way::Scalar(value)),
         _ => body.no_row(),
     }
@@ -288,11 +261,8 @@ fn after_address(
     addr: u32,
 ) -> Turned
     requires ready { IsReady machine.old }
-    ensures turns { Turns program.now (configuration (from_under program.now body.old (Now.Came (Way.Address addr))
-        task) (moment_of machine.old)) result body.new (moment_of machine.new) }
-    ensures falls { Falls result (measure_of body.new machine.new)
-        (left_with machine.old.steps (come + task_weight task + tasks_weight body.old)) }
-    ensures frame { SameFrame body.new.home body.old.home }
+    ensures moves { Moves program.now (continuing program.now body.old (moment_of machine.old) (Way.Address addr) task)
+        result body.new (moment_of machine.new) }
     ensures ready { IsReady machine.new }
 {
     match task {
@@ -309,21 +279,12 @@ fn after_address(
         Task::Point { line } => put_pointer(body, alloc, program, machine, line, addr),
         Task::Next(next) => follow_statement(body, alloc, program, machine, next),
         Task::Transfer(transfer) => store_read(body, alloc, program, machine, transfer, addr),
-        Task::PackFirst {
-            packing,
-            unpacked,
-            index,
-            packed,
-            line,
-        } => locate_second(body, packing, unpacked, index, packed, line, addr),
+        Task::PackFirst { packing, rows } => locate_second(body, packing, rows, addr),
         Task::PackSecond {
             packing,
-            unpacked,
-            index,
-            packed,
+            rows,
             first,
-            line,
-        } => pack_by_index(body, packing, unpacked, index, packed, first, line, addr),
+        } => pack_by_index(body, packing, rows, first, addr),
         Task::Leave => leave(body, Way::Address(addr)),
         _ => body.no_row(),
     }
@@ -338,11 +299,8 @@ fn after_cells(
     task: Task,
 ) -> Turned
     requires ready { IsReady machine.old }
-    ensures turns { Turns program.now (configuration (from_under program.now body.old (Now.Came Way.Cells) task)
-        (moment_of machine.old)) result body.new (moment_of machine.new) }
-    ensures falls { Falls result (measure_of body.new machine.new)
-        (left_with machine.old.steps (come + task_weight task + tasks_weight body.old)) }
-    ensures frame { SameFrame body.new.home body.old.home }
+    ensures moves { Moves program.now (continuing program.now body.old (moment_of machine.old) Way.Cells task) result
+        body.new (moment_of machine.new) }
     ensures ready { IsReady machine.new }
 {
     match task {

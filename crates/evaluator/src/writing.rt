@@ -6,10 +6,10 @@ ghost use Rattle.core_program.specs.Output as output;
 ghost use Rattle.core_program.specs.ProgramRows.{ProgramRows, type_at};
 ghost use Rattle.core_program.specs.Transfers as transfers;
 ghost use Rattle.eval_ops.specs.Machines.{DoesAll, IsReady, Moment, moment_of};
-ghost use Rattle.evaluator.specs.{Rest.values_of, Rest.waiting, TransferFamilies.host_in, Turns.Turns};
-ghost use Rattle.evaluator.specs.{Turns.configuration, Weight.task_weight, Weight.tasks_weight};
+ghost use Rattle.evaluator.specs.{Rest.values_of, Rest.waiting, TransferFamilies.host_in};
 ghost use Rattle.evaluator.specs.Rest.{below_top, from, from_under, here, lists_of, resume, tasks_of, top_list};
-ghost use Rattle.evaluator.specs.Weight.{Falls, body_weight, come, left_with, measure_of, now_weight, part_weight};
+ghost use Rattle.evaluator.specs.Turns.{Leads, Moves, before, continuing};
+ghost use Rattle.evaluator.specs.Weight.{Falls, body_weight, come, now_weight, part_weight, tasks_weight};
 
 use crate::body::{Body, Turned};
 use crate::reading::locate_read;
@@ -33,13 +33,10 @@ pub(crate) fn host_of(program: &Program, of: u32) -> Option<u32>
 
 /// An action on a line was done, and then this is at work, or it was not done.
 pub(crate) fn go_after(body: &mut Body, line: u32, done: Result<(), Halt>, now: Now) -> Turned
-    ensures turns { (p : ProgramRows) (a : Action (Unit {0})) (t : ActTree) (m m' : Moment)
+    ensures moves { (p : ProgramRows) (a : Action (Unit {0})) (t : ActTree) (m m' : Moment)
         → bind t (waiting p body.old) ≡ from p body.old now → DoesAll (λ _. tt) (performs a m.state) done m m'
-        → Turns p (configuration (bind (doing line a (λ _. t)) (waiting p body.old)) m) result body.new m' }
-    ensures less { (a : Action (Unit {0})) (m m' : Moment) → DoesAll (λ _. tt) (performs a m.state) done m m'
-        → Falls result (left_with m'.state.steps (body_weight body.new))
-        (left_with m.state.steps (now_weight now + tasks_weight body.old + 1)) }
-    ensures home { body.new.home ≡ body.old.home }
+        → Moves p (before body.old m (bind (doing line a (λ _. t)) (waiting p body.old)) (now_weight now + 1)) result
+        body.new m' }
 {
     match done {
         Ok(()) => body.go(now),
@@ -49,8 +46,7 @@ pub(crate) fn go_after(body: &mut Body, line: u32, done: Result<(), Halt>, now: 
 
 /// The actuals of a write statement from an item on.
 pub fn print(body: &mut Body, program: &Program, at: u32, line: u32) -> Turned
-    ensures turns { (m : Moment) → Turns program.now (configuration
-        (from program.now body.old (Now.Begin (Part.Print at line))) m) result body.new m }
+    ensures turns { Leads program.now (from program.now body.old (Now.Begin (Part.Print at line))) result body.new }
     ensures falls { Falls result (body_weight body.new)
         (part_weight (Part.Print at line) + tasks_weight body.old) }
     ensures home { body.new.home ≡ body.old.home }
@@ -66,8 +62,8 @@ pub fn print(body: &mut Body, program: &Program, at: u32, line: u32) -> Turned
 
 /// The same, by what kind of item it is.
 fn print_item(body: &mut Body, item: ItemRow, line: u32) -> Turned
-    ensures turns { (p : ProgramRows) (m : Moment) → Turns p (configuration (bind (transfers.of_printed p
-        (here body.old.home line) (Row.Item item)) (waiting p body.old)) m) result body.new m }
+    ensures turns { (p : ProgramRows) → Leads p (bind (transfers.of_printed p (here body.old.home line) (Row.Item item))
+        (waiting p body.old)) result body.new }
     ensures falls { Falls result (body_weight body.new) (come + 1 + tasks_weight body.old) }
     ensures home { body.new.home ≡ body.old.home }
 {
@@ -96,9 +92,8 @@ fn print_item(body: &mut Body, item: ItemRow, line: u32) -> Turned
 /// An expression of an actual begins, and the actual is to go on by its value.
 #[inline(always)]
 fn evaluate(body: &mut Body, expression: u32, transfer: TransferTask, line: u32) -> Turned
-    ensures turns { (p : ProgramRows) (m : Moment) → Turns p
-        (configuration (from_under p body.old (Now.Begin (Part.Eval expression line)) (Task.Transfer transfer)) m)
-        result body.new m }
+    ensures turns { (p : ProgramRows) → Leads p (from_under p body.old (Now.Begin (Part.Eval expression line))
+        (Task.Transfer transfer)) result body.new }
     ensures falls { Falls result (body_weight body.new) (come + tasks_weight body.old) }
     ensures home { body.new.home ≡ body.old.home }
 {
@@ -120,12 +115,9 @@ fn write(
     width: Option<Value>,
 ) -> Turned
     requires ready { IsReady machine.old }
-    ensures turns { (p : ProgramRows) → Turns p (configuration (bind (transfers.print (here body.old.home line) next
-        (output.scalar_text host value) width) (waiting p body.old)) (moment_of machine.old)) result body.new
-        (moment_of machine.new) }
-    ensures falls { Falls result (measure_of body.new machine.new)
-        (left_with machine.old.steps (come + 2 + tasks_weight body.old)) }
-    ensures home { body.new.home ≡ body.old.home }
+    ensures moves { (p : ProgramRows) → Moves p (before body.old (moment_of machine.old) (bind (transfers.print (here
+        body.old.home line) next (output.scalar_text host value) width) (waiting p body.old)) (come + 2)) result
+        body.new (moment_of machine.new) }
     ensures ready { IsReady machine.new }
 {
     let done = write_scalar(machine, host, value, width);
@@ -143,13 +135,9 @@ fn write_plain(
     value: Value,
 ) -> Turned
     requires ready { IsReady machine.old }
-    ensures turns { Turns program.now
-        (configuration (from_under program.now body.old (Now.Came (Way.Scalar value))
-        (Task.Transfer (TransferTask.Written of next line)))
-        (moment_of machine.old)) result body.new (moment_of machine.new) }
-    ensures falls { Falls result (measure_of body.new machine.new)
-        (left_with machine.old.steps (come + 2 + tasks_weight body.old)) }
-    ensures home { body.new.home ≡ body.old.home }
+    ensures moves { Moves program.now (before body.old (moment_of machine.old) (from_under program.now body.old
+        (Now.Came (Way.Scalar value)) (Task.Transfer (TransferTask.Written of next line))) (come + 2)) result body.new
+        (moment_of machine.new) }
     ensures ready { IsReady machine.new }
 {
     match host_of(program, of) {
@@ -168,9 +156,8 @@ fn begin_width(
     line: u32,
     value: Value,
 ) -> Turned
-    ensures turns { (m : Moment) → Turns program.now
-        (configuration (from_under program.now body.old (Now.Came (Way.Scalar value))
-        (Task.Transfer (TransferTask.Wide of width next line))) m) result body.new m }
+    ensures turns { Leads program.now (from_under program.now body.old (Now.Came (Way.Scalar value)) (Task.Transfer
+        (TransferTask.Wide of width next line))) result body.new }
     ensures falls { Falls result (body_weight body.new) (come + 2 + tasks_weight body.old) }
     ensures home { body.new.home ≡ body.old.home }
 {
@@ -194,12 +181,9 @@ fn write_waiting(
     width: Value,
 ) -> Turned
     requires ready { IsReady machine.old }
-    ensures turns { (p : ProgramRows) → Turns p (configuration (from_under p body.old (Now.Came (Way.Scalar width))
-        (Task.Transfer (TransferTask.Width host next line))) (moment_of machine.old)) result body.new
+    ensures moves { (p : ProgramRows) → Moves p (before body.old (moment_of machine.old) (from_under p body.old
+        (Now.Came (Way.Scalar width)) (Task.Transfer (TransferTask.Width host next line))) (come + 2)) result body.new
         (moment_of machine.new) }
-    ensures falls { Falls result (measure_of body.new machine.new)
-        (left_with machine.old.steps (come + 2 + tasks_weight body.old)) }
-    ensures home { body.new.home ≡ body.old.home }
     ensures ready { IsReady machine.new }
 {
     let value = body.take_value();
@@ -216,13 +200,10 @@ fn write_text(
     width: Option<Value>,
 ) -> Turned
     requires ready { IsReady machine.old }
-    ensures turns { (p : ProgramRows) → Turns p (configuration (bind (transfers.print (here body.old.home line) next
-        (output.string_text (top_list (lists_of body.old))) width) (resume p body.old.home (tasks_of body.old)
-        (values_of body.old) (below_top (lists_of body.old)))) (moment_of machine.old)) result body.new
+    ensures moves { (p : ProgramRows) → Moves p (before body.old (moment_of machine.old) (bind (transfers.print (here
+        body.old.home line) next (output.string_text (top_list (lists_of body.old))) width) (resume p body.old.home
+        (tasks_of body.old) (values_of body.old) (below_top (lists_of body.old)))) (come + 2)) result body.new
         (moment_of machine.new) }
-    ensures falls { Falls result (measure_of body.new machine.new)
-        (left_with machine.old.steps (come + 2 + tasks_weight body.old)) }
-    ensures home { body.new.home ≡ body.old.home }
     ensures ready { IsReady machine.new }
 {
     let list = body.take_list(alloc);
@@ -241,22 +222,13 @@ pub fn continue_transfer(
     value: Value,
 ) -> Turned
     requires ready { IsReady machine.old }
-    ensures turns { Turns program.now
-        (configuration (from_under program.now body.old (Now.Came (Way.Scalar value)) (Task.Transfer transfer))
-        (moment_of machine.old)) result body.new (moment_of machine.new) }
-    ensures falls { Falls result (measure_of body.new machine.new)
-        (left_with machine.old.steps (come + task_weight (Task.Transfer transfer) + tasks_weight body.old)) }
-    ensures home { body.new.home ≡ body.old.home }
+    ensures moves { Moves program.now (continuing program.now body.old (moment_of machine.old) (Way.Scalar value)
+        (Task.Transfer transfer)) result body.new (moment_of machine.new) }
     ensures ready { IsReady machine.new }
 {
     match transfer {
-        TransferTask::Integer {
-            access,
-            of,
-            next,
-            line,
-        } => locate_read(body, access, of, next, line, value),
-        TransferTask::Into { .. } => body.no_row(),
+        TransferTask::Integer(reading) => locate_read(body, reading, value),
+        TransferTask::Into(_) => body.no_row(),
         TransferTask::Written { of, next, line } => {
             write_plain(body, program, machine, of, next, line, value)
         }
@@ -283,12 +255,8 @@ pub fn continue_with_text(
     transfer: TransferTask,
 ) -> Turned
     requires ready { IsReady machine.old }
-    ensures turns { (p : ProgramRows) → Turns p
-        (configuration (from_under p body.old (Now.Came Way.Cells) (Task.Transfer transfer))
-        (moment_of machine.old)) result body.new (moment_of machine.new) }
-    ensures falls { Falls result (measure_of body.new machine.new)
-        (left_with machine.old.steps (come + task_weight (Task.Transfer transfer) + tasks_weight body.old)) }
-    ensures home { body.new.home ≡ body.old.home }
+    ensures moves { (p : ProgramRows) → Moves p (continuing p body.old (moment_of machine.old) Way.Cells (Task.Transfer
+        transfer)) result body.new (moment_of machine.new) }
     ensures ready { IsReady machine.new }
 {
     match transfer {
@@ -301,8 +269,8 @@ pub fn continue_with_text(
             line,
             ..
         } => evaluate(body, width, TransferTask::TextWidth { next, line }, line),
-        TransferTask::Integer { .. } => body.no_row(),
-        TransferTask::Into { .. } => body.no_row(),
+        TransferTask::Integer(_) => body.no_row(),
+        TransferTask::Into(_) => body.no_row(),
         TransferTask::Width { .. } => body.no_row(),
         TransferTask::TextWidth { .. } => body.no_row(),
     }

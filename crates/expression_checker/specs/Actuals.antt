@@ -8,12 +8,12 @@ use Rattle.pas_tree.specs.declared.expressions.Simple.{Simple, out-Simple}
 use Rattle.core_program.specs.declared.rows.{ItemRow.ItemRow, Mode.Mode, NameRow.NameRow, Row.Row}
 use Rattle.core_program.specs.declared.rows.OrdinalFunction.{OrdinalFunction}
 use Rattle.core_program.specs.declared.rows.TextFile.{TextFile, TheVariants.Input, TheVariants.Output}
-use Rattle.check_steps.specs.{Items.add_item, Names.usable, Names.use_at, declared.regions.Found.Found}
+use Rattle.check_steps.specs.{Items.add_item, Names.usable, Names.use_again}
 use Rattle.check_steps.specs.Known.{Known, find, name_at, row_at}
 use Rattle.check_steps.specs.Steps.{◌>>=◌, Step, give, late, look}
-use Rattle.kind_checker.specs.{Headings.congruous, Headings.section_at, declared.headings.FormalSection.FormalSection}
-use Rattle.kind_checker.specs.Operators.{is_operand, is_ordinal, is_unknown_shape}
-use Rattle.kind_checker.specs.Shapes.{is_assignable, is_same_type, shape_of}
+use Rattle.check_steps.specs.declared.{headings.FormalSection.FormalSection, regions.Found.Found}
+use Rattle.kind_checker.specs.{Headings.congruous, Headings.section_at, Operators.is_operand, Operators.is_ordinal}
+use Rattle.kind_checker.specs.{Operators.is_unknown_shape, Shapes.is_assignable, Shapes.is_same_type, Shapes.shape_of}
 use Rattle.kind_checker.specs.declared.shapes.{ExpressionType.ExpressionType, Shape.Shape}
 use Rattle.expression_checker.specs.{Callees.callee_of, Threats.threat_alone, Typed.unknown_at}
 use Rattle.expression_checker.specs.declared.actuals.{Argument.Argument, Lone.Lone, Passing.Passing}
@@ -172,7 +172,7 @@ routine_item c = None
 -- the same result type
 unfoldable pub routine_argued : ℕ → ℕ → ℕ → Step Argument
 routine_argued frame name heading = do
-  found ← use_at frame name name
+  found ← use_again frame name
   c ← look (λ k. callee_of k frame found)
   fine ← look (λ k. is_congruous k heading c)
   _ ← late 29 name fine

@@ -5,10 +5,10 @@ use Rattle.core_program.specs.ProgramRows.{routine_at}
 use Rattle.core_program.specs.declared.{program.Routine.Routine, rows.OrdinalFunction.OrdinalFunction}
 use Rattle.core_program.specs.declared.rows.{NameRow.NameRow, Required.Required, Row.Row, TypeRow.TypeRow}
 use Rattle.core_program.specs.declared.rows.ExpressionRow.TheVariants as written
-use Rattle.check_steps.specs.{Known.Known, Known.row_at, Known.type_at, Names.use_at, declared.regions.Found.Found}
+use Rattle.check_steps.specs.{Known.Known, Known.row_at, Known.type_at, Names.use_again}
 use Rattle.check_steps.specs.Steps.{◌>>=◌, Step, give, late, look, put}
+use Rattle.check_steps.specs.declared.{headings.FormalSection.FormalSection, regions.Found.Found}
 use Rattle.kind_checker.specs.{Headings.section_at, Headings.signature_at, Shapes.shape_of}
-use Rattle.kind_checker.specs.declared.headings.FormalSection.{FormalSection}
 use Rattle.kind_checker.specs.declared.shapes.{ExpressionType.ExpressionType, Shape.Shape}
 use Rattle.expression_checker.specs.{Names.levels_to, Typed.typed_value, declared.typed.Typed.Typed}
 use Rattle.expression_checker.specs.declared.callees.{Called.Called, Callee.Callee, ExpectedFormals.ExpectedFormals}
@@ -106,7 +106,7 @@ formals_of k c = ExpectedFormals.Unknown
 -- rule 3: the name stands for another kind of thing than a function
 unfoldable pub function_named : ℕ → ℕ → Step Callee
 function_named frame name = do
-  found ← use_at frame name name
+  found ← use_again frame name
   c ← look (λ k. callee_of k frame found)
   fine ← look (λ k. is_function k c)
   _ ← late 3 name fine

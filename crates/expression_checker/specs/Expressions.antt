@@ -21,7 +21,7 @@ use Rattle.pas_tree.specs.declared.expressions.Simple.{Row_of-NextTerm, Simple, 
 use Rattle.pas_tree.specs.declared.expressions.SomeMembers.{Row_of-NextMember, SomeMembers, SomeMembers'}
 use Rattle.pas_tree.specs.declared.expressions.SomeMembers.{end_of-NextMember, more_of-NextMember}
 use Rattle.pas_tree.specs.declared.expressions.Term.{Row_of-NextFactor, Term, Term', end_of-NextFactor}
-use Rattle.check_steps.specs.Names.{use_at}
+use Rattle.check_steps.specs.Names.{use_again}
 use Rattle.check_steps.specs.Steps.{◌>>=◌, Step, each, give, look}
 use Rattle.expression_checker.specs.{Callees.applied, Callees.called_function, Names.accessed_as, Names.meaning_of}
 use Rattle.expression_checker.specs.{Names.variable, Operations.relational_operator, Operations.signed}
@@ -49,7 +49,7 @@ named_as frame name m = accessed_as name m
 -- a name alone: a constant, a variable, or a function without actuals
 unfoldable pub name_factor : ℕ → ℕ → Step Typed
 name_factor frame name = do
-  found ← use_at frame name name
+  found ← use_again frame name
   m ← look (λ k. meaning_of k frame found)
   named_as frame name m
 

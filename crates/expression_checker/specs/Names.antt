@@ -2,7 +2,7 @@
 use Rattle.std.specs.Prelude.{if◌then◌else◌, ◌-◌, ℕ, Bool, None, Option, Some, false, length, suc, true, zero}
 use Rattle.core_program.specs.declared.rows.{Mode.Mode, NameRow.NameRow, PartRow.PartRow, Row.Row, TypeRow.TypeRow}
 use Rattle.core_program.specs.declared.rows.AccessRow.{AccessRow}
-use Rattle.check_steps.specs.{Known.Known, Known.frame_at, Known.row_at, Names.use_at, declared.regions.Found.Found}
+use Rattle.check_steps.specs.{Known.Known, Known.frame_at, Known.row_at, Names.use_again, declared.regions.Found.Found}
 use Rattle.check_steps.specs.Steps.{◌>>=◌, Step, give, late, look, put}
 use Rattle.kind_checker.specs.declared.{constants.ConstantValue.ConstantValue, shapes.ExpressionType.ExpressionType}
 use Rattle.expression_checker.specs.Typed.{unknown_at}
@@ -88,7 +88,7 @@ accessed_as name m = give (unknown_at name)
 -- rule 3: the name stands for another kind of thing than a variable, a parameter or a field
 unfoldable pub variable : ℕ → ℕ → Step Typed
 variable frame name = do
-  found ← use_at frame name name
+  found ← use_again frame name
   m ← look (λ k. meaning_of k frame found)
   _ ← late 3 name (is_variable m)
   accessed_as name m

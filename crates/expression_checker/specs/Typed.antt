@@ -4,7 +4,7 @@ use Rattle.pas_tree.specs.declared.constants.Constant.{Constant}
 use Rattle.core_program.specs.{ProgramRows.text_at, declared.rows.ExpressionRow.ExpressionRow, declared.rows.Row.Row}
 use Rattle.check_steps.specs.Known.{Known}
 use Rattle.check_steps.specs.Steps.{◌>>=◌, Step, give, look, put}
-use Rattle.kind_checker.specs.Constants.{constant}
+use Rattle.kind_checker.specs.Constants.{constant_again}
 use Rattle.kind_checker.specs.declared.{constants.ConstantValue.ConstantValue, shapes.ExpressionType.ExpressionType}
 use Rattle.expression_checker.specs.declared.typed.{Location.Location, Typed.Typed}
 
@@ -41,7 +41,7 @@ constant_at token v = do
 -- a number or a string, which is the constant that it stands for
 unfoldable pub literal : ℕ → Constant → Step Typed
 literal token c = do
-  v ← constant 0 c
+  v ← constant_again 0 c
   constant_at token v
 
 unfoldable pub nil_at : ℕ → Step Typed

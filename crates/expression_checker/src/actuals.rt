@@ -12,12 +12,13 @@ ghost use Rattle.expression_checker.specs.Actuals.{routine_item, rule_of, simple
 use crate::callees::{Callee, ExpectedFormals, callee_of};
 use crate::threats::check_threat_alone;
 use crate::typed::{Location, Typed, unknown_at};
+use check_steps::headings::FormalSection;
 use check_steps::items::put_item;
 use check_steps::{Found, Tables, Work};
 use core_program::rows::{
     INTEGER, ItemRow, LIST_END, Mode, NameRow, OrdinalFunction, Row, TextFile,
 };
-use kind_checker::headings::{FormalSection, congruous, section_at};
+use kind_checker::headings::section_at;
 use kind_checker::operators::{is_operand, is_ordinal, is_unknown_shape};
 use kind_checker::shapes::{is_assignable, is_same_type, shape_of};
 use kind_checker::{ExpressionType, Shape};
@@ -335,13 +336,14 @@ pub(crate) fn lone_of(
     }
 }
 
-fn is_congruous(tables: &Tables, heading: u32, callee: Callee) -> bool
-    ensures { result ≡ is_congruous tables.now heading callee }
+fn is_congruous(tables: &mut Tables, heading: u32, callee: Callee) -> bool
+    ensures answer { result ≡ is_congruous tables.old heading callee }
+    ensures same { tables.new ≡ tables.old }
 {
     match callee {
         Callee::Unknown => true,
-        Callee::Routine { heading: other, .. } => congruous(tables, heading, other),
-        Callee::Formal { heading: other, .. } => congruous(tables, heading, other),
+        Callee::Routine { heading: other, .. } => tables.congruous(heading, other),
+        Callee::Formal { heading: other, .. } => tables.congruous(heading, other),
         _ => false,
     }
 }
@@ -373,9 +375,9 @@ fn routine_item(callee: Callee) -> Option<ItemRow>
 pub(crate) fn check_routine(work: &mut Work, name: u32, heading: u32, frame: u32) -> Argument
     ensures { Does (routine_argued frame name heading) result work.old work.new }
 {
-    let found = work.use_at(frame, name, name);
+    let found = work.use_again(frame, name);
     let callee = callee_of(&work.tables, frame, found);
-    let fine = is_congruous(&work.tables, heading, callee);
+    let fine = is_congruous(&mut work.tables, heading, callee);
     work.late(29, name, fine);
     Argument {
         item: routine_item(callee),

@@ -12,12 +12,13 @@ ghost use Rattle.expression_checker.specs.Callees.{takes_count};
 
 use crate::names::levels_to;
 use crate::typed::{Typed, typed_value};
+use check_steps::headings::FormalSection;
 use check_steps::{Found, Tables, Work};
 use core_program::Routine;
 use core_program::rows::{
     BOOLEAN, CHAR, ExpressionRow, INTEGER, NameRow, OrdinalFunction, Required, Row, TypeRow,
 };
-use kind_checker::headings::{FormalSection, section_at, signature_at};
+use kind_checker::headings::{section_at, signature_at};
 use kind_checker::shapes::shape_of;
 use kind_checker::{ExpressionType, Shape};
 
@@ -242,7 +243,7 @@ pub fn formals_of(tables: &Tables, callee: Callee) -> ExpectedFormals
 fn check_function(work: &mut Work, name: u32, frame: u32) -> Callee
     ensures { Does (function_named frame name) result work.old work.new }
 {
-    let found = work.use_at(frame, name, name);
+    let found = work.use_again(frame, name);
     let callee = callee_of(&work.tables, frame, found);
     let fine = is_function(&work.tables, callee);
     work.late(3, name, fine);

@@ -56,7 +56,7 @@ fn check_named(work: &mut Work, name: u32, frame: u32, meaning: Meaning) -> Type
 fn check_name(work: &mut Work, name: u32, frame: u32) -> Typed
     ensures { Does (name_factor frame name) result work.old work.new }
 {
-    let found = work.use_at(frame, name, name);
+    let found = work.use_again(frame, name);
     let meaning = meaning_of(&work.tables, frame, found);
     check_named(work, name, frame, meaning)
 }

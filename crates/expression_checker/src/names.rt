@@ -187,7 +187,7 @@ pub fn check_accessed(work: &mut Work, name: u32, meaning: Meaning) -> Typed
 pub fn check_variable(work: &mut Work, name: u32, frame: u32) -> Typed
     ensures { Does (variable frame name) result work.old work.new }
 {
-    let found = work.use_at(frame, name, name);
+    let found = work.use_again(frame, name);
     let meaning = meaning_of(&work.tables, frame, found);
     work.late(3, name, is_variable(meaning));
     check_accessed(work, name, meaning)

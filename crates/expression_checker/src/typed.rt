@@ -8,7 +8,7 @@ ghost use Rattle.expression_checker.specs.Typed.{typed_value, unknown_at};
 
 use check_steps::{Tables, Work};
 use core_program::rows::{ExpressionRow, Row};
-use kind_checker::constants::check_constant;
+use kind_checker::constants::check_constant_again;
 use kind_checker::{ConstantValue, ExpressionType};
 use pas_tree::constants::Constant;
 
@@ -96,7 +96,7 @@ pub fn check_constant_at(work: &mut Work, token: u32, value: Option<ConstantValu
 fn check_literal(work: &mut Work, token: u32, c: &Constant) -> Typed
     ensures { Does (literal token c.now) result work.old work.new }
 {
-    let value = check_constant(work, 0, c);
+    let value = check_constant_again(work, 0, c);
     check_constant_at(work, token, value)
 }
 

@@ -1,13 +1,12 @@
 -- Replies, as one more is set: in the place of an older one, or last.
-use Rattle.std.proofs.Common.{if◌then◌else◌, ◌++◌, ◌+◌, ◌<◌, ◌||◌, ◌∙◌, ◌∷◌, ◌≡◌, ◌≤◌, [], ℕ, All, Bool, List, None, Some, ap, append-nil}
-use Rattle.std.proofs.Common.{append_assoc, arith, cond, drop, false, is_some, length, lt-ltb, ltb-true, nat_lt, refl, slice_get, subst, suc, sym, true}
-use Rattle.std.proofs.Math.Seq.{drop-cons}
-use Rattle.std.proofs.lemmas.Option.{get_or_from_slice_get, slice_get_within}
-use Rattle.std.proofs.lemmas.{Cmp.lists_equiv, List.drop_all, List.length-append, List.Elements.All-cons, List.Elements.All-nil, List.Elements.All-tail}
+use Rattle.std.proofs.Common.{if◌then◌else◌, ◌++◌, ◌+◌, ◌<◌, ◌||◌, ◌∙◌, ◌∷◌, ◌≡◌, ◌≤◌, [], ℕ, All, Bool, List, None, Some, ap, append-nil, append_assoc, arith}
+use Rattle.std.proofs.Common.{cond, drop, false, is_some, length, lt-ltb, ltb-true, nat_lt, refl, slice_get, subst, suc, sym, true}
+use Rattle.std.proofs.{Math.Seq.drop-cons, lemmas.Cmp.lists_equiv, lemmas.Option.get_or_from_slice_get, lemmas.Option.slice_get_within}
+use Rattle.std.proofs.lemmas.List.{drop_all, length-append, Elements.All-cons, Elements.All-nil, Elements.All-tail}
 use Rattle.std.specs.{Prelude.⊤, Cmp.IsEquivalence, Cmp.nat_eq_equiv, List.AllByRecursion, List.IsDistinct, Map.keys_of, Map.lookup, Str.bytes_eq}
 use Rattle.indexmap.specs.IndexMap.{insert_entry}
 use Rattle.answer_book.specs.declared.entries.Judgement.{Judgement}
-use Rattle.kept_replies.specs.Replies.{AreReplies, with_reply}
+use Rattle.kept_replies.specs.{Limits.most_replies, Replies.AreReplies, Replies.with_reply}
 
 eq_laws : IsEquivalence bytes_eq
 eq_laws = lists_equiv nat_eq_equiv
@@ -27,10 +26,10 @@ goes_last : (digest : List ℕ) (reply : Judgement) (replies : List (List ℕ ×
 goes_last digest reply [] fresh = refl
 goes_last digest reply (kept ∷ replies) fresh = rw (fresh.0, goes_last digest reply replies fresh.1)
 
-pub set_last : (digest : List ℕ) (reply : Judgement) (replies : List (List ℕ × Judgement)) → IsFresh digest replies → length replies < 100000
+pub set_last : (digest : List ℕ) (reply : Judgement) (replies : List (List ℕ × Judgement)) → IsFresh digest replies → length replies < most_replies
     → with_reply replies digest reply ≡ replies ++ (digest, reply) ∷ []
 set_last digest reply replies fresh few =
-    rw (no_reply digest replies fresh, lt-ltb (length replies) 100000 few) (goes_last digest reply replies fresh)
+    rw (no_reply digest replies fresh, lt-ltb (length replies) most_replies few) (goes_last digest reply replies fresh)
 
 fresh_after : (digest : List ℕ) (kept : List ℕ × Judgement) (replies : List (List ℕ × Judgement)) → bytes_eq digest kept.0 ≡ false
     → IsFresh digest replies → IsFresh digest (replies ++ kept ∷ [])
@@ -104,7 +103,7 @@ distinct_after digest reply (kept ∷ replies) fresh distinct = (
   distinct_after digest reply replies fresh.1 distinct.1,
 )
 
--- at most 100,000 replies to different questions, whose digests are all such
+-- at most `most_replies` replies to different questions, whose digests are all such
 pub record AreSuch (P : List ℕ → Type 0) (replies : List (List ℕ × Judgement)) : Type 0 where
   pub whole : AreReplies replies
   pub each : All P (keys_of replies)
@@ -121,7 +120,7 @@ length_of_keys [] = refl
 length_of_keys (kept ∷ replies) = ap suc (length_of_keys replies)
 
 set_by : (P : List ℕ → Type 0) (there room : Bool) (digest : List ℕ) (reply : Judgement) (replies : List (List ℕ × Judgement)) → P digest
-    → is_some (lookup (bytes_eq digest) replies) ≡ there → nat_lt (length replies) 100000 ≡ room → AreSuch P replies
+    → is_some (lookup (bytes_eq digest) replies) ≡ there → nat_lt (length replies) most_replies ≡ room → AreSuch P replies
     → AreSuch P (if there || room then insert_entry bytes_eq replies digest reply else replies)
 set_by P true room digest reply replies such is has_room are =
     let same = same_keys digest reply replies is in
@@ -136,7 +135,7 @@ set_by P false true digest reply replies such is has_room are =
     let count : length (replies ++ (digest, reply) ∷ []) ≡ length replies + 1 = length-append replies ((digest, reply) ∷ []) in
     subst (AreSuch P) (sym (goes_last digest reply replies fresh)) (record {
       whole = record {
-        few = let few = ltb-true (length replies) 100000 has_room in omega (arith, count, few);
+        few = let few = ltb-true (length replies) most_replies has_room in omega (arith, count, few);
         different = distinct_after digest reply replies fresh are.whole.different;
       };
       each = all_after P digest reply replies such are.each;
@@ -146,7 +145,7 @@ set_by P false false digest reply replies such is has_room are = are
 pub set_such : (P : List ℕ → Type 0) (digest : List ℕ) (reply : Judgement) (replies : List (List ℕ × Judgement)) → P digest → AreSuch P replies
     → AreSuch P (with_reply replies digest reply)
 set_such P digest reply replies such are =
-    set_by P (is_some (lookup (bytes_eq digest) replies)) (nat_lt (length replies) 100000) digest reply replies such refl refl are
+    set_by P (is_some (lookup (bytes_eq digest) replies)) (nat_lt (length replies) most_replies) digest reply replies such refl refl are
 
 -- ---- replies that are copied, one after another
 
@@ -162,7 +161,7 @@ pub record AreCopied (replies : List (List ℕ × Judgement)) (place : ℕ) (cop
   pub whole : copy ++ drop place replies ≡ replies
   pub fresh : AreFresh copy (drop place replies)
   pub different : IsDistinct bytes_eq (keys_of (drop place replies))
-  pub few : length copy + length (drop place replies) ≤ 100000
+  pub few : length copy + length (drop place replies) ≤ most_replies
 
 pub none_copied : (replies : List (List ℕ × Judgement)) → AreReplies replies → AreCopied replies 0 []
 none_copied replies are =
@@ -174,13 +173,13 @@ copied_by replies copy left place kept here next are =
     let fresh = subst (AreFresh copy) here are.fresh in
     let others = first_other kept.0 (keys_of left) (subst (λ (l : List (List ℕ × Judgement)). IsDistinct bytes_eq (keys_of l)) here are.different) in
     let count : length (copy ++ kept ∷ []) ≡ length copy + 1 = length-append copy (kept ∷ []) in
-    let few = subst (λ (l : List (List ℕ × Judgement)). length copy + length l ≤ 100000) here are.few in
+    let few = subst (λ (l : List (List ℕ × Judgement)). length copy + length l ≤ most_replies) here are.few in
     record {
       whole = append_assoc copy (kept ∷ []) (drop (place + 1) replies) ∙ ap (λ (l : List (List ℕ × Judgement)). copy ++ kept ∷ l) next
           ∙ ap (λ (l : List (List ℕ × Judgement)). copy ++ l) (sym here) ∙ are.whole;
       fresh = subst (AreFresh (copy ++ kept ∷ [])) (sym next) (still_fresh copy left kept others.0 fresh.1);
       different = subst (λ (l : List (List ℕ × Judgement)). IsDistinct bytes_eq (keys_of l)) (sym next) others.1;
-      few = subst (λ (l : List (List ℕ × Judgement)). length (copy ++ kept ∷ []) + length l ≤ 100000) (sym next) (omega (arith, count, few));
+      few = subst (λ (l : List (List ℕ × Judgement)). length (copy ++ kept ∷ []) + length l ≤ most_replies) (sym next) (omega (arith, count, few));
     }
 
 pub one_copied : (replies : List (List ℕ × Judgement)) (place : ℕ) (kept : List ℕ × Judgement) (copy new : List (List ℕ × Judgement))
@@ -188,7 +187,7 @@ pub one_copied : (replies : List (List ℕ × Judgement)) (place : ℕ) (kept : 
 one_copied replies place kept copy new there is are =
     let here = one_fewer replies place kept there in
     let fresh = subst (AreFresh copy) here are.fresh in
-    let few = subst (λ (l : List (List ℕ × Judgement)). length copy + length l ≤ 100000) here are.few in
+    let few = subst (λ (l : List (List ℕ × Judgement)). length copy + length l ≤ most_replies) here are.few in
     subst (AreCopied replies (place + 1)) (sym (is ∙ set_last kept.0 kept.1 copy fresh.0 (omega (arith, few))))
     (copied_by replies copy (drop (place + 1) replies) place kept here refl are)
 

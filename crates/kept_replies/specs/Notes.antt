@@ -2,14 +2,15 @@
 use Rattle.std.specs.Prelude.{◌&&◌, ◌≤◌, ℕ, All, Bool, IsTrue, List, Option, length, nat_le}
 use Rattle.std.specs.{BTreeMap.insert_entry, BTreeMap.is_at, Map.keys_of, Map.lookup, Map.values_of, Ordering.nat_cmp}
 use Rattle.std.specs.List.{list_all, Sorted.IsStrictlySortedBy}
+use Rattle.kept_replies.specs.Limits.{first_printed, last_printed, note_bytes}
 
--- a byte that is printed: a space to a tilde
+-- a byte that is printed
 abbrev pub is_printed : ℕ → Bool
-is_printed byte = nat_le 32 byte && nat_le byte 126
+is_printed byte = nat_le first_printed byte && nat_le byte last_printed
 
--- 1 to 100 bytes that are printed
+-- 1 to `note_bytes` bytes that are printed
 abbrev pub is_note : List ℕ → Bool
-is_note text = nat_le 1 (length text) && nat_le (length text) 100 && list_all is_printed text
+is_note text = nat_le 1 (length text) && nat_le (length text) note_bytes && list_all is_printed text
 
 -- the notes, which stand by rising entries, with this one on an entry: in the place of an older one, or before the
 -- first on a later entry

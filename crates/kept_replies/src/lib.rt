@@ -7,5 +7,5 @@ mod replies;
 #[cfg(test)]
 mod tests;
 
-pub use notes::{Notes, is_note, note_in};
-pub use replies::Replies;
+pub use notes::{FIRST_PRINTED, LAST_PRINTED, NOTE_BYTES, Notes, is_note, note_in};
+pub use replies::{MOST_REPLIES, Replies};

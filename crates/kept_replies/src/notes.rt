@@ -9,13 +9,19 @@ use std::collections::BTreeMap;
 use std::marker::Model;
 
 /// The most bytes of a note.
-const MOST_BYTES: usize = 100;
+pub const NOTE_BYTES: usize = 100;
+
+/// The first byte that is printed, a space.
+pub const FIRST_PRINTED: u8 = 32;
+
+/// The last byte that is printed, a tilde.
+pub const LAST_PRINTED: u8 = 126;
 
 /// Whether a byte is printed.
 fn is_printed(byte: u8) -> bool
     ensures { result ≡ is_printed byte }
 {
-    32 <= byte && byte <= 126
+    FIRST_PRINTED <= byte && byte <= LAST_PRINTED
 }
 
 /// Whether each byte is printed.
@@ -30,11 +36,11 @@ fn are_printed(text: &[u8]) -> bool
     true
 }
 
-/// Whether a text is a note: 1 to 100 bytes from 32 to 126.
+/// Whether a text is a note: 1 to [`NOTE_BYTES`] bytes from [`FIRST_PRINTED`] to [`LAST_PRINTED`].
 pub fn is_note(text: &[u8]) -> bool
     ensures { result ≡ is_note text.now }
 {
-    1 <= text.len() && text.len() <= MOST_BYTES && are_printed(text)
+    1 <= text.len() && text.len() <= NOTE_BYTES && are_printed(text)
 }
 
 /// The text as a note, if it is one.

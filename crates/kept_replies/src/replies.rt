@@ -9,7 +9,7 @@ use std::alloc::Global;
 use std::marker::Model;
 
 /// The most replies that are kept.
-const MOST_REPLIES: usize = 100_000;
+pub const MOST_REPLIES: usize = 100_000;
 
 /// Replies to questions: to each at most one, by the digest of its text. Clauses see them as the list of digests with
 /// their replies, in the order in which the questions first came.
@@ -43,8 +43,8 @@ impl Replies {
     }
 
     /// Sets the reply to the question of this digest: in the place of an older one; or else last, where there are fewer
-    /// than 100,000, and it is left out where there are as many. The replies stay as they were where it is out of
-    /// memory.
+    /// than [`MOST_REPLIES`], and it is left out where there are as many. The replies stay as they were where it is out
+    /// of memory.
     pub fn set(&mut self, digest: [u8; 32], reply: Judgement) -> Result<(), Memory>
         ensures set { OnOk result (self.new ≡ with_reply self.old digest reply) }
         ensures unchanged { OnErr result (self.new ≡ self.old) }

@@ -6,7 +6,8 @@ use Rattle.pas_tree.specs.OperatorPlaces.{sign_token}
 use Rattle.pas_tree.specs.declared.{constants.Constant.Constant, operators.Sign.Sign}
 use Rattle.pas_tree.specs.declared.blocks.{ConstantDefinition.ConstantDefinition, ConstantPart.ConstantPart}
 use Rattle.core_program.specs.{ProgramRows.text_at, declared.rows.NameRow.NameRow, declared.rows.Row.Row}
-use Rattle.check_steps.specs.{Known.Known, Known.row_at, Known.spelled_at, Names.define_in, Names.use_at}
+use Rattle.check_steps.specs.Known.{Known, row_at, spelled_at}
+use Rattle.check_steps.specs.Names.{define_in, use_again, use_at}
 use Rattle.check_steps.specs.Steps.{◌>>=◌, Step, early, give, late, look, put}
 use Rattle.check_steps.specs.declared.{regions.Def.Def, regions.Found.Found, words.Spelled.Spelled}
 use Rattle.kind_checker.specs.declared.constants.ConstantValue.{ConstantValue, TheVariants.Ordinal, TheVariants.Text}
@@ -88,6 +89,34 @@ constant frame (Constant.Name s n) = do
   v ← named_constant frame n
   signed s v
 constant frame (Constant.Text n) = look (λ k. Some (text_value n (text_at k.program n)))
+
+-- ---- constants once more
+
+-- Rule 30: the sign is an operator that does not fit. Rule 4 is told of it before, and comes first.
+unfoldable pub sign_again : Sign → Option ConstantValue → Step (Option ConstantValue)
+sign_again s v = do
+  _ ← late 30 (sign_token s) (is_integer v)
+  give (signed_value s v)
+
+abbrev pub signed_again : Option Sign → Option ConstantValue → Step (Option ConstantValue)
+signed_again None v = give v
+signed_again (Some s) v = sign_again s v
+
+unfoldable pub named_again : ℕ → ℕ → Step (Option ConstantValue)
+named_again frame token = do
+  found ← use_again frame token
+  _ ← late 3 token (is_constant found)
+  look (λ k. value_of k found)
+
+-- what a constant stands for, seen from a frame, whose name and sign were looked at before
+abbrev pub constant_again : ℕ → Constant → Step (Option ConstantValue)
+constant_again frame (Constant.Number s n) = do
+  v ← look (λ k. integer_in (spelled_at k n))
+  signed_again s v
+constant_again frame (Constant.Name s n) = do
+  v ← named_again frame n
+  signed_again s v
+constant_again frame (Constant.Text n) = look (λ k. Some (text_value n (text_at k.program n)))
 
 -- ---- the constant part
 

@@ -1,7 +1,8 @@
 -- What of a type counts when two are held against each other (6.4.5, 6.4.6).
-use Rattle.std.specs.Prelude.{if◌then◌else◌, ◌&&◌, ◌||◌, ℕ, Bool, None, Option, Some, false, is_none, nat_eq, pos, true}
+use Rattle.std.specs.Prelude.{if◌then◌else◌, ◌&&◌, ℕ, Bool, None, Option, Some, false, is_none, nat_eq, pos, true}
 use Rattle.std.specs.{Int.RustNames.int_le, Int.RustNames.unsigned_abs, Ordering.int_eq}
 use Rattle.core_program.specs.declared.rows.TypeRow.{TypeRow}
+use Rattle.check_steps.specs.Headings as headings
 use Rattle.check_steps.specs.Known.{Known, type_at}
 use Rattle.kind_checker.specs.Sizes.{host_of}
 use Rattle.kind_checker.specs.declared.shapes.{ExpressionType.ExpressionType, Shape.Shape}
@@ -82,4 +83,4 @@ is_assignable k t value = agree (shape_of k (ExpressionType.Of t)) (shape_of k v
 
 -- A type that is unknown is the same as any.
 abbrev pub is_same_type : Known → ℕ → ℕ → Bool
-is_same_type k a b = nat_eq a b || is_none (type_at k a) || is_none (type_at k b)
+is_same_type k a b = headings.is_same_type k.program a b

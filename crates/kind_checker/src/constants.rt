@@ -2,9 +2,10 @@
 
 ghost use Rattle.std.specs.Prelude.{◌≡◌, IfOk};
 ghost use Rattle.check_steps.specs.{Known.spelled_at, Steps.Does, Steps.each};
-ghost use Rattle.kind_checker.specs.Constants.{constant, constant_part, constants_in, define_constant, integer_in};
-ghost use Rattle.kind_checker.specs.Constants.{is_constant, is_integer, named_constant, opposite, sign_before, signed};
-ghost use Rattle.kind_checker.specs.Constants.{signed_value, text_value, value_in, value_of, value_row, with_sign};
+ghost use Rattle.kind_checker.specs.Constants.{constant, constant_again, constant_part, constants_in, define_constant};
+ghost use Rattle.kind_checker.specs.Constants.{integer_in, is_constant, is_integer, named_again, named_constant};
+ghost use Rattle.kind_checker.specs.Constants.{opposite, sign_again, sign_before, signed, signed_again, signed_value};
+ghost use Rattle.kind_checker.specs.Constants.{text_value, value_in, value_of, value_row, with_sign};
 
 use check_steps::{Def, Definition, Found, Spelled, Tables, Work};
 use core_program::rows::{CHAR, INTEGER, NameRow, Row};
@@ -176,6 +177,59 @@ pub fn check_constant(work: &mut Work, frame: u32, c: &Constant) -> Option<Const
         Constant::Name(sign, token) => {
             let value = check_named_constant(work, frame, *token);
             check_signed(work, sign, value)
+        }
+        Constant::Text(token) => Some(text_value(*token, work.tables.program().text(*token))),
+    }
+}
+
+#[tactic(auto, using(check_steps::proofs::Runs::steps), unfolding(crate::specs::Constants::sign_again))]
+fn check_sign_again(
+    work: &mut Work,
+    sign: &Sign,
+    value: Option<ConstantValue>,
+) -> Option<ConstantValue>
+    ensures { Does (sign_again sign.now value) result work.old work.new }
+{
+    work.late(30, sign_token(sign), is_integer(value));
+    signed_value(sign, value)
+}
+
+#[tactic(auto, using(check_steps::proofs::Runs::steps))]
+fn check_signed_again(
+    work: &mut Work,
+    sign: &Option<Sign>,
+    value: Option<ConstantValue>,
+) -> Option<ConstantValue>
+    ensures { Does (signed_again sign.now value) result work.old work.new }
+{
+    match sign {
+        None => value,
+        Some(sign) => check_sign_again(work, sign, value),
+    }
+}
+
+#[tactic(auto, using(check_steps::proofs::Runs::steps), unfolding(crate::specs::Constants::named_again))]
+fn check_named_again(work: &mut Work, frame: u32, token: u32) -> Option<ConstantValue>
+    ensures { Does (named_again frame token) result work.old work.new }
+{
+    let found = work.use_again(frame, token);
+    work.late(3, token, is_constant(found));
+    value_of(&work.tables, found)
+}
+
+/// What a constant stands for, seen from a frame, if its name and its sign were looked at before.
+#[tactic(auto, using(check_steps::proofs::Runs::steps))]
+pub fn check_constant_again(work: &mut Work, frame: u32, c: &Constant) -> Option<ConstantValue>
+    ensures { Does (constant_again frame c.now) result work.old work.new }
+{
+    match c {
+        Constant::Number(sign, token) => {
+            let value = integer_in(work.tables.spelled(*token));
+            check_signed_again(work, sign, value)
+        }
+        Constant::Name(sign, token) => {
+            let value = check_named_again(work, frame, *token);
+            check_signed_again(work, sign, value)
         }
         Constant::Text(token) => Some(text_value(*token, work.tables.program().text(*token))),
     }

@@ -5,7 +5,7 @@ ghost use Rattle.kind_checker.specs.Shapes.{agree, hosts_agree, is_assignable, i
 ghost use Rattle.kind_checker.specs.Shapes.{packing_of, packings_agree, shape_in, shape_of, string_length, text_or};
 
 use crate::sizes::host_of;
-use check_steps::Tables;
+use check_steps::{Tables, headings};
 use core_program::rows::{CHAR, INTEGER, TypeRow};
 
 /// Whether a set is of a packed type.
@@ -211,5 +211,5 @@ pub fn is_assignable(tables: &Tables, kind: u32, value: ExpressionType) -> bool
 pub fn is_same_type(tables: &Tables, left: u32, right: u32) -> bool
     ensures { result ≡ is_same_type tables.now left right }
 {
-    left == right || tables.type_row(left).is_none() || tables.type_row(right).is_none()
+    headings::is_same_type(tables.program(), left, right)
 }

@@ -9,8 +9,7 @@ use Rattle.pas_parser.specs.Formed.{IsText, items_of}
 use Rattle.check_steps.specs.Breaks.{IsFirst, IsOfFirst, fault_of, group, is_before, number}
 use Rattle.check_steps.specs.declared.breaks.{Break.Break, CheckFault.CheckFault}
 use Rattle.check_steps.specs.declared.breaks.Broken.{Broken, TheVariants.Early, TheVariants.Late, TheVariants.TooBig}
-use Rattle.code_checker.specs.{CheckedPrograms.broken, Declarations.IsTextOf, declared.programs.ProgramFault.ProgramFault}
-use Rattle.code_checker.specs.Places.{TokenBegins, TokenOrLastBegins, token_or_last}
+use Rattle.code_checker.specs.{CheckedPrograms.broken, Declarations.IsTextOf, Places.TokenBegins, declared.programs.ProgramFault.ProgramFault}
 use Rattle.same_programs.proofs.Programs.{one_text}
 use Rattle.same_programs.specs.Laws.{RefusedOnce}
 
@@ -52,12 +51,6 @@ at_once : (t : Lexed) (m n line byte line' byte' : ℕ) → m ≡ n → TokenBeg
     → (line ≡ line') × (byte ≡ byte')
 at_once t m n line byte line' byte' e a b =
     let same : a.token ≡ b.token = ap (λ o. token_in o a.token) (sym a.there ∙ ap (slice_get t.tokens) e ∙ b.there) in
-    (a.line_is ∙ ap (λ (x : Token). x.line) same ∙ sym b.line_is, a.byte_is ∙ ap (λ (x : Token). x.start) same ∙ sym b.byte_is)
-
-for_once : (t : Lexed) (m n line byte line' byte' : ℕ) → m ≡ n → TokenOrLastBegins t m line byte → TokenOrLastBegins t n line' byte'
-    → (line ≡ line') × (byte ≡ byte')
-for_once t m n line byte line' byte' e a b =
-    let same : a.token ≡ b.token = ap (λ o. token_in o a.token) (sym a.there ∙ ap (token_or_last t.tokens) e ∙ b.there) in
     (a.line_is ∙ ap (λ (x : Token). x.line) same ∙ sym b.line_is, a.byte_is ∙ ap (λ (x : Token). x.start) same ∙ sym b.byte_is)
 
 -- ---- faults
@@ -105,11 +98,11 @@ refused_once t (ProgramFault.TooBig line byte) (ProgramFault.NotProgram line' by
 refused_once t (ProgramFault.TooBig line byte) (ProgramFault.TooDeep line' byte') (z, a, b) (n, y, at) p q = absurd (no_tree t z y.0 a)
 refused_once t (ProgramFault.Rule rule line byte) (ProgramFault.Rule rule' line' byte') (x, a, (m, g, at)) (y, b, (n, h, at')) p q =
     let e = answered_once t x y (CheckFault.Rule rule m) (CheckFault.Rule rule' n) a b g h in
-    let place = for_once t m n line byte line' byte' (ap token_at e) at at' in
+    let place = at_once t m n line byte line' byte' (ap token_at e) at at' in
     λ i. ProgramFault.Rule (rule_in (e i)) (place.0 i) (place.1 i)
 refused_once t (ProgramFault.TooBig line byte) (ProgramFault.TooBig line' byte') (x, a, (m, g, at)) (y, b, (n, h, at')) p q =
     let e = answered_once t x y (CheckFault.TooBig m) (CheckFault.TooBig n) a b g h in
-    let place = for_once t m n line byte line' byte' (ap token_at e) at at' in
+    let place = at_once t m n line byte line' byte' (ap token_at e) at at' in
     λ i. ProgramFault.TooBig (place.0 i) (place.1 i)
 refused_once t (ProgramFault.Rule rule line byte) (ProgramFault.TooBig line' byte') (x, a, (m, g, at)) (y, b, (n, h, at')) p q =
     let e = answered_once t x y (CheckFault.Rule rule m) (CheckFault.TooBig n) a b g h in absurd (omega (arith, ap kind_of e))

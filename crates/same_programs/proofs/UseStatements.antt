@@ -9,13 +9,14 @@ use Rattle.pas_tree.specs.declared.statements.If.{Held-If-alternative, If, If' a
 use Rattle.pas_tree.specs.declared.statements.Plain.{Assignment as Assignment', Call, Case', Compound', Empty, For', Goto, If', Plain, Repeat', While', With'}
 use Rattle.pas_tree.specs.declared.statements.Statements.{Row_of-NextStatement, Statements, Statements', end_of-NextStatement, more_of-NextStatement}
 use Rattle.check_steps.specs.{Known.type_at, Steps.◌>>=◌, Steps.look}
-use Rattle.decl_checker.specs.{Accesses.name_use, Statements.some_actuals_uses, Statements.statements_uses, Statements.width_uses}
-use Rattle.decl_checker.specs.Statements.{actual_uses, actuals_uses, assignment_uses, case_uses, compound_uses, constants_uses, else_uses, fields_in, if_uses}
-use Rattle.decl_checker.specs.Statements.{inside_access, inside_next, inside_of, more_branches, more_statements, next_actual, plain_uses, repeat_uses}
-use Rattle.same_programs.proofs.{BareExpressions.bare_access, BareNames.bare_constants, BareStatements.bare_statements, BareStatements.bare_width}
-use Rattle.same_programs.proofs.{Steps.each-bare, UseAccesses.access_type-bare, UseAccesses.access_uses-bare, UseAccesses.expression_uses-bare}
+use Rattle.decl_checker.specs.{Accesses.name_use, Statements.statements_uses, Statements.width_uses}
+use Rattle.decl_checker.specs.Statements.{actual_uses, actuals_uses, assignment_uses, case_uses, compound_uses, else_uses, fields_in, if_uses, inside_access}
+use Rattle.decl_checker.specs.Statements.{inside_next, inside_of, more_branches, more_statements, next_actual, plain_uses, repeat_uses, some_actuals_uses}
+use Rattle.same_programs.proofs.{BareExpressions.bare_access, BareNames.bare_constants, DenoterVariants.constants_uses-bare, Steps.each-bare}
 use Rattle.same_programs.proofs.BareStatements.{bare_actual, bare_actuals, bare_assignment, bare_boxed_actuals, bare_branches, bare_case, bare_compound}
 use Rattle.same_programs.proofs.BareStatements.{bare_else, bare_if, bare_more_statements, bare_next_access, bare_next_actual, bare_plain, bare_repeat}
+use Rattle.same_programs.proofs.BareStatements.{bare_statements, bare_width}
+use Rattle.same_programs.proofs.UseAccesses.{access_type-bare, access_uses-bare, expression_uses-bare}
 
 pub assignment_uses-bare : (frame : ℕ) (a : Assignment) → assignment_uses frame (bare_assignment a) ≡ assignment_uses frame a
 unfolding assignment_uses
@@ -41,10 +42,6 @@ some_actuals_uses-bare frame a =
 pub actuals_uses-bare : (frame : ℕ) (a : Option (Box Actuals)) → actuals_uses frame (option_map bare_boxed_actuals a) ≡ actuals_uses frame a
 actuals_uses-bare frame None = refl
 actuals_uses-bare frame (Some a) = λ i. some_actuals_uses-bare frame a.value i
-
-pub constants_uses-bare : (frame : ℕ) (c : Constants) → constants_uses frame (bare_constants c) ≡ constants_uses frame c
-unfolding constants_uses
-constants_uses-bare frame c = refl
 
 pub inside_access-bare : (frame : ℕ) (a : Access) → inside_access frame (bare_access a) ≡ inside_access frame a
 unfolding inside_access

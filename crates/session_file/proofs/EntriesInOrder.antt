@@ -3,8 +3,7 @@ use Rattle.std.proofs.Common.{◌++◌, ◌+◌, ◌∙◌, ◌∷◌, ◌≡◌
 use Rattle.std.proofs.lemmas.List.{drop_all}
 use Rattle.serde_json.specs.{View.view, declared.value.Value.Value}
 use Rattle.answer_book.specs.declared.entries.{Entry.Entry, Judgement.Judgement}
-use Rattle.kept_replies.specs.Notes.{note_on}
-use Rattle.kept_replies.proofs.RepliesInOrder.{one_fewer}
+use Rattle.kept_replies.{proofs.RepliesInOrder.one_fewer, specs.Notes.note_on}
 use Rattle.session_file.proofs.Turns.{made_next}
 use Rattle.session_file.specs.Text.{entries_data, entry_data, reply_data}
 

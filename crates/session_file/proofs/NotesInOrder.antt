@@ -4,8 +4,7 @@ use Rattle.std.proofs.Common.{arith, drop, inl, inr, length, option_and_then, op
 use Rattle.std.proofs.lemmas.{Bool.Decides.nat_tests, List.drop_all, List.Elements.All-tail, Map.Views.All-keys-insert_entry}
 use Rattle.std.specs.{Map.keys_of, Option.ok_or, Ordering.nat_cmp, declared.cmp.Ordering.TheVariants.Greater}
 use Rattle.serde_json.specs.{View.items_view, View.view, declared.value.Value.Value}
-use Rattle.kept_replies.specs.Notes.{with_note}
-use Rattle.kept_replies.proofs.RepliesInOrder.{one_fewer}
+use Rattle.kept_replies.{proofs.RepliesInOrder.one_fewer, specs.Notes.with_note}
 use Rattle.session_file.specs.{Reading.note_in, Reading.noted, Reading.notes_in, Reading.with_next, declared.session.SessionField.TheVariants.Entries}
 use Rattle.session_file.specs.declared.session.LoadFault.{LoadFault, TheVariants.BadShape, TheVariants.Memory}
 

@@ -1,7 +1,6 @@
 -- Replies, set one after another.
-use Rattle.std.proofs.Common.{◌+◌, ◌∙◌, ◌≡◌, ◌≤◌, ◌⊎◌, [], ℕ, Err, List, None, Ok, Option, Result, Some, ap, drop, inl, inr, length}
-use Rattle.std.proofs.Common.{option_and_then, option_map, refl, slice_get, sym}
-use Rattle.std.{proofs.lemmas.List.drop_all, specs.Option.ok_or}
+use Rattle.std.proofs.Common.{◌+◌, ◌∙◌, ◌≡◌, ◌≤◌, ◌⊎◌, [], ℕ, Err, List, None, Ok, Option, Result, Some, ap, drop, inl, inr, length, option_and_then}
+use Rattle.std.{proofs.Common.option_map, proofs.Common.refl, proofs.Common.slice_get, proofs.Common.sym, proofs.lemmas.List.drop_all, specs.Option.ok_or}
 use Rattle.serde_json.specs.{View.items_view, View.view, declared.value.Value.Value}
 use Rattle.answer_book.specs.declared.entries.Judgement.{Judgement}
 use Rattle.kept_replies.proofs.RepliesInOrder.{one_fewer}

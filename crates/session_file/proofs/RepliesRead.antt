@@ -1,12 +1,11 @@
 -- The replies that are read of what is saved are those that were saved.
-use Rattle.std.proofs.Common.{◌++◌, ◌+◌, ◌∙◌, ◌∷◌, ◌≡◌, ◌≤◌, [], ℕ, All, List, Ok, Some, ap, append-nil, append_assoc, arith, length}
-use Rattle.std.proofs.Common.{map, option_and_then, sym}
+use Rattle.std.proofs.Common.{◌++◌, ◌+◌, ◌∙◌, ◌∷◌, ◌≡◌, ◌≤◌, [], ℕ, All, List, Ok, Some, ap, append-nil, append_assoc, arith, length, map, option_and_then, sym}
 use Rattle.std.{proofs.lemmas.List.length-append, proofs.lemmas.List.Elements.All-tail, specs.List.IsDistinct, specs.Map.keys_of, specs.Str.bytes_eq}
 use Rattle.hex.{proofs.HexLemmas.decode_sized-encode_lower, specs.Hex.decode_sized, specs.Hex.encode_lower}
 use Rattle.serde_json.specs.View.{items_of}
 use Rattle.answer_book.specs.declared.entries.Judgement.{Judgement, TheVariants.Right, TheVariants.Unknown, TheVariants.Wrong}
 use Rattle.kept_replies.proofs.RepliesInOrder.{AreFresh, all_fresh, first_other, set_last, still_fresh}
-use Rattle.kept_replies.specs.Replies.{AreReplies}
+use Rattle.kept_replies.specs.{Limits.most_replies, Replies.AreReplies}
 use Rattle.session_file.specs.{Reading.replies_in, Reading.reply_in, Reading.with_kept, Text.reply_data, Whole.IsDigest}
 
 pub digest_read : (bytes : List ℕ) → IsDigest bytes → decode_sized (encode_lower bytes) 32 ≡ Ok bytes
@@ -19,7 +18,7 @@ reply_read digest Right d = rw (digest_read digest d)
 reply_read digest Wrong d = rw (digest_read digest d)
 reply_read digest Unknown d = rw (digest_read digest d)
 
-replies_left : (done left : List (List ℕ × Judgement)) → AreFresh done left → IsDistinct bytes_eq (keys_of left) → length done + length left ≤ 100000
+replies_left : (done left : List (List ℕ × Judgement)) → AreFresh done left → IsDistinct bytes_eq (keys_of left) → length done + length left ≤ most_replies
     → All IsDigest (keys_of left) → replies_in done (items_of (map reply_data left)) ≡ Some (done ++ left)
 replies_left done [] fresh distinct few digests = ap Some (sym (append-nil done))
 replies_left done (kept ∷ left) fresh distinct few digests =

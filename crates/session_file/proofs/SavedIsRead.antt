@@ -4,7 +4,7 @@ use Rattle.std.{proofs.lemmas.List.Elements.All-tail, proofs.lemmas.Str.is_utf8-
 use Rattle.serde_json.specs.{Events.items_len, View.items_of}
 use Rattle.answer_book.specs.declared.entries.{Entry.Entry, What.What, What.TheVariants.Judged, What.TheVariants.Trusted}
 use Rattle.answer_book.specs.declared.entries.Judgement.{Judgement, TheVariants.Right, TheVariants.Unknown, TheVariants.Wrong}
-use Rattle.kept_replies.specs.{Notes.AreNotes, Notes.note_on, Replies.AreReplies}
+use Rattle.kept_replies.specs.{Limits.most_replies, Notes.AreNotes, Notes.note_on, Replies.AreReplies}
 use Rattle.session_file.proofs.{NotesRead.notes_read, RepliesRead.digest_read, RepliesRead.replies_read, SavedIsJson.first_json, SavedIsJson.saved_json}
 use Rattle.session_file.proofs.SavedIsUtf8.{each_noted, first_text_utf8, saved_utf8}
 use Rattle.session_file.specs.{Reading.entries_in, Reading.entry_in, Reading.session_in, Reading.session_of, declared.session.Session.Session}
@@ -51,7 +51,7 @@ session_read s w = rw (
   w.first,
   notes_read s.notes s.entries w.noted (each_noted s w) w.on_entries,
   replies_count s.replies,
-  le-leb (length s.replies) 100000 w.replied.few,
+  le-leb (length s.replies) most_replies w.replied.few,
   replies_read s.replies w.replied w.questions,
 )
 

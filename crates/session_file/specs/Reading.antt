@@ -8,7 +8,7 @@ use Rattle.serde_json.specs.Find.{as_array, as_bool, as_number, as_str, as_u64, 
 use Rattle.answer_book.specs.declared.entries.{Entry.Entry, Judgement.Judgement}
 use Rattle.answer_book.specs.declared.entries.Judgement.TheVariants.{Right, Unknown, Wrong}
 use Rattle.answer_book.specs.declared.entries.What.{What, TheVariants.Judged, TheVariants.Trusted}
-use Rattle.kept_replies.specs.{Notes.is_note, Notes.with_note, Replies.with_reply}
+use Rattle.kept_replies.specs.{Limits.most_replies, Notes.is_note, Notes.with_note, Replies.with_reply}
 use Rattle.session_file.specs.Text.{first_version, judgement_word, this_version}
 use Rattle.session_file.specs.declared.session.{LoadFault.LoadFault, Session.Session}
 use Rattle.session_file.specs.declared.session.LoadFault.TheVariants.{BadShape, BadVersion, NotJson}
@@ -65,7 +65,7 @@ entries_in (item d ds) = option_and_then (λ entry. option_map (λ entries. entr
 
 -- ---- the note on an entry
 
--- the note that a value is, if it is one: a text of 1 to 100 bytes from 32 to 126
+-- the note that a value is, if it is one
 abbrev pub note_by : Data → Option (List ℕ)
 note_by d = only_if is_note (as_str d)
 
@@ -127,9 +127,9 @@ replies_in replies (item d ds) =
 abbrev pub has_allowed_length : Items → Bool
 has_allowed_length ds = nat_le 1 (items_len ds) && nat_le (items_len ds) 100000
 
--- at most 100,000 values
+-- at most `most_replies` values
 abbrev pub is_short : Items → Bool
-is_short ds = nat_le (items_len ds) 100000
+is_short ds = nat_le (items_len ds) most_replies
 
 -- the first entry says that call 0 is wrong
 abbrev pub says_wrong : What → Bool
@@ -165,7 +165,7 @@ abbrev pub notes_at : (version : ℕ) → Data → Option (List (ℕ × List ℕ
 notes_at version d =
     if version == first_version then Some [] else option_and_then (notes_in 1) (values_at d)
 
--- the values under "replies", if there are at most 100,000
+-- the values under "replies", if there are at most `most_replies`
 abbrev pub reply_values_at : Data → Option Items
 reply_values_at d = only_if is_short (option_and_then as_array (get (codes "replies") d))
 

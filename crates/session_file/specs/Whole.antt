@@ -18,7 +18,7 @@ NumberFits (Judged call judgement) = call < 2 ^ 32
 NumberFits (Trusted routine) = routine < 2 ^ 32
 
 -- two digests, a budget from 1 to 4,000,000, and 1 to 100,000 entries of which the first says that call 0 is wrong;
--- notes on entries that are there; and at most 100,000 replies to different questions
+-- notes on entries that are there; and at most `most_replies` replies to different questions
 pub record IsWhole (s : Session) : Type 0 where
   pub source : IsDigest s.source
   pub input : IsDigest s.input

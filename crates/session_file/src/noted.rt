@@ -11,7 +11,7 @@ use kept_replies::{Notes, is_note};
 use serde_json::Value;
 use std::alloc::Global;
 
-/// The note that a value is, if it is one: 1 to 100 bytes from 32 to 126.
+/// The note that a value is, if it is one.
 fn note_by(value: &Value) -> Option<&str>
     ensures note { option_map (λ note. note.now) result ≡ note_by (view value.now) }
     ensures good { IfSome result (λ note. IsTrue (is_note note.now)) }

@@ -8,12 +8,9 @@ ghost use Rattle.session_file.specs.Reading.{text_under, with_kept};
 use crate::reading::{FIRST_VERSION, digest_from, value_at};
 use crate::session::{LoadFault, SessionField};
 use answer_book::Judgement;
-use kept_replies::Replies;
+use kept_replies::{MOST_REPLIES, Replies};
 use serde_json::Value;
 use std::alloc::Global;
-
-/// The most replies of a session.
-const MOST_REPLIES: usize = 100_000;
 
 /// The judgement of a word.
 fn judgement_from(word: &str) -> Option<Judgement>
@@ -88,7 +85,7 @@ fn replies_of(alloc: Global, values: &[Value]) -> Result<Replies, LoadFault>
     Ok(replies)
 }
 
-/// The values that are to be replies, of which there are at most 100,000.
+/// The values that are to be replies, of which there are at most [`MOST_REPLIES`].
 #[tactic(auto, using(crate::proofs::EntryLists::the_values))]
 fn reply_values_from(value: &Value) -> Option<&Vec<Value>>
     ensures { option_map (λ values. items_view values.now.items) result ≡ reply_values_at (view value.now) }

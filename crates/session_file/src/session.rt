@@ -36,9 +36,10 @@ pub enum SessionField {
     /// `budget`: a whole number from 1 to 4,000,000.
     Budget,
     /// `entries`: 1 to 100,000 of them, with numbers of calls and routines below 2^32. The first one judges call 0 as
-    /// wrong. In version 2 an entry may have a note: 1 to 100 bytes from 32 to 126.
+    /// wrong. In version 2 an entry may have a note, as `kept_replies::is_note` knows them.
     Entries,
-    /// `replies`, of version 2: at most 100,000, each a question by 64 hexadecimal digits, and a judgement.
+    /// `replies`, of version 2: at most `kept_replies::MOST_REPLIES`, each a question by 64 hexadecimal digits, and a
+    /// judgement.
     Replies,
 }
 

@@ -2,7 +2,7 @@
 use Rattle.std.specs.Prelude.{if◌then◌else◌, ℕ, Bool, false, is_none, not, true}
 use Rattle.core_program.specs.declared.rows.Row.{Row}
 use Rattle.core_program.specs.declared.rows.StatementRow.TheVariants as statement
-use Rattle.check_steps.specs.{Known.Known, Names.use_at}
+use Rattle.check_steps.specs.{Known.Known, Names.use_again}
 use Rattle.check_steps.specs.Steps.{◌>>=◌, Step, give, late, look, put}
 use Rattle.kind_checker.specs.Headings.{signature_at}
 use Rattle.expression_checker.specs.{Callees.callee_of, Callees.is_required_function, declared.callees.Callee.Callee}
@@ -18,7 +18,7 @@ is_procedure k (Callee.Required r) = not (is_required_function r)
 -- rule 3: the name stands for another kind of thing than a procedure
 unfoldable pub procedure_at : ℕ → ℕ → Step Callee
 procedure_at frame name = do
-  found ← use_at frame name name
+  found ← use_again frame name
   c ← look (λ k. callee_of k frame found)
   fine ← look (λ k. is_procedure k c)
   _ ← late 3 name fine

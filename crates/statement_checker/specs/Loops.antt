@@ -3,7 +3,7 @@ use Rattle.std.specs.Prelude.{if◌then◌else◌, ℕ, Bool, None, Option, Some
 use Rattle.pas_tree.specs.{OperatorPlaces.direction_token, declared.operators.Direction.Direction as DirectionTree}
 use Rattle.core_program.specs.declared.rows.{Mode.Mode, NameRow.NameRow, Row.Row, StatementRow.StatementRow}
 use Rattle.core_program.specs.declared.rows.Direction.{Direction, TheVariants.Down, TheVariants.Up}
-use Rattle.check_steps.specs.{Names.use_at, declared.regions.Found.Found}
+use Rattle.check_steps.specs.{Names.use_again, declared.regions.Found.Found}
 use Rattle.check_steps.specs.Known.{Known, frame_at, row_at, threat_of}
 use Rattle.check_steps.specs.Steps.{◌>>=◌, Step, give, hold, late, look, release}
 use Rattle.kind_checker.specs.{Operators.is_ordinal, Shapes.agree, Shapes.shape_of}
@@ -58,7 +58,7 @@ controlled name c = do
 -- threatened, since it may be the control variable of a for statement around.
 unfoldable pub control_at : ℕ → ℕ → Step Control
 control_at frame name = do
-  found ← use_at frame name name
+  found ← use_again frame name
   c ← look (λ k. control_of k frame found)
   _ ← late 3 name (is_variable c)
   _ ← controlled name c

@@ -39,7 +39,7 @@ fn is_procedure(tables: &Tables, callee: Callee) -> bool
 pub fn check_procedure(work: &mut Work, frame: u32, name: u32) -> Callee
     ensures { Does (procedure_at frame name) result work.old work.new }
 {
-    let found = work.use_at(frame, name, name);
+    let found = work.use_again(frame, name);
     let callee = callee_of(&work.tables, frame, found);
     let fine = is_procedure(&work.tables, callee);
     work.late(3, name, fine);

@@ -128,7 +128,7 @@ fn check_controlled(work: &mut Work, name: u32, control: Control)
 fn check_control(work: &mut Work, frame: u32, name: u32) -> Control
     ensures { Does (control_at frame name) result work.old work.new }
 {
-    let found = work.use_at(frame, name, name);
+    let found = work.use_again(frame, name);
     let control = control_of(&work.tables, frame, found);
     work.late(3, name, is_variable(control));
     check_controlled(work, name, control);

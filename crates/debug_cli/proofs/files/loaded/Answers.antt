@@ -4,7 +4,7 @@ use Rattle.ask_session.specs.Outside.{Outside}
 use Rattle.command_words.specs.Meaning.{Source}
 use Rattle.debug_cli.proofs.RefusalsAreOwed.{loaded, session_refused}
 use Rattle.debug_cli.proofs.files.loaded.Goals as goal
-use Rattle.debug_cli.specs.{Named.IsFetched, Named.session_bytes, Outside.outside, Refusals.IsRefusal, declared.refusals.Refusal.Refusal}
+use Rattle.debug_cli.specs.{Limits.session_bytes, Named.IsFetched, Outside.outside, Refusals.IsRefusal, declared.refusals.Refusal.Refusal}
 
 pub returns-in_err-bytes-clause-refused : goal.returns-in_err-bytes-clause-refused
 returns-in_err-bytes-clause-refused g c = λ r run named.

@@ -1,51 +1,53 @@
-use Rattle.std.proofs.Common.{◌∙◌, ◌∷◌, ap, sym}
+use Rattle.std.proofs.Common.{◌∙◌, ◌∷◌, ap, arith, sym}
 use Rattle.core_program.specs.{ProgramRows.type_at, Tree.Address, Tree.bind, Tree.doing}
 use Rattle.core_program.specs.Accesses.{address, eval, locate_field, value_at, with_components}
 use Rattle.core_program.specs.Cells as action
 use Rattle.eval_ops.specs.Machines.{moment_of}
-use Rattle.evaluator.proofs.{Moves.comes_same, Moves.comes_then, Turning.spent, Turning.turns_after, Turning.turns_same}
+use Rattle.evaluator.proofs.Moves.{comes_same, comes_then}
+use Rattle.evaluator.proofs.Turning.{moves_after, moves_after_by, moves_by, moves_on, spent, spent_less}
 use Rattle.evaluator.proofs.accesses.continue_access.Goals as goal
+use Rattle.evaluator.specs.{Weight.task_weight, declared.tasks.Task.Task}
 use Rattle.evaluator.specs.Rest.{here, lists_of, resume, tasks_of, values_of, waiting}
-use Rattle.evaluator.specs.declared.tasks.Task.{Task}
 
-pub returns-in-Value-clause-turns : goal.returns-in-Value-clause-turns
-returns-in-Value-clause-turns c = turns_same c.args.program.now _ _ _ _ c.variable_value.result c.variable_value.new.body
-    (ap (λ t. resume c.args.program.now c.args.body.now.home (Task.Located t ∷ tasks_of c.args.body.now) (values_of c.args.body.now)
-    (lists_of c.args.body.now) (Address c.args.addr)) c.in-Value.is ∙ ap (λ t. bind (value_at c.args.program.now c.in-Value.line c.args.addr t)
-    (waiting c.args.program.now c.args.body.now)) (sym c.type_row.ensures))
-    c.variable_value.ensures.turns
+pub returns-in-Value-clause-moves : goal.returns-in-Value-clause-moves
+returns-in-Value-clause-moves c =
+    moves_on c.variable_value.ensures.moves (ap (λ t. resume c.args.program.now c.args.body.now.home (Task.Located t ∷ tasks_of c.args.body.now) (values_of
+    c.args.body.now) (lists_of c.args.body.now) (Address c.args.addr)) c.in-Value.is ∙ ap (λ t. bind (value_at c.args.program.now c.in-Value.line c.args.addr t)
+    (waiting c.args.program.now c.args.body.now)) (sym c.type_row.ensures)) (omega (arith, ap (λ t. task_weight (Task.Located t)) c.in-Value.is))
 
-pub returns-in-Passed-clause-turns : goal.returns-in-Passed-clause-turns
-returns-in-Passed-clause-turns c = turns_same c.args.program.now _ _ _ _ c.add_cell.result c.add_cell.new.body
-    (ap (λ t. resume c.args.program.now c.args.body.now.home (Task.Located t ∷ tasks_of c.args.body.now) (values_of c.args.body.now)
-    (lists_of c.args.body.now) (Address c.args.addr)) c.in-Passed.is)
-    (c.add_cell.ensures.turns _)
+pub returns-in-Passed-clause-moves : goal.returns-in-Passed-clause-moves
+returns-in-Passed-clause-moves c = moves_by c.add_cell.ensures.turns c.add_cell.ensures.falls c.add_cell.ensures.home (rw c.in-Passed.is)
+    (omega (arith, ap (λ t. task_weight (Task.Located t)) c.in-Passed.is))
 
-pub returns-in-Ok-clause-turns : goal.returns-in-Ok-clause-turns
-returns-in-Ok-clause-turns c =
+pub returns-in-Ok-clause-moves : goal.returns-in-Ok-clause-moves
+returns-in-Ok-clause-moves c =
     let p = c.args.program.now in
     let h = here c.args.body.now.home c.in-Index.line in
-    turns_after p _ _ _ _ _ c.wait.result c.wait.new.self
-    (comes_then (comes_same (ap (λ t. resume c.args.program.now c.args.body.now.home (Task.Located t ∷ tasks_of c.args.body.now)
-    (values_of c.args.body.now) (lists_of c.args.body.now) (Address c.args.addr)) c.in-Index.is))
-    (spent p h (eval c.in-Index.index h (λ v. with_components p (type_at p c.in-Index.array)
-    (λ a. doing c.in-Index.line (action.component a c.args.addr v) address))) (waiting p c.args.body.now) (moment_of c.args.machine.now)
-    (moment_of c.spend.new.machine) c.in-Ok.ensures.act))
-    (c.wait.ensures.turns p _)
+    moves_after_by (c.wait.ensures.turns p) c.wait.ensures.falls c.wait.ensures.home (comes_then (comes_same (ap (λ t. resume c.args.program.now
+    c.args.body.now.home (Task.Located t ∷ tasks_of c.args.body.now) (values_of c.args.body.now) (lists_of c.args.body.now) (Address c.args.addr))
+    c.in-Index.is)) (spent p h (eval c.in-Index.index h (λ v. with_components p (type_at p c.in-Index.array) (λ a. doing c.in-Index.line (action.component a
+    c.args.addr v) address))) (waiting p c.args.body.now) (moment_of c.args.machine.now) (moment_of c.spend.new.machine) c.in-Ok.ensures.act))
+    (omega (
+      arith,
+      ap (λ t. task_weight (Task.Located t)) c.in-Index.is,
+      spent_less (moment_of c.args.machine.now) (moment_of c.spend.new.machine)
+          c.in-Ok.ensures.act,
+    ))
 
-pub returns-in-Ok-spend-clause-turns : goal.returns-in-Ok-spend-clause-turns
-returns-in-Ok-spend-clause-turns c =
+pub returns-in-Ok-spend-clause-moves : goal.returns-in-Ok-spend-clause-moves
+returns-in-Ok-spend-clause-moves c =
     let p = c.args.program.now in
     let h = here c.args.body.now.home c.in-Field.line in
-    turns_after p _ _ _ _ _ c.locate_field.result c.locate_field.new.body
-    (comes_then (comes_same (ap (λ t. resume c.args.program.now c.args.body.now.home (Task.Located t ∷ tasks_of c.args.body.now)
-    (values_of c.args.body.now) (lists_of c.args.body.now) (Address c.args.addr)) c.in-Field.is))
-    (spent p h (locate_field p c.in-Field.target c.in-Field.line c.args.addr c.in-Field.field) (waiting p c.args.body.now)
-    (moment_of c.args.machine.now) (moment_of c.spend-in-Field.new.machine) c.in-Ok-spend.ensures.act))
-    c.locate_field.ensures.turns
+    moves_after c.locate_field.ensures.moves (comes_then (comes_same (ap (λ t. resume c.args.program.now c.args.body.now.home (Task.Located t ∷ tasks_of
+    c.args.body.now) (values_of c.args.body.now) (lists_of c.args.body.now) (Address c.args.addr)) c.in-Field.is)) (spent p h (locate_field p c.in-Field.target
+    c.in-Field.line c.args.addr c.in-Field.field) (waiting p c.args.body.now) (moment_of c.args.machine.now) (moment_of c.spend-in-Field.new.machine)
+    c.in-Ok-spend.ensures.act)) (omega (
+      arith,
+      ap (λ t. task_weight (Task.Located t)) c.in-Field.is,
+      spent_less (moment_of c.args.machine.now)
+          (moment_of c.spend-in-Field.new.machine) c.in-Ok-spend.ensures.act,
+    ))
 
-pub returns-in-Pointed-clause-turns : goal.returns-in-Pointed-clause-turns
-returns-in-Pointed-clause-turns c = turns_same c.args.program.now _ _ _ _ c.follow_pointer.result c.follow_pointer.new.body
-    (ap (λ t. resume c.args.program.now c.args.body.now.home (Task.Located t ∷ tasks_of c.args.body.now) (values_of c.args.body.now)
-    (lists_of c.args.body.now) (Address c.args.addr)) c.in-Pointed.is)
-    (c.follow_pointer.ensures.turns c.args.program.now)
+pub returns-in-Pointed-clause-moves : goal.returns-in-Pointed-clause-moves
+returns-in-Pointed-clause-moves c = moves_on (c.follow_pointer.ensures.moves c.args.program.now) (rw c.in-Pointed.is)
+    (omega (arith, ap (λ t. task_weight (Task.Located t)) c.in-Pointed.is))

@@ -1,18 +1,13 @@
 use Rattle.std.proofs.Common.{arith}
 use Rattle.core_program.specs.{Accesses.address, Cells.reference_out, Tree.doing}
 use Rattle.eval_ops.specs.Machines.{moment_of}
-use Rattle.evaluator.proofs.{StepsFall.falls_so, Turning.spent, Turning.spent_less, Turning.turns_after}
+use Rattle.evaluator.proofs.Turning.{moves_after, spent, spent_less}
 use Rattle.evaluator.proofs.accesses.reference.Goals as goal
 use Rattle.evaluator.specs.Rest.{here, waiting}
 
-pub returns-in-Ok-clause-turns : goal.returns-in-Ok-clause-turns
-returns-in-Ok-clause-turns c = turns_after c.args.program.now _ _ _ _ _ c.address.result c.address.new.self
-    (spent c.args.program.now (here c.args.body.now.home c.args.line) (doing c.args.line
-    (reference_out c.args.levels c.args.body.now.home.base c.args.place) address)
-    (waiting c.args.program.now c.args.body.now) (moment_of c.args.machine.now) (moment_of c.spend.new.machine) c.in-Ok.ensures.act)
-    (c.address.ensures.turns c.args.program.now (reference_out c.args.levels c.args.body.now.home.base c.args.place) _ _ c.reference_out.ensures.action)
-
-pub returns-in-Ok-clause-falls : goal.returns-in-Ok-clause-falls
-returns-in-Ok-clause-falls c = falls_so c.address.result _ _ _ _
-    (λ k. let l = spent_less (moment_of c.args.machine.now) (moment_of c.spend.new.machine) c.in-Ok.ensures.act in omega arith)
-    (c.address.ensures.less (reference_out c.args.levels c.args.body.now.home.base c.args.place) _ _ c.reference_out.ensures.action)
+pub returns-in-Ok-clause-moves : goal.returns-in-Ok-clause-moves
+returns-in-Ok-clause-moves c =
+    moves_after (c.address.ensures.moves c.args.program.now (reference_out c.args.levels c.args.body.now.home.base c.args.place) _ _
+    c.reference_out.ensures.action) (spent c.args.program.now (here c.args.body.now.home c.args.line) (doing c.args.line (reference_out c.args.levels
+    c.args.body.now.home.base c.args.place) address) (waiting c.args.program.now c.args.body.now) (moment_of c.args.machine.now) (moment_of c.spend.new.machine)
+    c.in-Ok.ensures.act) (omega (arith, spent_less (moment_of c.args.machine.now) (moment_of c.spend.new.machine) c.in-Ok.ensures.act))

@@ -1,33 +1,24 @@
 use Rattle.std.proofs.Common.{◌++◌, ◌∷◌, [], ℕ, arith}
 use Rattle.cell_value.specs.declared.values.Value.{Value}
-use Rattle.evaluator.proofs.StepsFall.{falls_so, steps_fall}
-use Rattle.evaluator.proofs.Turning.{did, fails, falls_failed, turns_after, turns_failed}
+use Rattle.core_program.specs.Acts.{Spend}
+use Rattle.evaluator.proofs.{StepsFall.first_falls, Turning.after_failed, Turning.did, Turning.moves_after_by}
 use Rattle.evaluator.proofs.actuals.add_routine.Goals as goal
-use Rattle.evaluator.specs.Rest.{below_top, lists_of, pass, resume, tasks_of, top_list, values_of}
+use Rattle.evaluator.specs.Rest.{lists_of, paid, pass, top_list, under_list}
 
-pub returns-in-Ok-clause-turns : goal.returns-in-Ok-clause-turns
-returns-in-Ok-clause-turns c a m m' h =
-    let p = c.args.program.now in
-    let b = c.args.body.now in
-    let K = resume p b.home (tasks_of b) (values_of b) (below_top (lists_of b)) in
-    turns_after p _ _ m m' m' c.add_cell.result c.add_cell.new.body
-    (did {X = ℕ × ℕ} p c.args.line a (λ x. pass b.home c.args.next c.args.line (top_list (lists_of b) ++ Value.Routine x.0 x.1 ∷ [])) K (λ x. x)
-    (c.in-Ok.routine, c.in-Ok.frame) m m' (rw c.in-Ok.is at h))
-    (c.add_cell.ensures.turns m')
+pub returns-in-Ok : goal.returns-in-Ok
+returns-in-Ok c = record {
+  moves = λ a m m' h. let b = c.args.body.now in let d = rw c.in-Ok.is at h in
+      let l = first_falls {X = ℕ × ℕ} (λ x. x) (Spend 1) (λ _. a) (c.in-Ok.routine, c.in-Ok.frame) m m' d in
+      moves_after_by c.add_cell.ensures.turns c.add_cell.ensures.falls c.add_cell.ensures.home
+      (did {X = ℕ × ℕ} c.args.program.now c.args.line (paid a) (λ x. pass b.home c.args.next c.args.line (top_list (lists_of b) ++ Value.Routine x.0 x.1 ∷ []))
+      (under_list c.args.program.now b) (λ x. x) (c.in-Ok.routine, c.in-Ok.frame) m m' d) (omega (arith, l));
+}
 
-pub returns-in-Ok-clause-less : goal.returns-in-Ok-clause-less
-returns-in-Ok-clause-less c a m m' h =
-    let l = steps_fall {X = ℕ × ℕ} (λ x. x) a (c.in-Ok.routine, c.in-Ok.frame) m m' (rw c.in-Ok.is at h) in
-    falls_so c.add_cell.result _ _ _ _ (λ k. omega (arith, k, l)) c.add_cell.ensures.falls
-
-pub returns-in-Err-clause-turns : goal.returns-in-Err-clause-turns
-returns-in-Err-clause-turns c a m m' h =
-    let p = c.args.program.now in
-    let b = c.args.body.now in
-    let K = resume p b.home (tasks_of b) (values_of b) (below_top (lists_of b)) in
-    turns_failed p _ m m' c.args.line c.in-Err.halt c.fail.new.self c.fail.result c.fail.ensures.line c.fail.ensures.fails
-    (fails {X = ℕ × ℕ} p c.args.line a (λ x. pass b.home c.args.next c.args.line (top_list (lists_of b) ++ Value.Routine x.0 x.1 ∷ [])) K (λ x. x)
-    c.in-Err.halt m m' (rw c.in-Err.is at h))
-
-pub returns-in-Err-clause-less : goal.returns-in-Err-clause-less
-returns-in-Err-clause-less c a m m' h = falls_failed c.fail.result c.in-Err.halt _ _ c.fail.ensures.fails
+pub returns-in-Err : goal.returns-in-Err
+returns-in-Err c = record {
+  moves = λ a m m' h. let b = c.args.body.now in
+      after_failed {X = ℕ × ℕ} c.args.program.now b c.args.line (paid a)
+      (λ x. pass b.home c.args.next c.args.line (top_list (lists_of b) ++ Value.Routine x.0 x.1 ∷ [])) (under_list c.args.program.now b) 0 (λ x. x)
+      c.in-Err.halt
+      m m' (rw c.in-Err.is at h) c.fail.ensures.line c.fail.ensures.fails c.fail.ensures.home;
+}

@@ -1,13 +1,13 @@
-use Rattle.std.proofs.Common.{◌∙◌, ◌≡◌, ap, sym}
+use Rattle.std.proofs.Common.{◌∙◌, ◌≡◌, ap, arith, sym}
 use Rattle.core_program.specs.{Accesses.with_formal, Cells.routine_out, Expressions.enter, ProgramRows.row_at, Tree.bind, Tree.doing}
 use Rattle.core_program.specs.declared.rows.{NameRow.NameRow, Row.Row}
 use Rattle.eval_ops.specs.Machines.{moment_of}
-use Rattle.evaluator.proofs.Turning.{turns_same}
+use Rattle.evaluator.proofs.Turning.{moves_on}
 use Rattle.evaluator.proofs.calls.call_formal.Goals as goal
 use Rattle.evaluator.specs.Rest.{after_call, below_top, lists_of, resume, tasks_of, top_list, values_of}
 
-pub returns-in-Name-RoutineFormal-clause-turns : goal.returns-in-Name-RoutineFormal-clause-turns
-returns-in-Name-RoutineFormal-clause-turns c =
+pub returns-in-Name-RoutineFormal-clause-moves : goal.returns-in-Name-RoutineFormal-clause-moves
+returns-in-Name-RoutineFormal-clause-moves c =
     let p = c.args.program.now in
     let a = c.args.body.now in
     let K = resume p a.home (tasks_of a) (values_of a) (below_top (lists_of a)) in
@@ -15,14 +15,7 @@ returns-in-Name-RoutineFormal-clause-turns c =
     let n = c.in-Name-RoutineFormal in
     let e : row_at p c.args.formal ≡ Row.Name (NameRow.RoutineFormal n.place n.field-0-1 n.heading) =
     sym c.row.ensures ∙ n.is ∙ ap Row.Name n.field-0-is in
-    turns_same p _ _ (moment_of c.args.machine.now) _ c.enter_found.result c.enter_found.new.body
-    (ap (λ r. bind (with_formal r (λ place heading. doing c.args.line (routine_out p heading c.args.levels a.home.base place)
-    (λ x. enter p x.0 x.1 args (after_call c.args.procedure)))) K) e)
-    (c.enter_found.ensures.turns (routine_out p n.heading c.args.levels a.home.base n.place) (moment_of c.args.machine.now)
-    c.routine_out-found.ensures.action)
-
-pub returns-in-Name-RoutineFormal-clause-falls : goal.returns-in-Name-RoutineFormal-clause-falls
-returns-in-Name-RoutineFormal-clause-falls c = c.enter_found.ensures.falls _ _
-
-pub returns-in_default-clause-turns : goal.returns-in_default-clause-turns
-returns-in_default-clause-turns c = rw c.no_row.ensures.fails tt
+    moves_on (c.enter_found.ensures.moves (routine_out p n.heading c.args.levels a.home.base n.place) (moment_of c.args.machine.now)
+    c.routine_out-found.ensures.action) (ap (λ r. bind (with_formal r
+    (λ place heading. doing c.args.line (routine_out p heading c.args.levels a.home.base place) (λ x. enter p x.0 x.1 args (after_call c.args.procedure))))
+    K) e) (omega arith)

@@ -1,16 +1,10 @@
 use Rattle.std.proofs.Common.{arith}
-use Rattle.eval_ops.specs.Machines.{moment_of}
-use Rattle.evaluator.proofs.StepsFall.{falls_so}
+use Rattle.evaluator.proofs.Turning.{moves_by, moves_on}
 use Rattle.evaluator.proofs.heap.heap_statement.Goals as goal
 
-pub returns-in-New-clause-turns : goal.returns-in-New-clause-turns
-returns-in-New-clause-turns c row = rw c.in-New.is c.make.ensures.turns
+pub returns-in-New-clause-moves : goal.returns-in-New-clause-moves
+returns-in-New-clause-moves c row = moves_on c.make.ensures.moves (rw c.in-New.is) (omega arith)
 
-pub returns-in-New-clause-falls : goal.returns-in-New-clause-falls
-returns-in-New-clause-falls c = falls_so c.make.result _ _ _ _ (λ h. omega (arith, h)) c.make.ensures.falls
-
-pub returns-in-Dispose-clause-turns : goal.returns-in-Dispose-clause-turns
-returns-in-Dispose-clause-turns c row = rw c.in-Dispose.is (c.wait.ensures.turns c.args.program.now (moment_of c.args.machine.now))
-
-pub returns-in-Dispose-clause-falls : goal.returns-in-Dispose-clause-falls
-returns-in-Dispose-clause-falls c = falls_so c.wait.result _ _ _ _ (λ h. omega (arith, h)) c.wait.ensures.falls
+pub returns-in-Dispose-clause-moves : goal.returns-in-Dispose-clause-moves
+returns-in-Dispose-clause-moves c row =
+    moves_by (c.wait.ensures.turns c.args.program.now) c.wait.ensures.falls c.wait.ensures.home (rw c.in-Dispose.is) (omega arith)

@@ -1,31 +1,9 @@
-use Rattle.std.proofs.Common.{ap, arith}
+use Rattle.std.proofs.Common.{◌∙◌, ap, sym}
 use Rattle.core_program.specs.Tree.{bind}
-use Rattle.evaluator.proofs.{StepsFall.falls_so, Turning.turns_same}
 use Rattle.evaluator.proofs.packing.pack_by_index.Goals as goal
-use Rattle.evaluator.specs.Rest.{both_located, here, waiting}
+use Rattle.evaluator.specs.Rest.{both_located, waiting}
 
-pub returns-then-packing-clause-turns : goal.returns-then-packing-clause-turns
-returns-then-packing-clause-turns c p m =
+pub returns-clause-turns : goal.returns-clause-turns
+returns-clause-turns c p m u same =
     let a = c.args.body.now in
-    let h = here a.home c.args.line in
-    let K = waiting p a in
-    let e = c.if-packing.true in
-    turns_same p _ _ m m c.wait.result c.wait.new.self
-    (ap (λ b. bind (both_located p a.home b c.args.unpacked c.args.index c.args.packed c.args.first c.args.line c.args.addr) K) e)
-    (c.wait.ensures.turns p m)
-
-pub returns-then-packing-clause-falls : goal.returns-then-packing-clause-falls
-returns-then-packing-clause-falls c = falls_so c.wait.result _ _ _ _ (λ h. omega (arith, h)) c.wait.ensures.falls
-
-pub returns-else-packing-clause-turns : goal.returns-else-packing-clause-turns
-returns-else-packing-clause-turns c p m =
-    let a = c.args.body.now in
-    let h = here a.home c.args.line in
-    let K = waiting p a in
-    let e = c.if-packing.false in
-    turns_same p _ _ m m c.wait-else-packing.result c.wait-else-packing.new.self
-    (ap (λ b. bind (both_located p a.home b c.args.unpacked c.args.index c.args.packed c.args.first c.args.line c.args.addr) K) e)
-    (c.wait-else-packing.ensures.turns p m)
-
-pub returns-else-packing-clause-falls : goal.returns-else-packing-clause-falls
-returns-else-packing-clause-falls c = falls_so c.wait-else-packing.result _ _ _ _ (λ h. omega (arith, h)) c.wait-else-packing.ensures.falls
+    c.wait.ensures.turns p m u (same ∙ ap (λ x. bind (both_located p a.home c.args.packing c.args.rows.index x) (waiting p a)) (sym c.places_of-found.ensures))

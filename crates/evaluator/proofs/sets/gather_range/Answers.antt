@@ -1,12 +1,10 @@
-use Rattle.std.proofs.Common.{◌∙◌, ◌≡◌, ap, arith, reverse, sum_by, sym}
+use Rattle.std.proofs.Common.{◌∙◌, ◌≡◌, ap, reverse, sym}
 use Rattle.core_program.specs.{Expressions.gather, Tree.bind, Values.members_added}
-use Rattle.evaluator.proofs.{StepsFall.falls_so, Turning.turns_same}
 use Rattle.evaluator.proofs.sets.gather_range.Goals as goal
 use Rattle.evaluator.specs.Rest.{below_top, here, lists_of, resume, tasks_of, top, values_of, waiting}
-use Rattle.evaluator.specs.Weight.{task_weight}
 
 pub returns-clause-turns : goal.returns-clause-turns
-returns-clause-turns c p m =
+returns-clause-turns c p m u same =
     let a = c.args.body.now in
     let n = c.args.next in
     let v = c.args.value in
@@ -14,17 +12,8 @@ returns-clause-turns c p m =
     let K = resume p a.home (tasks_of a) (below_top (below_top (values_of a))) (lists_of a) in
     let f = c.take_value-first.ensures in
     let s = c.take_value-set.ensures in
-    let rest : waiting p c.take_value-set.new.self ≡ K =
-    s.waits p ∙ (λ i. resume p (f.home i) (reverse (f.tasks i)) (below_top (f.values i)) (reverse (f.lists i))) in
-    turns_same p _ _ m m c.gathered.result c.gathered.new.body
-    (ap (λ x. bind (gather h n (members_added (top (below_top (values_of a))) x v)) K) (sym f.result)
-    ∙ ap (λ x. bind (gather h n (members_added x c.take_value-first.result v)) K) (ap top (sym f.values) ∙ sym s.result)
-    ∙ ap (λ r. bind (gather h n r) K) (sym c.add_members.ensures)
-    ∙ sym (λ i. bind (gather (here ((s.home ∙ f.home) i) c.args.line) n c.add_members.result) (rest i)))
-    (c.gathered.ensures.turns p m)
-
-pub returns-clause-falls : goal.returns-clause-falls
-returns-clause-falls c =
-    let e = ap (sum_by task_weight) c.take_value-first.ensures.tasks in
-    let k = ap (sum_by task_weight) c.take_value-set.ensures.tasks in
-    falls_so c.gathered.result _ _ _ _ (λ h. omega (arith, h, e, k)) c.gathered.ensures.falls
+    let rest : waiting p c.take_value-set.new.self ≡ K = s.waits p ∙ (λ i. resume p (f.home i) (reverse (f.tasks i)) (below_top (f.values i)) (reverse (f.lists
+    i))) in
+    c.gathered.ensures.turns p m u (same ∙ ap (λ x. bind (gather h n (members_added (top (below_top (values_of a))) x v)) K) (sym f.result) ∙ ap (λ x. bind
+    (gather h n (members_added x c.take_value-first.result v)) K) (ap top (sym f.values) ∙ sym s.result) ∙ ap (λ r. bind (gather h n r) K) (sym
+    c.add_members.ensures) ∙ sym (λ i. bind (gather (here ((s.home ∙ f.home) i) c.args.line) n c.add_members.result) (rest i)))

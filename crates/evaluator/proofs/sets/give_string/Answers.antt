@@ -2,7 +2,6 @@ use Rattle.std.proofs.Common.{◌==◌, ◌∙◌, ◌≡◌, [], ℕ, List, Non
 use Rattle.std.specs.Prelude.{unwrap_or}
 use Rattle.core_program.specs.{Expressions.string_in, Tree.Cells, Tree.Ret, Tree.bind}
 use Rattle.core_program.specs.Values as values
-use Rattle.evaluator.proofs.Turning.{turns_same}
 use Rattle.evaluator.proofs.sets.give_string.Goals as goal
 use Rattle.evaluator.specs.Rest.{waiting}
 
@@ -13,15 +12,6 @@ text_there (Some t) text e h = ap (λ l. Ret (Cells (values.string_of l))) (sym 
 text_there None text e h = absurd (let q : ⊥ = cc in q)
 
 pub returns-clause-turns : goal.returns-clause-turns
-returns-clause-turns c p m =
-    turns_same p _ _ m m c.give_cells.result c.give_cells.new.self
-    (ap (λ t. bind t (waiting p c.args.body.now)) (text_there (slice_get c.args.program.now.texts c.args.token) _ c.text-text.ensures
-    (sym c.is_empty.ensures ∙ c.if-is_empty.false))
-    ∙ ap (λ l. waiting p c.args.body.now (Cells l)) (sym c.in_ok-cells.ensures))
-    (c.give_cells.ensures.turns p m)
-
-pub returns-then-is_empty-clause-turns : goal.returns-then-is_empty-clause-turns
-returns-then-is_empty-clause-turns c p m = rw c.no_row.ensures.fails tt
-
-pub returns-then-is_empty-clause-falls : goal.returns-then-is_empty-clause-falls
-returns-then-is_empty-clause-falls c = rw c.no_row.ensures.fails tt
+returns-clause-turns c p m u same =
+    c.give_cells.ensures.turns p m u (same ∙ ap (λ t. bind t (waiting p c.args.body.now)) (text_there (slice_get c.args.program.now.texts c.args.token) _
+    c.text-text.ensures (sym c.is_empty.ensures ∙ c.if-is_empty.false)) ∙ ap (λ l. waiting p c.args.body.now (Cells l)) (sym c.in_ok-cells.ensures))

@@ -1,4 +1,4 @@
-use Rattle.std.proofs.Common.{[], arith}
+use Rattle.std.proofs.Common.{[], arith, refl}
 use Rattle.core_program.specs.Statements as meaning
 use Rattle.eval_ops.specs.Machines.{moment_of}
 use Rattle.evaluator.proofs.StepsFall.{falls_so}
@@ -10,7 +10,7 @@ pub returns-in-Ok-clause-turns : goal.returns-in-Ok-clause-turns
 returns-in-Ok-clause-turns c p =
     turns_after p _ _ (moment_of c.args.machine.now) (moment_of c.spend.new.machine) _ c.go.result c.go.new.self
     (spent p (record { line = c.args.line; base = 0; records = [] }) meaning.nothing (λ _. from p c.args.body.now c.args.now) _ _ c.in-Ok.ensures.act)
-    (c.go.ensures.turns p (moment_of c.spend.new.machine))
+    (c.go.ensures.turns p (moment_of c.spend.new.machine) _ refl)
 
 pub returns-in-Ok-clause-falls : goal.returns-in-Ok-clause-falls
 returns-in-Ok-clause-falls c =
@@ -23,7 +23,3 @@ returns-in-Err-clause-turns c p =
     c.fail.ensures.line c.fail.ensures.fails
     (not_spent p (record { line = c.args.line; base = 0; records = [] }) meaning.nothing (λ _. from p c.args.body.now c.args.now) c.in-Err.halt _ _
     c.in-Err.ensures.act)
-
-pub returns-in-Err-clause-falls : goal.returns-in-Err-clause-falls
-returns-in-Err-clause-falls c =
-    rw c.fail.ensures.fails tt

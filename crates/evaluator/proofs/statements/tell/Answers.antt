@@ -11,6 +11,3 @@ returns-in-Err-clause-turns c p =
     turns_failed p _ (moment_of c.args.machine.now) (moment_of c.spend.new.machine) c.args.line c.in-Err.halt c.fail.new.self c.fail.result
     c.fail.ensures.line c.fail.ensures.fails
     (line_fails p c.args.line (from p c.args.body.now (Carry c.args.row)) c.in-Err.halt _ _ c.in-Err.ensures.act)
-
-pub returns-in-Err-clause-falls : goal.returns-in-Err-clause-falls
-returns-in-Err-clause-falls c = rw c.fail.ensures.fails tt

@@ -1,33 +1,16 @@
-use Rattle.std.proofs.Common.{◌∙◌, ap, arith, sym}
-use Rattle.core_program.specs.{Accesses.locate, Packing.pack, Statements.finally, Tree.bind}
-use Rattle.evaluator.proofs.{StepsFall.falls_so, Turning.turns_same}
+use Rattle.std.proofs.Common.{if◌then◌else◌, ◌∙◌, ◌≡◌, Bool, ap, false, refl, sym, true}
+use Rattle.core_program.specs.{Accesses.locate, Packing.pack, ProgramRows.ProgramRows, Statements.finally, Tree.bind}
 use Rattle.evaluator.proofs.transfers.begin_pack.Goals as goal
-use Rattle.evaluator.specs.Rest.{first_located, here, waiting}
+use Rattle.evaluator.specs.{Rest.first_located, Rest.here, Rest.waiting, declared.tasks.ArrayRows.ArrayRows, declared.tasks.Home.Home}
 
-pub returns-then-packing-clause-turns : goal.returns-then-packing-clause-turns
-returns-then-packing-clause-turns c p m =
+pack_begins : (p : ProgramRows) (home : Home) (packing : Bool) (rows : ArrayRows)
+    → pack p (here home rows.line) packing rows.unpacked rows.index rows.packed (finally (here home rows.line))
+    ≡ locate (if packing then rows.unpacked else rows.packed) (here home rows.line) (first_located p home packing rows)
+pack_begins p home true rows = refl
+pack_begins p home false rows = refl
+
+pub returns-clause-turns : goal.returns-clause-turns
+returns-clause-turns c p m u same =
     let a = c.args.body.now in
-    let h = here a.home c.args.line in
-    let K = waiting p a in
-    let e = c.if-packing.true in
-    turns_same p _ _ m m c.wait.result c.wait.new.self
-    (ap (λ b. bind (pack p h b c.args.unpacked c.args.index c.args.packed (finally h)) K) e
-    ∙ ap (λ b. bind (locate c.args.unpacked h (first_located p a.home b c.args.unpacked c.args.index c.args.packed c.args.line)) K) (sym e))
-    (c.wait.ensures.turns p m)
-
-pub returns-then-packing-clause-falls : goal.returns-then-packing-clause-falls
-returns-then-packing-clause-falls c = falls_so c.wait.result _ _ _ _ (λ h. omega (arith, h)) c.wait.ensures.falls
-
-pub returns-else-packing-clause-turns : goal.returns-else-packing-clause-turns
-returns-else-packing-clause-turns c p m =
-    let a = c.args.body.now in
-    let h = here a.home c.args.line in
-    let K = waiting p a in
-    let e = c.if-packing.false in
-    turns_same p _ _ m m c.wait-else-packing.result c.wait-else-packing.new.self
-    (ap (λ b. bind (pack p h b c.args.unpacked c.args.index c.args.packed (finally h)) K) e
-    ∙ ap (λ b. bind (locate c.args.packed h (first_located p a.home b c.args.unpacked c.args.index c.args.packed c.args.line)) K) (sym e))
-    (c.wait-else-packing.ensures.turns p m)
-
-pub returns-else-packing-clause-falls : goal.returns-else-packing-clause-falls
-returns-else-packing-clause-falls c = falls_so c.wait-else-packing.result _ _ _ _ (λ h. omega (arith, h)) c.wait-else-packing.ensures.falls
+    c.wait.ensures.turns p m u (same ∙ ap (λ t. bind t (waiting p a)) (pack_begins p a.home c.args.packing c.args.rows)
+    ∙ ap (λ r. bind (locate r (here a.home c.args.rows.line) (first_located p a.home c.args.packing c.args.rows)) (waiting p a)) (sym c.first_row.ensures))

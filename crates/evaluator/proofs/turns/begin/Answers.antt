@@ -1,40 +1,38 @@
-use Rattle.std.proofs.Common.{ap}
-use Rattle.evaluator.proofs.Turning.{turns_same}
+use Rattle.std.proofs.Common.{ap, arith}
+use Rattle.evaluator.proofs.Turning.{moves_by, moves_on}
 use Rattle.evaluator.proofs.turns.begin.Goals as goal
-use Rattle.evaluator.specs.{Rest.from, declared.tasks.Now.TheVariants.Begin}
+use Rattle.evaluator.specs.Weight.{part_weight}
 
-pub returns-in-Pass-clause-turns : goal.returns-in-Pass-clause-turns
-returns-in-Pass-clause-turns c = turns_same c.args.program.now _ _ _ _ c.pass_actuals.result c.pass_actuals.new.body
-    (ap (λ q. from c.args.program.now c.args.body.now (Begin q)) c.in-Pass.is) c.pass_actuals.ensures.turns
+pub returns-in-Pass-clause-moves : goal.returns-in-Pass-clause-moves
+returns-in-Pass-clause-moves c = moves_on c.pass_actuals.ensures.moves (rw c.in-Pass.is) (omega (arith, ap part_weight c.in-Pass.is))
 
-pub returns-in-Sequence-clause-turns : goal.returns-in-Sequence-clause-turns
-returns-in-Sequence-clause-turns c = turns_same c.args.program.now _ _ _ _ c.sequence.result c.sequence.new.body
-    (ap (λ q. from c.args.program.now c.args.body.now (Begin q)) c.in-Sequence.is) (c.sequence.ensures.turns _)
+pub returns-in-Sequence-clause-moves : goal.returns-in-Sequence-clause-moves
+returns-in-Sequence-clause-moves c = moves_by c.sequence.ensures.turns c.sequence.ensures.falls c.sequence.ensures.home (rw c.in-Sequence.is)
+    (omega (arith, ap part_weight c.in-Sequence.is))
 
-pub returns-in-Turn-clause-turns : goal.returns-in-Turn-clause-turns
-returns-in-Turn-clause-turns c = turns_same c.args.program.now _ _ _ _ c.turn_again.result c.turn_again.new.body
-    (ap (λ q. from c.args.program.now c.args.body.now (Begin q)) c.in-Turn.is) (c.turn_again.ensures.turns _)
+pub returns-in-Turn-clause-moves : goal.returns-in-Turn-clause-moves
+returns-in-Turn-clause-moves c = moves_by c.turn_again.ensures.turns c.turn_again.ensures.falls c.turn_again.ensures.home (rw c.in-Turn.is)
+    (omega (arith, ap part_weight c.in-Turn.is))
 
-pub returns-in-Gather-clause-turns : goal.returns-in-Gather-clause-turns
-returns-in-Gather-clause-turns c = turns_same c.args.program.now _ _ _ _ c.gather.result c.gather.new.body
-    (ap (λ q. from c.args.program.now c.args.body.now (Begin q)) c.in-Gather.is) (c.gather.ensures.turns _)
+pub returns-in-Gather-clause-moves : goal.returns-in-Gather-clause-moves
+returns-in-Gather-clause-moves c = moves_by c.gather.ensures.turns c.gather.ensures.falls c.gather.ensures.home (rw c.in-Gather.is)
+    (omega (arith, ap part_weight c.in-Gather.is))
 
-pub returns-in-Establish-clause-turns : goal.returns-in-Establish-clause-turns
-returns-in-Establish-clause-turns c = turns_same c.args.program.now _ _ _ _ c.begin_record.result c.begin_record.new.body
-    (ap (λ q. from c.args.program.now c.args.body.now (Begin q)) c.in-Establish.is) (c.begin_record.ensures.turns _)
+pub returns-in-Establish-clause-moves : goal.returns-in-Establish-clause-moves
+returns-in-Establish-clause-moves c =
+    moves_by c.begin_record.ensures.turns c.begin_record.ensures.falls c.begin_record.ensures.home (rw c.in-Establish.is)
+    (omega (arith, ap part_weight c.in-Establish.is))
 
-pub returns-in-Receive-clause-turns : goal.returns-in-Receive-clause-turns
-returns-in-Receive-clause-turns c = turns_same c.args.program.now _ _ _ _ c.receive.result c.receive.new.body
-    (ap (λ q. from c.args.program.now c.args.body.now (Begin q)) c.in-Receive.is) c.receive.ensures.turns
+pub returns-in-Receive-clause-moves : goal.returns-in-Receive-clause-moves
+returns-in-Receive-clause-moves c = moves_on c.receive.ensures.moves (rw c.in-Receive.is) (omega (arith, ap part_weight c.in-Receive.is))
 
-pub returns-in-Scanning-clause-turns : goal.returns-in-Scanning-clause-turns
-returns-in-Scanning-clause-turns c = turns_same c.args.program.now _ _ _ _ c.scan.result c.scan.new.body
-    (ap (λ q. from c.args.program.now c.args.body.now (Begin q)) c.in-Scanning.is) (c.scan.ensures.turns c.args.program.now)
+pub returns-in-Scanning-clause-moves : goal.returns-in-Scanning-clause-moves
+returns-in-Scanning-clause-moves c = moves_on (c.scan.ensures.moves c.args.program.now) (rw c.in-Scanning.is) (omega (arith, ap part_weight c.in-Scanning.is))
 
-pub returns-in-RestOfLine-clause-turns : goal.returns-in-RestOfLine-clause-turns
-returns-in-RestOfLine-clause-turns c = turns_same c.args.program.now _ _ _ _ c.pass_line.result c.pass_line.new.body
-    (ap (λ q. from c.args.program.now c.args.body.now (Begin q)) c.in-RestOfLine.is) (c.pass_line.ensures.turns c.args.program.now)
+pub returns-in-RestOfLine-clause-moves : goal.returns-in-RestOfLine-clause-moves
+returns-in-RestOfLine-clause-moves c = moves_on (c.pass_line.ensures.moves c.args.program.now) (rw c.in-RestOfLine.is)
+    (omega (arith, ap part_weight c.in-RestOfLine.is))
 
-pub returns-in-Print-clause-turns : goal.returns-in-Print-clause-turns
-returns-in-Print-clause-turns c = turns_same c.args.program.now _ _ _ _ c.print.result c.print.new.body
-    (ap (λ q. from c.args.program.now c.args.body.now (Begin q)) c.in-Print.is) (c.print.ensures.turns _)
+pub returns-in-Print-clause-moves : goal.returns-in-Print-clause-moves
+returns-in-Print-clause-moves c = moves_by c.print.ensures.turns c.print.ensures.falls c.print.ensures.home (rw c.in-Print.is)
+    (omega (arith, ap part_weight c.in-Print.is))

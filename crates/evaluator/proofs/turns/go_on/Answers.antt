@@ -9,34 +9,34 @@ turns-init c = record { came = comes_same refl; frame = record { routine = refl;
 
 pub turns-preserved : goal.turns-preserved
 turns-preserved c = record {
-  came = comes_then c.turns.invariant.came (rw c.in-Ok-None.field-0-is at c.in-Ok-None.ensures.turns);
+  came = comes_then c.turns.invariant.came (rw c.in-Ok-None.field-0-is at c.in-Ok-None.ensures.moves.turns);
   frame = record {
-    routine = c.in-Ok-None.ensures.frame.routine ∙ c.turns.invariant.frame.routine;
-    base = c.in-Ok-None.ensures.frame.base ∙ c.turns.invariant.frame.base;
+    routine = c.in-Ok-None.ensures.moves.frame.routine ∙ c.turns.invariant.frame.routine;
+    base = c.in-Ok-None.ensures.moves.frame.base ∙ c.turns.invariant.frame.base;
   };
   ready = c.in-Ok-None.ensures.ready;
 }
 
 pub turns-smaller : goal.turns-smaller
-turns-smaller c = rw c.in-Ok-None.field-0-is at c.in-Ok-None.ensures.falls
+turns-smaller c = (rw c.in-Ok-None.field-0-is at c.in-Ok-None.ensures.moves.falls) refl
 
 pub returns-in-Ok-Some-clause-stops : goal.returns-in-Ok-Some-clause-stops
 returns-in-Ok-Some-clause-stops c =
     let p = c.args.program.now in
     subst (λ s. NextStopIs p (rest_of p c.args.body.now) (moment_of c.args.machine.now) s (moment_of c.turn.new.machine)) (sym (c.stop_at.ensures.stop p))
-    (stops_then c.turns.invariant.came (rw c.in-Ok-Some.field-0-is at c.in-Ok-Some.ensures.turns).0)
+    (stops_then c.turns.invariant.came (rw c.in-Ok-Some.field-0-is at c.in-Ok-Some.ensures.moves.turns).0)
 
 pub returns-in-Ok-Some-clause-room : goal.returns-in-Ok-Some-clause-room
 returns-in-Ok-Some-clause-room c =
-    c.stop_at.ensures.room c.args.program.now (machine_state c.turn.new.machine) (rw c.in-Ok-Some.field-0-is at c.in-Ok-Some.ensures.turns).1
+    c.stop_at.ensures.room c.args.program.now (machine_state c.turn.new.machine) (rw c.in-Ok-Some.field-0-is at c.in-Ok-Some.ensures.moves.turns).1
 
 pub returns-in-Err-Fault-clause-stops : goal.returns-in-Err-Fault-clause-stops
 returns-in-Err-Fault-clause-stops c = rw c.in-Err-Fault.field-0-is (stops_then c.turns.invariant.came
-    (rw c.in-Err-Fault.field-0-is at c.in-Err-Fault.ensures.turns))
+    (rw c.in-Err-Fault.field-0-is at c.in-Err-Fault.ensures.moves.turns))
 
 pub returns-in-Err-OutOfSteps-clause-stops : goal.returns-in-Err-OutOfSteps-clause-stops
-returns-in-Err-OutOfSteps-clause-stops c = stops_then c.turns.invariant.came (rw c.in-Err-OutOfSteps.field-0-is at c.in-Err-OutOfSteps.ensures.turns)
+returns-in-Err-OutOfSteps-clause-stops c = stops_then c.turns.invariant.came (rw c.in-Err-OutOfSteps.field-0-is at c.in-Err-OutOfSteps.ensures.moves.turns)
 
 pub returns-in-Err-Limited-clause-stops : goal.returns-in-Err-Limited-clause-stops
 returns-in-Err-Limited-clause-stops c = rw c.in-Err-Limited.field-0-is (stops_then c.turns.invariant.came
-    (rw c.in-Err-Limited.field-0-is at c.in-Err-Limited.ensures.turns))
+    (rw c.in-Err-Limited.field-0-is at c.in-Err-Limited.ensures.moves.turns))

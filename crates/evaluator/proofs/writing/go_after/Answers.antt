@@ -1,22 +1,16 @@
 use Rattle.std.proofs.Common.{arith}
-use Rattle.evaluator.proofs.StepsFall.{falls_so, steps_fall}
-use Rattle.evaluator.proofs.Turning.{did, fails, falls_failed, turns_after, turns_failed, turns_same}
+use Rattle.evaluator.proofs.Turning.{after_done, after_failed, moves_by}
 use Rattle.evaluator.proofs.writing.go_after.Goals as goal
 use Rattle.evaluator.specs.Rest.{waiting}
 
-pub returns-in-Ok-clause-turns : goal.returns-in-Ok-clause-turns
-returns-in-Ok-clause-turns c p a t m m' e h = turns_after p _ _ m m' m' c.go.result c.go.new.self
-    (did {X = Unit {0}} p c.args.line a (λ _. t) (waiting p c.args.body.now) (λ _. tt) c.in-Ok.field-0 m m' (rw c.in-Ok.is at h))
-    (turns_same p _ _ m' m' c.go.result c.go.new.self e (c.go.ensures.turns p m'))
+pub returns-in-Ok : goal.returns-in-Ok
+returns-in-Ok c = record {
+  moves = λ p a t m m' e h. after_done {X = Unit {0}} p c.args.body.now c.args.line a (λ _. t) (waiting p c.args.body.now) _ (λ _. tt) c.in-Ok.field-0 m m'
+      (rw c.in-Ok.is at h) (moves_by (c.go.ensures.turns p) c.go.ensures.falls c.go.ensures.home e (omega arith));
+}
 
-pub returns-in-Ok-clause-less : goal.returns-in-Ok-clause-less
-returns-in-Ok-clause-less c a m m' h = falls_so c.go.result _ _ _ _
-    (λ k. let l = steps_fall {X = Unit {0}} (λ _. tt) a c.in-Ok.field-0 m m' (rw c.in-Ok.is at h) in omega arith) c.go.ensures.falls
-
-pub returns-in-Err-clause-turns : goal.returns-in-Err-clause-turns
-returns-in-Err-clause-turns c p a t m m' e h = turns_failed p _ m m' c.args.line c.in-Err.halt c.fail.new.self c.fail.result c.fail.ensures.line
-    c.fail.ensures.fails
-    (fails {X = Unit {0}} p c.args.line a (λ _. t) (waiting p c.args.body.now) (λ _. tt) c.in-Err.halt m m' (rw c.in-Err.is at h))
-
-pub returns-in-Err-clause-less : goal.returns-in-Err-clause-less
-returns-in-Err-clause-less c a m m' h = falls_failed c.fail.result c.in-Err.halt _ _ c.fail.ensures.fails
+pub returns-in-Err : goal.returns-in-Err
+returns-in-Err c = record {
+  moves = λ p a t m m' e h. after_failed {X = Unit {0}} p c.args.body.now c.args.line a (λ _. t) (waiting p c.args.body.now) _ (λ _. tt) c.in-Err.halt m m'
+      (rw c.in-Err.is at h) c.fail.ensures.line c.fail.ensures.fails c.fail.ensures.home;
+}

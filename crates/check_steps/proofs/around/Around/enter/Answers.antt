@@ -1,4 +1,4 @@
-use Rattle.std.proofs.Common.{arith, rules, sym}
+use Rattle.std.proofs.Common.{rules}
 use Rattle.check_steps.proofs.Books.{kept-entered}
 use Rattle.check_steps.proofs.around.Around.enter.Goals as goal
 

@@ -1,4 +1,4 @@
-use Rattle.std.proofs.Common.{◌∙◌, ◌≡◌, List, ap, is_some, subst, sym, true}
+use Rattle.std.proofs.Common.{◌∙◌, List, ap, is_some, sym}
 use Rattle.check_steps.proofs.Books.{kept-around}
 use Rattle.check_steps.proofs.around.Around.is_around.Goals as goal
 use Rattle.check_steps.specs.{Around.is_around, Around.kept_in, declared.regions.Frame.Frame}

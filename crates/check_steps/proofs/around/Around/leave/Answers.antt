@@ -1,4 +1,4 @@
-use Rattle.std.proofs.Common.{arith, rules, subst, sym}
+use Rattle.std.proofs.Common.{rules, subst}
 use Rattle.check_steps.proofs.Books.{kept-left}
 use Rattle.check_steps.proofs.around.Around.leave.Goals as goal
 use Rattle.check_steps.specs.Around.{IsKept}

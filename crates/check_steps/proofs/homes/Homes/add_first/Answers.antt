@@ -1,4 +1,4 @@
-use Rattle.std.proofs.Common.{◌∙◌, ◌≡◌, ap, false, sym}
+use Rattle.std.proofs.Common.{◌∙◌, ◌≡◌, ap, false}
 use Rattle.check_steps.proofs.HomeLists.{among-last, homes-set}
 use Rattle.check_steps.proofs.homes.Homes.add_first.Goals as goal
 use Rattle.check_steps.specs.{Around.is_among, Homes.homes_of, Homes.regions_of}

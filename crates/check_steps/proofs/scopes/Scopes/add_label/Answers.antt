@@ -1,5 +1,5 @@
 use Rattle.std.proofs.Common.{◌++◌, ◌<◌, ◌∙◌, ◌∷◌, [], ℕ, List, ap, arith, length, map, nat_eq, refl, sym}
-use Rattle.std.specs.{HashMap.IsUnchanged, Map.lookup}
+use Rattle.std.specs.Map.{lookup}
 use Rattle.check_steps.proofs.{HomeLists.changed-row, HomeLists.changed-same, HomeLists.homes-more, Maps.inserted_last, Maps.region_of, Maps.regions-changed}
 use Rattle.check_steps.proofs.scopes.Scopes.add_label.Goals as goal
 use Rattle.check_steps.specs.{Homes.rows_of, Regions.RegionRows, Regions.declared_in, declared.regions.Region.Region}

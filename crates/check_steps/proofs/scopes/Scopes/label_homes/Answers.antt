@@ -1,4 +1,4 @@
-use Rattle.std.proofs.Common.{◌∙◌, ℕ, List, ap, sym}
+use Rattle.std.proofs.Common.{◌∙◌, List, ap, sym}
 use Rattle.check_steps.proofs.scopes.Scopes.label_homes.Goals as goal
 use Rattle.check_steps.specs.{Around.is_among, Homes.AreHomes, Regions.RegionRows, Regions.declared_in}
 

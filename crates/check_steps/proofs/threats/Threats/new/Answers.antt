@@ -1,5 +1,4 @@
-use Rattle.std.proofs.Common.{◌∙◌, ℕ, ap, length, replicate, rules, sym}
-use Rattle.std.proofs.lemmas.List.{length-replicate}
+use Rattle.std.proofs.Common.{rules}
 use Rattle.check_steps.proofs.FirstThreat.{none_at_first}
 use Rattle.check_steps.proofs.threats.Threats.new.Goals as goal
 

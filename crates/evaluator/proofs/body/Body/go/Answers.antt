@@ -1,6 +1,5 @@
-use Rattle.std.proofs.Common.{refl}
 use Rattle.evaluator.proofs.Moves.{comes_same}
 use Rattle.evaluator.proofs.body.Body.go.Goals as goal
 
 pub returns-clause-turns : goal.returns-clause-turns
-returns-clause-turns c p m = comes_same refl
+returns-clause-turns c p m u e = comes_same e

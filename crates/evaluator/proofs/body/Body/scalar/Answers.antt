@@ -1,23 +1,16 @@
-use Rattle.std.proofs.Common.{arith}
+use Rattle.std.proofs.Common.{arith, refl}
 use Rattle.cell_value.specs.declared.values.Value.{Value}
 use Rattle.core_program.specs.Accesses.{scalar}
-use Rattle.evaluator.proofs.StepsFall.{falls_so, steps_fall}
-use Rattle.evaluator.proofs.Turning.{did, fails, falls_failed, turns_after, turns_failed}
+use Rattle.evaluator.proofs.Turning.{after_done, after_failed, moves_by}
 use Rattle.evaluator.proofs.body.Body.scalar.Goals as goal
 use Rattle.evaluator.specs.Rest.{waiting}
 
-pub returns-in-Ok-clause-turns : goal.returns-in-Ok-clause-turns
-returns-in-Ok-clause-turns c p a m m' h = turns_after p _ _ m m' m' c.go.result c.go.new.self
-    (did p c.args.line a (scalar) (waiting p c.args.self.now) (λ v. v) c.in-Ok.value m m' (rw c.in-Ok.is at h)) (c.go.ensures.turns p m')
+pub returns-in-Ok-clause-moves : goal.returns-in-Ok-clause-moves
+returns-in-Ok-clause-moves c p a m m' h =
+    after_done {X = Value} p c.args.self.now c.args.line a scalar (waiting p c.args.self.now) _ (λ v. v) c.in-Ok.value m m' (rw c.in-Ok.is at h)
+    (moves_by (c.go.ensures.turns p) c.go.ensures.falls c.go.ensures.home refl (omega arith))
 
-pub returns-in-Err-clause-turns : goal.returns-in-Err-clause-turns
-returns-in-Err-clause-turns c p a m m' h = turns_failed p _ m m' c.args.line c.in-Err.halt c.fail.new.self c.fail.result c.fail.ensures.line
-    c.fail.ensures.fails
-    (fails {X = Value} p c.args.line a (scalar) (waiting p c.args.self.now) (λ v. v) c.in-Err.halt m m' (rw c.in-Err.is at h))
-
-pub returns-in-Ok-clause-less : goal.returns-in-Ok-clause-less
-returns-in-Ok-clause-less c a m m' h = falls_so c.go.result _ _ _ _
-    (λ k. let l = steps_fall {X = Value} (λ v. v) a c.in-Ok.value m m' (rw c.in-Ok.is at h) in omega arith) c.go.ensures.falls
-
-pub returns-in-Err-clause-less : goal.returns-in-Err-clause-less
-returns-in-Err-clause-less c a m m' h = falls_failed c.fail.result c.in-Err.halt _ _ c.fail.ensures.fails
+pub returns-in-Err-clause-moves : goal.returns-in-Err-clause-moves
+returns-in-Err-clause-moves c p a m m' h =
+    after_failed {X = Value} p c.args.self.now c.args.line a scalar (waiting p c.args.self.now) _ (λ v. v) c.in-Err.halt m m' (rw c.in-Err.is at h)
+    c.fail.ensures.line c.fail.ensures.fails c.fail.ensures.home

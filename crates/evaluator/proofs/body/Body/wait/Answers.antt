@@ -1,8 +1,9 @@
-use Rattle.std.proofs.Common.{ap, sym}
+use Rattle.std.proofs.Common.{◌∙◌, ap, sym}
 use Rattle.evaluator.proofs.{Moves.comes_same, Turning.reverse_pushed}
 use Rattle.evaluator.proofs.body.Body.wait.Goals as goal
 use Rattle.evaluator.specs.Rest.{left_now, lists_of, values_of}
 
 pub returns-clause-turns : goal.returns-clause-turns
-returns-clause-turns c p m = comes_same (sym (ap (λ ts. left_now p c.args.self.now.home c.args.now ts (values_of c.args.self.now) (lists_of c.args.self.now))
+returns-clause-turns c p m u e = comes_same (e ∙ sym (ap (λ ts. left_now p c.args.self.now.home c.args.now ts (values_of c.args.self.now)
+    (lists_of c.args.self.now))
     (reverse_pushed c.args.self.now.tasks.items _ c.args.task c.in_ok-push.ensures.items)))

@@ -1,8 +1,0 @@
-use Rattle.std.proofs.Common.{◌≡◌, drop}
-use Rattle.check_steps.specs.Steps.{each, run_step}
-use Rattle.decl_checker.proofs.statements.use_more_constants.Given as goal
-use Rattle.decl_checker.specs.Statements.{next_constant}
-
-abbrev pub invariant-others : goal.invariant-others
-invariant-others l = run_step (each (next_constant l.frame) tt (drop l.other-index l.others)) l.work
-    ≡ run_step (each (next_constant l.frame) tt l.others) l.fn.work
