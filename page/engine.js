@@ -8,12 +8,17 @@ import { Workshop } from './workshop.js';
 export const RANK = { later: 0, ahead: 1, asked: 2, line: 3 };
 
 const AHEAD_FROM_MS = 60;
+// Whoever answers as soon as a question is there finds nothing else at work.
+const PAUSE_MS = 150;
 const MEGABYTE = 1024 * 1024;
-// Above this an instance is alone.
+// Above this one turn is computed ahead at a time.
 const LARGE = 500 * MEGABYTE;
-// A worker whose instance took more is ended after its turn, which gives the memory back at once. Of the others so many wait.
-const KEPT = 64 * MEGABYTE;
+// A worker keeps its instance, whose memory serves the next turn. So many wait, and hold no more than that together.
 const SPARES = 3;
+const HELD = 3 * LARGE;
+// Where another program runs, or nobody has asked for anything for a while, those that hold more are ended.
+const SMALL = 64 * MEGABYTE;
+const REST_MS = 60_000;
 
 // A browser compiles what it runs for the first time, and better what it runs often; either takes longer than a small run. So both
 // are brought about before anybody asks: first a few steps, and then a loop.
@@ -23,6 +28,8 @@ const warmUp = (source) => ({
 const FEW_STEPS = warmUp('program p(output); var x: integer; procedure q(n: integer); begin x := x + n end; begin x := 0; q(1); writeln(x) end.');
 const MANY_STEPS = warmUp(`program p(output); var i, s: integer; a: array [0..9] of integer; procedure q(n: integer); begin s := s + n end;
 begin s := 0; for i := 0 to 9 do a[i] := i; i := 0; while i < 200 do begin i := i + 1; s := (s + i) mod 1000; a[i mod 10] := s; q(a[3]) end; writeln(s) end.`);
+
+const holdsMuch = (worker) => worker.memory > SMALL;
 
 // What a turn of lines alone is known by.
 const keyOf = (turn) => (turn.asks.length === 0 && !turn.save ? turn.lines.join('\n') : null);
@@ -43,14 +50,26 @@ class Job {
 }
 
 export class Engine {
-  constructor(packed, makeWorkshop = (script) => new Workshop(script)) {
-    this.make = () => makeWorkshop(packed.worker);
+  constructor(packed, makeWorkshop = (script) => new Workshop(script), pauseMs = PAUSE_MS) {
+    this.pauseMs = pauseMs;
+    this.makeWorkshop = () => makeWorkshop(packed.worker);
     this.module = null;
     this.spares = [this.make()];
+    // How many turns are computed at once beside a line, and what an instance of this program takes.
     this.most = 1;
+    this.size = 0;
     this.jobs = [];
+    // While it runs, nothing is begun ahead.
+    this.pause = null;
+    this.rest = null;
     // How much a turn of this program printed.
     this.printed = 0;
+  }
+
+  make() {
+    const worker = this.makeWorkshop();
+    if (this.module !== null) worker.open(this.module);
+    return worker;
   }
 
   // The module is compiled once, and all workers share what the browser makes of it. What came of a small run; with `trap` where
@@ -61,6 +80,7 @@ export class Engine {
     } catch (error) {
       return { trap: String(error.message) };
     }
+    for (const worker of this.spares) worker.open(this.module);
     const came = await this.warm(FEW_STEPS);
     // The worker that did this is left to whoever asks first.
     this.warm(MANY_STEPS, this.spares.shift());
@@ -68,7 +88,7 @@ export class Engine {
   }
 
   async warm(turn, worker = this.take()) {
-    const came = await worker.turn(this.module, turn);
+    const came = await worker.turn(turn);
     this.giveBack(worker, came);
     return came;
   }
@@ -94,19 +114,25 @@ export class Engine {
     return job.answer;
   }
 
-  // Begins what each of these lines would come to, where a turn took long: both at once where one took little memory.
+  // Begins soon what each of these lines would come to, where a turn took long: both at once where one took little memory.
   think(turn, nextLines, { time, memory }) {
     this.end((job) => job.rank === RANK.ahead);
     this.most = memory < LARGE ? 2 : 1;
+    this.size = memory;
     if (time < AHEAD_FROM_MS) return;
     for (const line of nextLines) this.jobs.push(new Job({ ...turn, lines: [...turn.lines, line], asks: [], save: null }, RANK.ahead));
-    this.schedule();
+    clearTimeout(this.pause);
+    this.pause = setTimeout(() => {
+      this.pause = null;
+      this.schedule();
+    }, this.pauseMs);
   }
 
-  // Ends all that runs.
+  // Ends all that runs, before another program does.
   stop() {
     this.end(() => true);
     this.printed = 0;
+    this.shrink();
   }
 
   // Ends some jobs, and tells who waits for them.
@@ -119,22 +145,26 @@ export class Engine {
     }
   }
 
-  // What runs of a job is ended, and its memory is given back at once.
+  // What runs of a job is ended, and its memory is given back.
   halt(job) {
     job.worker?.end();
     job.worker = null;
     this.tidy();
   }
 
-  // A worker that is there already, since a new one takes a moment to begin.
-  take() {
-    const worker = this.spares.pop() ?? this.make();
+  // A worker that is there already, since a new one takes a moment to begin; first the one that holds most memory. What is computed
+  // ahead leaves that one to a line, where there is room for one more.
+  take(rank = RANK.line) {
+    const spares = this.spares.sort((one, other) => other.memory - one.memory);
+    const isLeft = rank <= RANK.ahead && (this.most + 1) * this.size <= HELD;
+    const [worker = this.make()] = spares.splice(isLeft ? 1 : 0, 1);
     this.tidy();
     return worker;
   }
 
-  giveBack(worker, { trap, memory }) {
-    const isKept = trap === undefined && memory < KEPT && this.spares.length < SPARES;
+  giveBack(worker, { trap }) {
+    const held = this.spares.reduce((sum, { memory }) => sum + memory, 0);
+    const isKept = trap === undefined && this.spares.length < SPARES && held + worker.memory <= HELD;
     if (isKept) this.spares.push(worker);
     this.tidy(isKept ? null : worker);
   }
@@ -147,10 +177,19 @@ export class Engine {
       const isLineRunning = this.jobs.some((job) => job.rank === RANK.line && job.isRunning);
       if (this.spares.length === 0 && !isLineRunning) this.spares.push(this.make());
     });
+    clearTimeout(this.rest);
+    if (this.spares.some(holdsMuch)) this.rest = setTimeout(() => this.shrink(), REST_MS);
+  }
+
+  // Gives back what waiting workers hold.
+  shrink() {
+    for (const worker of this.spares.filter(holdsMuch)) worker.end();
+    this.spares = this.spares.filter((worker) => !holdsMuch(worker));
+    this.tidy();
   }
 
   schedule() {
-    const waiting = this.jobs.filter((job) => job.isWaiting).sort((one, other) => other.rank - one.rank);
+    const waiting = this.jobs.filter((job) => job.isWaiting && (this.pause === null || job.rank > RANK.ahead)).sort((one, other) => other.rank - one.rank);
     for (const job of waiting) if (this.makesPlaceFor(job)) this.begin(job);
   }
 
@@ -165,9 +204,9 @@ export class Engine {
   }
 
   async begin(job) {
-    const worker = this.take();
+    const worker = this.take(job.rank);
     job.worker = worker;
-    const came = await worker.turn(this.module, { ...job.turn, printed: this.printed });
+    const came = await worker.turn({ ...job.turn, printed: this.printed });
     // It was ended meanwhile.
     if (job.worker !== worker) return;
     job.worker = null;
@@ -177,6 +216,7 @@ export class Engine {
       // Beside another one it may have had too little memory: it is tried once more, alone.
       job.isAgain = true;
       this.most = 1;
+      this.shrink();
     } else {
       job.isOver = true;
       job.done(came);

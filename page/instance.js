@@ -1,5 +1,5 @@
-// The proved module: its one export over slices of its own memory. Each turn gets an instance of its own, so nothing is
-// left over from the turn before, and an instance that ran out of memory harms no other.
+// The proved module: its one export over slices of its own memory. An instance begins each turn as it began the first, so nothing
+// is left over from the turn before. One that failed serves no more, so an instance that ran out of memory harms no other.
 import { bytesOfBase64, utf8Bytes } from './bytes.js';
 
 // Room for the screen. The tree of 500,000 calls takes 13 MB, and much that is asked for at once may, too; all else is small. The
@@ -22,16 +22,16 @@ export async function openModule(base64) {
   return WebAssembly.compile(await new Response(stream).arrayBuffer());
 }
 
-async function once(module, { source, input, budget, session, text }, room) {
-  const { exports } = await WebAssembly.instantiate(module, {});
+// One turn of an instance, with that much room for the screen.
+function once({ memory, room: roomAt, pasask_turn: turn }, { source, input, budget, session, text }, room) {
   const roomFor = (size) => {
-    const at = exports.room(BigInt(size));
+    const at = roomAt(BigInt(size));
     if (at === 0n) throw new RangeError('out of memory');
     return at;
   };
   const put = (bytes) => {
     const at = roomFor(bytes.length + 1);
-    new Uint8Array(exports.memory.buffer).set(bytes, Number(at));
+    new Uint8Array(memory.buffer).set(bytes, Number(at));
     return [at, BigInt(bytes.length)];
   };
   const given = [source, input, utf8Bytes(budget)].flatMap(put);
@@ -40,21 +40,68 @@ async function once(module, { source, input, budget, session, text }, room) {
   const lines = put(utf8Bytes(text));
   const savedRoom = SAVES.test(text) ? SESSION_ROOM : 0;
   const [screen, saved, came] = [roomFor(room), roomFor(savedRoom + 1), roomFor(8 * CAME_WORDS)];
-  exports.pasask_turn(...given, ...loaded, ...noFiles, ...lines, screen, BigInt(room), saved, BigInt(savedRoom), came);
+  turn(...given, ...loaded, ...noFiles, ...lines, screen, BigInt(room), saved, BigInt(savedRoom), came);
   // Views are made after the call: those from before are dead once the memory grew.
-  const [status, shown, isSaved, stored] = Array.from(new BigUint64Array(exports.memory.buffer, Number(came), CAME_WORDS), Number);
-  const bytesAt = (at, size) => new Uint8Array(exports.memory.buffer, Number(at), size).slice();
+  const [status, shown, isSaved, stored] = Array.from(new BigUint64Array(memory.buffer, Number(came), CAME_WORDS), Number);
+  const bytesAt = (at, size) => new Uint8Array(memory.buffer, Number(at), size).slice();
   return {
-    status, screen: bytesAt(screen, shown), saved: isSaved === SAVED ? bytesAt(saved, stored) : null, memory: exports.memory.buffer.byteLength,
+    status, screen: bytesAt(screen, shown), saved: isSaved === SAVED ? bytesAt(saved, stored) : null, memory: memory.buffer.byteLength,
   };
 }
 
-// A screen that was too small holds a first part; the same turn with more room prints the same and the rest. `printed` is how much
-// the turns before printed, which this one prints again.
-export async function runTurn(module, asked) {
-  const isLong = asked.isLong || asked.printed > SMALL_ROOM / 4;
-  for (let room = isLong ? LARGE_ROOM : SMALL_ROOM; ; room = room * 16 + 15 * WORD) {
-    const came = await once(module, asked, room);
-    if (came.status !== SCREEN_FAILED || room >= MOST_ROOM) return came;
+// What an instance has in its memory when it begins, and from where on: below lies the stack, of which nothing is read before it
+// is written.
+function beginningOf(memory) {
+  const words = new Int32Array(memory.buffer);
+  let from = 0;
+  while (from < words.length && words[from] === 0) from += 1;
+  return { at: 4 * from, bytes: new Uint8Array(memory.buffer, 4 * from).slice() };
+}
+
+// The instance of a worker, and another one where it failed.
+export class Instances {
+  constructor(module) {
+    this.module = module;
+    this.beginning = null;
+    this.exports = null;
+    this.isNew = false;
+    try {
+      this.make();
+    } catch {
+      // The first turn tries once more, and tells.
+    }
+  }
+
+  make() {
+    this.exports = new WebAssembly.Instance(this.module, {}).exports;
+    this.isNew = true;
+    this.beginning ??= beginningOf(this.exports.memory);
+  }
+
+  // An instance as it begins. What its heap hands out stays as it is, since none of it is read before it is written: a system takes
+  // longer to give so much memory than to run a good part of the program.
+  begun() {
+    if (this.exports === null) this.make();
+    if (!this.isNew) new Uint8Array(this.exports.memory.buffer).set(this.beginning.bytes, this.beginning.at);
+    this.isNew = false;
+    return this.exports;
+  }
+
+  once(asked, room) {
+    const exports = this.begun();
+    this.exports = null;
+    const came = once(exports, asked, room);
+    this.exports = exports;
+    return came;
+  }
+
+  // A screen that was too small holds a first part; the same turn with more room prints the same and the rest. `printed` is how
+  // much the turns before printed, which this one prints again.
+  turn(asked) {
+    const isLong = asked.isLong || asked.printed > SMALL_ROOM / 4;
+    for (let room = isLong ? LARGE_ROOM : SMALL_ROOM; ; room = room * 16 + 15 * WORD) {
+      const came = this.once(asked, room);
+      if (came.status !== SCREEN_FAILED || room >= MOST_ROOM) return came;
+    }
   }
 }

@@ -1,4 +1,4 @@
-// One worker. It does one turn at a time and keeps nothing between two; what runs in it ends only with the worker.
+// One worker. It does one turn at a time; what runs in it ends only with the worker.
 
 export class Workshop {
   constructor(script) {
@@ -7,6 +7,8 @@ export class Workshop {
     this.worker = new Worker(address);
     this.address = address;
     this.answered = null;
+    // What its instance takes.
+    this.memory = 0;
     // What a worker says that can do nothing any more.
     this.broken = null;
     this.worker.onmessage = ({ data }) => this.answer(data);
@@ -18,16 +20,21 @@ export class Workshop {
 
   answer(came) {
     URL.revokeObjectURL(this.address);
+    this.memory = came.memory ?? 0;
     this.answered?.(came);
     this.answered = null;
   }
 
-  // `module` is the compiled module, which all workers share.
-  turn(module, turn) {
+  // Comes before all turns. `module` is the compiled module, which all workers share.
+  open(module) {
+    this.worker.postMessage({ module });
+  }
+
+  turn(turn) {
     if (this.broken !== null) return Promise.resolve(this.broken);
     return new Promise((done) => {
       this.answered = done;
-      this.worker.postMessage({ module, turn });
+      this.worker.postMessage({ turn });
     });
   }
 

@@ -495,6 +495,8 @@ export const TESTS = {
 
   async 'nothing is lost by a reload'(t) {
     await opened(t, 'change', ['wrong', 'right']);
+    const printed = () => t.page.value('document.querySelector("#raw").textContent');
+    const before = await printed();
     await t.reload();
     t.holds('the answers are offered', /change\.pas/.test(await notices(t)));
     await t.picture('10-offer');
@@ -502,6 +504,7 @@ export const TESTS = {
     await t.page.click('#notices button.main');
     await calm(t, 2);
     t.equal('and it goes on', await asked(t), 'twenty');
+    t.equal('with what was printed in an instance that had served before', await printed(), before);
     await t.page.press('w');
     await calm(t, 3);
     t.equal('to the verdict', await verdict(t), 'twenty');

@@ -6,8 +6,9 @@
 // exit status, the screen and the saved session have to be the same, byte by byte. With WORD only cases with it in their names.
 // With N only each N-th of the cases, by their order in the index, and all the large and deep ones.
 //
-// A worker for each processor takes one case after the other: it runs the native program, and the module in an instance of its
-// own. The module is compiled once. The large ones, which take gigabytes, are left to one worker.
+// A worker for each processor takes one case after the other: it runs the native program, and the module as the page does, in an
+// instance that begins each turn as it began the first. Cases with further files, or with lines that no page sends, get an instance
+// of their own. The module is compiled once. The large ones, which take gigabytes, are left to one worker.
 import { spawnSync } from 'node:child_process';
 import { existsSync, mkdtempSync, readFileSync, rmSync, writeFileSync } from 'node:fs';
 import { availableParallelism, tmpdir } from 'node:os';
@@ -15,12 +16,15 @@ import { join, resolve } from 'node:path';
 import { fileURLToPath } from 'node:url';
 import { parseArgs } from 'node:util';
 import { isMainThread, parentPort, Worker, workerData } from 'node:worker_threads';
+import { Instances } from '../../page/instance.js';
 import { casesIn } from './cases.mjs';
 import { DEEP, LARGE } from './large.mjs';
 import { openModule, turn } from './turn.mjs';
 
 const DATA = fileURLToPath(new URL('../../crates/worked_cases/data', import.meta.url));
 const MOST_AT_ONCE = 8, SAVED = 'page.session';
+// An instance that took more serves no further case.
+const MOST_KEPT = 1 << 29;
 const LARGE_LINES = 'tree\nwrong 1\nback\ntrace 0\nsave page.session\nquit\n';
 
 // The native program with the case's files, under the names that the module has for them.
@@ -44,9 +48,25 @@ function native(program, given) {
   return came;
 }
 
+let instances = null;
+
+// The lines as the page sends them, or null where they are no UTF-8.
+function textOf(lines) {
+  try {
+    return new TextDecoder('utf-8', { fatal: true, ignoreBOM: true }).decode(lines);
+  } catch {
+    return null;
+  }
+}
+
 function inModule(module, given) {
   try {
-    return turn(module, given);
+    const text = textOf(given.console);
+    if (text === null || Object.keys(given.files).length > 0) return turn(module, given);
+    instances ??= new Instances(module);
+    const came = instances.turn({ ...given, text, isLong: false, printed: 0 });
+    if (came.memory > MOST_KEPT) instances = null;
+    return came;
   } catch (error) {
     return { status: `a trap (${error.message})`, screen: Buffer.alloc(0), saved: null };
   }

@@ -10,10 +10,11 @@
 //   the page's may be three times as long; a lesson's is held against 50 ms;
 // - the time of `right` and of `wrong` once both answers were computed ahead, whichever took longer. They may take 300 ms once a
 //   turn's time has passed; where an instance took 500 MB there is room for one alone, so two turns' time is waited;
-// - the time of an answer that was not computed ahead, `unknown`, which comes as soon as the question is there: while the page
-//   begins to compute the other two. Beside it stands one turn of the function itself with the same lines, in a worker of an idle
-//   page, without anything of the page around it. The answer may take as long, and PAGE_MS for the page. Of either the
-//   processor's time is that of the page's own thread and of the worker that did it: all that whoever answers waits for;
+// - the time of an answer that was not computed ahead, `unknown`: of one that comes as soon as the question is there, and of one
+//   that comes half a turn later, while the page computes the other two. Beside each stands one turn of the function itself with the
+//   same lines, in a worker of an idle page, without anything of the page around it. The answer may take as long, and PAGE_MS for
+//   the page. Of either the processor's time is that of the page's own thread and of the worker that did it: all that whoever
+//   answers waits for;
 // - the memory that one turn takes up, in Node, which has the same engine as Chromium, and the native program's. It may be 1.5
 //   times as much and 32 MB. (What an instance could take up is shown below the page; most of a small one's is never touched.)
 //
@@ -187,14 +188,14 @@ async function alone(page, url, { source, budget }, lines) {
   return timedTurn(page, 'alone.asked({})');
 }
 
-// One round in the page: the first question, both answers that were computed ahead, and in between one that was not.
+// One round in the page: the first question, both answers that were computed ahead, and in between two that were not.
 async function inPage(page, url, given) {
   const question = await timed(page, untilCalm('document.querySelector("#run").click();'));
   await page.until('document.querySelector("#card h2") !== null', 120);
   const grown = Number(/([\d,]+) MB/.exec(await page.value('document.querySelector("#cost").textContent'))[1].replace(/,/g, ''));
   const round = { question: question.used, grown };
   const thinking = () => pause(question.clock * (grown < ALONE ? 1 : 2) + 200);
-  const lines = [];
+  const lines = [], said = {};
   const answered = async (key, word, by) => {
     lines.push(`${word} ${await page.value('document.querySelector("#question").dataset.call')}`);
     return (await by(page, untilCalm(pressed(key)))).used;
@@ -202,14 +203,17 @@ async function inPage(page, url, given) {
   if (!(await hasQuestion(page))) return round;
   await thinking();
   round.ahead = await answered('r', 'right', timed);
-  if (!(await hasQuestion(page))) return round;
-  round.other = await answered('d', 'unknown', timedTurn);
-  const said = [...lines];
+  for (const [what, after] of [['atOnce', 0], ['amid', question.clock / 2]]) {
+    if (!(await hasQuestion(page))) continue;
+    await pause(after);
+    round[what] = await answered('d', 'unknown', timedTurn);
+    said[what] = [...lines];
+  }
   if (await hasQuestion(page)) {
     await thinking();
     round.ahead = Math.max(round.ahead, await answered('w', 'wrong', timed));
   }
-  round.turn = (await alone(page, url, given, said)).used;
+  for (const [what, lines] of Object.entries(said)) round[`${what}Turn`] = (await alone(page, url, given, lines)).used;
   return round;
 }
 
@@ -223,8 +227,8 @@ async function measured(page, url, given, module) {
     ours.push(await inPage(page, url, given));
   }
   return {
-    isLesson, isLong: given.budget === LONGEST, question: least(ours, 'question'), ahead: least(ours, 'ahead'), other: least(ours, 'other'), turn: least(ours, 'turn'),
-    grown: least(ours, 'grown'),
+    isLesson, isLong: given.budget === LONGEST, question: least(ours, 'question'), ahead: least(ours, 'ahead'), grown: least(ours, 'grown'),
+    atOnce: least(ours, 'atOnce'), atOnceTurn: least(ours, 'atOnceTurn'), amid: least(ours, 'amid'), amidTurn: least(ours, 'amidTurn'),
     native: least(theirs, 'time'), taken: memoryOfTurn(module, given.name), nativeTaken: least(theirs, 'memory'),
   };
 }
@@ -241,9 +245,10 @@ function marked(text, isOver) {
 function rowOf(name, it) {
   const isSlow = it.isLesson ? it.question > LIMITS.lesson : it.isLong && it.question > LIMITS.question * it.native;
   const times = `${(it.question / it.native).toFixed(1)} times`;
+  const beside = (used, turn) => (used === Infinity ? '–' : marked(`${ms(used)} of ${ms(turn)}`, used > turn + PAGE_MS));
   const isLarge = it.taken > LIMITS.memory * it.nativeTaken + LIMITS.moreMemory;
   return `| ${name} | ${marked(ms(it.question), isSlow)} | ${ms(it.native)} | ${times} | ${marked(ms(it.ahead), it.ahead !== Infinity && it.ahead > LIMITS.ahead)} | `
-    + `${marked(ms(it.other), it.other !== Infinity && it.other > it.turn + PAGE_MS)} | ${ms(it.turn)} | ${marked(mb(it.taken), isLarge)} | ${mb(it.nativeTaken)} | ${mb(it.grown)} |`;
+    + `${beside(it.atOnce, it.atOnceTurn)} | ${beside(it.amid, it.amidTurn)} | ${marked(mb(it.taken), isLarge)} | ${mb(it.nativeTaken)} | ${mb(it.grown)} |`;
 }
 
 async function main() {
@@ -254,7 +259,7 @@ async function main() {
   writeFileSync(module, builtPage(folder).module);
   const load = () => loadavg()[0].toFixed(1);
   const [{ model }, begun] = [cpus()[0], load()];
-  console.log(`| program (${browser.name}) | first question | native | ratio | answer computed ahead | another answer | one turn of the function | taken up | native | could take up |`);
+  console.log(`| program (${browser.name}) | first question | native | ratio | answer computed ahead | another one at once, of one turn | another one amid, of one turn | taken up | native | could take up |`);
   console.log('|---|---|---|---|---|---|---|---|---|---|');
   for (const it of LARGE.filter(({ name }) => name.includes(options.only))) console.log(rowOf(it.name, await measured(page, url, it, module)));
   console.log(`\nOn ${cpus().length} processors (${model.trim()}), ${(totalmem() / 2 ** 30).toFixed(0)} GB; load ${begun} at the beginning and ${load()} at the end. `
