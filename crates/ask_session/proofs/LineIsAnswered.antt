@@ -1,16 +1,16 @@
 -- What a line is replied, and what becomes of the keeper.
-use Rattle.std.proofs.Common.{if◌then◌else◌, ◌<◌, ◌∙◌, ◌∷◌, ◌≡◌, ◌≤◌, [], ℕ, Bool, Err, IfErr, IfOk, List, None, Ok, Option, Result, Some, ap, arith, codes}
-use Rattle.std.proofs.Common.{false, inl, inr, length, refl, subst, sym, true}
+use Rattle.std.proofs.Common.{if◌then◌else◌, ◌<◌, ◌∙◌, ◌∷◌, ◌≡◌, ◌≤◌, [], ℕ, Bool, Err, IfErr, IfOk, List, None, Ok, OnErr, OnOk, Option, Result, Some, ap}
+use Rattle.std.proofs.Common.{arith, codes, false, inl, inr, length, refl, subst, sym, true}
 use Rattle.std.proofs.lemmas.Bool.{le-ltb, lt-ltb}
-use Rattle.edge_ports.specs.{Counts.counts_stored, Limits.line_bytes, declared.ports.StoreFault.StoreFault}
-use Rattle.dialog_replies.specs.{Instructions.instruction_of, Said.Said, Start.saved_text, Subject.Subject}
+use Rattle.edge_ports.specs.{Counts.counts_stored, Limits.line_bytes, Told.GaveAll, Told.GavePrefix, declared.ports.StoreFault.StoreFault}
+use Rattle.dialog_replies.specs.{Instructions.instruction_of, Prepared.IsReply, Prepared.Prepared, Said.Said, Start.saved_text, Subject.Subject}
 use Rattle.dialog_replies.specs.Replies.{LineOutcome, command_outcome, outcome, replied}
 use Rattle.dialog_replies.specs.declared.{instructions.DialogCommand.DialogCommand, instructions.Instruction.Instruction, start.Start.Start}
 use Rattle.ask_session.proofs.RepliesInOrder.{one_asked, one_on, plainly}
+use Rattle.ask_session.specs.{Turned.one_line, Turned.reply_of_text, Turned.with_text, declared.dialog.Ending.Ending}
 use Rattle.ask_session.specs.Dialog.{ends_session, file_asked, is_quit, is_too_long, plain_reply, reply_or_save, said_after_line, save_reply, saved_file}
 use Rattle.ask_session.specs.Saves.{FileAfter, FilesAfter, Save, counts_saved, saves_asked}
-use Rattle.ask_session.specs.Turned.{AnswersLine, BreaksOff, DialogMoment, Hands, LineAt, NextReply, Passes, Progress, SaveGoes, one_line}
-use Rattle.ask_session.specs.declared.dialog.Ending.{Ending}
+use Rattle.ask_session.specs.Turned.{AnswersLine, BreaksOff, DialogMoment, DialogStage, Hands, LineAt, NextReply, Passes, Progress, ReplyGiven, SaveGoes}
 
 -- an instruction, and the line that is not too long and asks for it
 pub record Asks (line : List ℕ) (i : Instruction) : Type 0 where
@@ -164,6 +164,18 @@ pub save_out : (save : Save) (old new : DialogMoment) (e : Ending) → e ≡ End
     → (new.files ≡ old.files) × (new.counts ≡ counts_stored (Err StoreFault.Memory) old.counts) → SaveGoes save old (Err e) new
 save_out save old new e is h = subst (λ (x : Ending). SaveGoes save old (Err x) new) (sym is) ([], omega arith, h.0, inr h.1)
 
+-- ---- a text as a reply
+
+-- its text is that text, and nothing has to be prepared for it
+pub text_stays : (C O T : Type 0) (s : Subject) (said : Said) (r : Result (List ℕ) Ending)
+    → with_text s said (reply_of_text {C = C} {O = O} {T = T} r) ≡ r
+text_stays C O T s said (Ok text) = refl
+text_stays C O T s said (Err e) = refl
+
+pub text_prepared : {C O T : Type 0} (p : Prepared C O T) (calls : ℕ) (r : Result (List ℕ) Ending) → IfOk (reply_of_text r) (IsReply p calls)
+text_prepared p calls (Ok text) = tt
+text_prepared p calls (Err e) = tt
+
 -- ---- the reply to the next line
 
 module _ (s : Subject) (start : Start) where
@@ -176,3 +188,21 @@ module _ (s : Subject) (start : Start) where
   next_of old new line (Err Ending.Screen) h = absurd h.1
   next_of old new line (Err Ending.Spent) h = absurd h.1
   next_of old new line (Err Ending.Refused) h = absurd h.1
+
+-- ---- a reply that was given, or a first part of it
+
+module _ (s : Subject) (start : Start) (old new : DialogStage) (reply : List ℕ) where
+  -- what the screen got of it, by how that ended
+  pub record GivenBy (r : Result (Unit {0}) Ending) : Type 0 where
+    pub whole : OnOk r (GaveAll old.given new.given reply)
+    pub part : OnErr r (GavePrefix old.given new.given reply)
+    pub ending : IfErr r (λ (e : Ending). e ≡ Ending.Screen)
+
+  pub given_so : (r : Result (Unit {0}) Ending) → NextReply s start old.progress (Ok reply) new.progress → GivenBy r → ReplyGiven s start old r new
+  given_so (Ok done) next g = (reply, next, g.whole)
+  given_so (Err Ending.Screen) next g = (reply, next, g.part)
+  given_so (Err Ending.Done) next g = let e : Ending.Done ≡ Ending.Screen = g.ending in absurd (let x : ⊥ = cc in x)
+  given_so (Err Ending.Console) next g = let e : Ending.Console ≡ Ending.Screen = g.ending in absurd (let x : ⊥ = cc in x)
+  given_so (Err Ending.Spent) next g = let e : Ending.Spent ≡ Ending.Screen = g.ending in absurd (let x : ⊥ = cc in x)
+  given_so (Err Ending.Memory) next g = let e : Ending.Memory ≡ Ending.Screen = g.ending in absurd (let x : ⊥ = cc in x)
+  given_so (Err Ending.Refused) next g = let e : Ending.Refused ≡ Ending.Screen = g.ending in absurd (let x : ⊥ = cc in x)

@@ -3,7 +3,9 @@ use Rattle.std.specs.Prelude.{◌++◌, ◌<◌, ◌∷◌, ◌≡◌, ◌≤◌
 use Rattle.std.specs.Prelude.{length, true}
 use Rattle.edge_ports.specs.{Counts.KeeperCounts, Files.FileMap, Limits.console_bytes, Told.GaveAll, Told.GavePrefix}
 use Rattle.edge_ports.specs.Lines.{LinesState, handed_lines, lines_heard}
-use Rattle.dialog_replies.specs.{Said.Said, Start.said_at_start, Subject.Subject, declared.start.Start.Start}
+use Rattle.dialog_replies.specs.{Prepared.text_of_reply, Said.Said, Start.said_at_start, Subject.Subject}
+use Rattle.dialog_replies.specs.declared.{reply.Reply.Reply, start.Start.Start}
+use Rattle.dialog_replies.specs.declared.reply.Reply.TheVariants as replies
 use Rattle.ask_session.specs.{Dialog.save_reply, Outside.Outside, declared.dialog.Ending.Ending}
 use Rattle.ask_session.specs.Dialog.{ends_among, ends_session, line_replies, line_reply, next_save, said_after_line}
 use Rattle.ask_session.specs.Heard.{EndedBy, GaveBy, Heard, IsHeard, is_console, is_screen, lines_in}
@@ -59,6 +61,16 @@ pub record BreaksOff (s : Subject) (start : Start) (old : DialogMoment) (line : 
     pub answered : length saves ≤ length (saves_asked s start old.said (line ∷ []))
     pub files_are : FilesAfter saves (saves_asked s start old.said (line ∷ [])) old.files new.files
     pub counts_are : CountsAfter Ending.Memory saves old.counts new.counts
+
+-- a text as the reply that is this text alone
+abbrev pub reply_of_text : {C O T : Type 0} → Result (List ℕ) Ending → Result (Reply C O T) Ending
+reply_of_text (Ok text) = Ok (replies.Text text)
+reply_of_text (Err e) = Err e
+
+-- what a call answers, with the text of the reply that it prepared
+abbrev pub with_text : {C O T : Type 0} → Subject → Said → Result (Reply C O T) Ending → Result (List ℕ) Ending
+with_text s said (Ok reply) = Ok (text_of_reply s said reply)
+with_text s said (Err e) = Err e
 
 -- the reply to a save, or that memory ran out
 abbrev pub SaveGoes : Save → DialogMoment → Result (List ℕ) Ending → DialogMoment → Type 0

@@ -4,16 +4,19 @@ ghost use Rattle.std.specs.{Prelude.length, Io.KnownBytes.IsAtEnd};
 ghost use Rattle.edge_ports.specs.{Limits.line_bytes, Lines.Moves, Told.GaveAll, Told.GavePrefix, Turns.IsConsistent};
 ghost use Rattle.edge_ports.specs.Counts.{Counted, counts_stored};
 ghost use Rattle.edge_ports.specs.declared.ports.StoreFault.TheVariants as store;
-ghost use Rattle.dialog_replies.specs.{Kept.IsDialogOf, Kept.said_in_dialog, Start.said_at_start, Start.saved_text};
-ghost use Rattle.dialog_replies.specs.{Subject.Subject, declared.start.Start.Start as StartValue};
-ghost use Rattle.ask_session.specs.{Dialog.save_reply, Heard.is_console, Heard.is_screen, Saves.FileAfter};
-ghost use Rattle.ask_session.specs.{Saves.counts_saved, Turned.console_failed, Turned.screen_failed};
+ghost use Rattle.dialog_replies.specs.{Kept.IsDialogOf, Kept.said_in_dialog, Prepared.IsReply, Prepared.text_of_reply};
+ghost use Rattle.dialog_replies.specs.{Start.said_at_start, Start.saved_text, Subject.Subject, Subject.calls_recorded};
+ghost use Rattle.dialog_replies.specs.declared.start.Start.{Start as StartValue};
+ghost use Rattle.ask_session.specs.{Dialog.save_reply, Heard.is_console, Heard.is_screen};
+ghost use Rattle.ask_session.specs.Saves.{FileAfter, counts_saved};
 ghost use Rattle.ask_session.specs.Turned.{AnswersLine, LineAt, NextReply, ReplyGiven, SaveGoes, Talked};
+ghost use Rattle.ask_session.specs.Turned.{console_failed, reply_of_text, screen_failed, with_text};
 
 use dialog_replies::{
-    Debugged, Dialog, FileName, Instruction, Start, answer, instruction_in, session_text_of,
+    Debugged, Dialog, FileName, Instruction, Reply, Start, answer, instruction_in, print_reply,
+    session_text_of,
 };
-use edge_ports::{Bytes, Keeper, LineFault, Lines, Sink, Source, StoreFault, Turn, write_all};
+use edge_ports::{Bytes, Keeper, LineFault, Lines, Printer, Source, StoreFault, Turn};
 use std::alloc::{AllocError, AllocFailed, Global};
 
 /// How a dialog ended.
@@ -116,6 +119,16 @@ fn save<D: Debugged, K: Keeper>(
     }
 }
 
+/// A text as a reply.
+fn as_reply<C, O, T>(text: Result<Bytes, Ending>) -> Result<Reply<C, O, T>, Ending>
+    ensures { result ≡ reply_of_text text }
+{
+    match text {
+        Ok(text) => Ok(Reply::Text(text)),
+        Err(ending) => Err(ending),
+    }
+}
+
 /// The reply to a line of the console. `Done` says that it ends the session.
 fn answer_line<D: Debugged, K: Keeper>(
     alloc: Global,
@@ -124,7 +137,7 @@ fn answer_line<D: Debugged, K: Keeper>(
     keeper: &mut K,
     dialog: &mut Dialog,
     line: &[u8],
-) -> Result<Bytes, Ending>
+) -> Result<Reply<D::Card, D::Opened, D::Trace>, Ending>
     requires dialog { IsDialogOf (D.subject run.now) dialog.old }
     requires short { length line.now ≤ line_bytes }
     ensures answers { AnswersLine (D.subject run.now) start.now
@@ -136,13 +149,14 @@ fn answer_line<D: Debugged, K: Keeper>(
             counts = K.counts keeper.old;
           };
         })
-        result
+        (with_text (D.subject run.now) (said_in_dialog dialog.new) result)
         (record { said = said_in_dialog dialog.new; files = K.files keeper.new; counts = K.counts keeper.new }) }
+    ensures prepared { IfOk result (IsReply (D.prepared run.now) (calls_recorded (D.subject run.now))) }
     ensures dialog { IsDialogOf (D.subject run.now) dialog.new }
 {
     match instruction_in(line) {
         Instruction::Quit => Err(Ending::Done),
-        Instruction::Save(file) => save(alloc, run, start, keeper, dialog, &file),
+        Instruction::Save(file) => as_reply(save(alloc, run, start, keeper, dialog, &file)),
         Instruction::Command(command) => match answer(alloc, run, dialog, command) {
             Ok(reply) => Ok(reply),
             Err(_) => Err(Ending::Memory),
@@ -173,7 +187,7 @@ fn next_reply<D: Debugged, K: Keeper, I: Source>(
     dialog: &mut Dialog,
     lines: &mut Lines,
     console: &mut I,
-) -> Result<Bytes, Ending>
+) -> Result<Reply<D::Card, D::Opened, D::Trace>, Ending>
     requires dialog { IsDialogOf (D.subject run.now) dialog.old }
     ensures reply { NextReply (D.subject run.now) start.now
         (record {
@@ -184,7 +198,7 @@ fn next_reply<D: Debugged, K: Keeper, I: Source>(
           };
           lines = lines.old;
         })
-        result
+        (with_text (D.subject run.now) (said_in_dialog dialog.new) result)
         (record {
           moment = record {
             said = said_in_dialog dialog.new;
@@ -199,35 +213,47 @@ fn next_reply<D: Debugged, K: Keeper, I: Source>(
     ensures faults { Counted (console_failed result) (I.faults console.old) (I.faults console.new) }
     ensures not_screen { screen_failed result ≡ false }
     ensures consistent { IsConsistent lines.new }
+    ensures prepared { IfOk result (IsReply (D.prepared run.now) (calls_recorded (D.subject run.now))) }
     ensures dialog { IsDialogOf (D.subject run.now) dialog.new }
     ensures handed { OnOk result (lines.old.handed < lines.new.handed) }
 {
     match lines.next(console) {
         Ok(Turn::Line) => answer_line(alloc, run, start, keeper, dialog, lines.line()),
-        Ok(Turn::TooLong) => too_long(alloc),
+        Ok(Turn::TooLong) => as_reply(too_long(alloc)),
         Ok(Turn::End) => Err(Ending::Done),
         Err(LineFault::Failed) => Err(Ending::Console),
         Err(LineFault::Spent) => Err(Ending::Spent),
     }
 }
 
-/// Gives a reply whole.
-fn give_reply<O: Sink>(screen: &mut O, reply: &[u8]) -> Result<(), Ending>
-    ensures ok { OnOk result (GaveAll (O.given screen.old) (O.given screen.new) reply.now) }
-    ensures failed { OnErr result (GavePrefix (O.given screen.old) (O.given screen.new) reply.now) }
+/// Gives a reply whole, in pieces.
+pub(crate) fn give_reply<D: Debugged, O: Printer>(
+    screen: &mut O,
+    run: &D,
+    dialog: &Dialog,
+    reply: &Reply<D::Card, D::Opened, D::Trace>,
+) -> Result<(), Ending>
+    requires dialog { IsDialogOf (D.subject run.now) dialog.now }
+    requires prepared { IsReply (D.prepared run.now) (calls_recorded (D.subject run.now)) reply.now }
+    ensures ok { OnOk result (GaveAll (O.given screen.old) (O.given screen.new)
+        (text_of_reply (D.subject run.now) (said_in_dialog dialog.now) reply.now)) }
+    ensures failed { OnErr result (GavePrefix (O.given screen.old) (O.given screen.new)
+        (text_of_reply (D.subject run.now) (said_in_dialog dialog.now) reply.now)) }
     ensures ending { IfErr result (λ e. e ≡ Ending.Screen) }
     ensures faults { Counted (screen_failed result) (O.faults screen.old) (O.faults screen.new) }
     ensures last { IsTrue (screen_failed result) → IsTrue (O.last_failed screen.new) }
     ensures loan { O.loan screen.new ≡ O.loan screen.old }
 {
-    match write_all(screen, reply) {
+    screen.begin();
+    print_reply(screen, run, dialog, reply);
+    match screen.finish() {
         Ok(()) => Ok(()),
         Err(_) => Err(Ending::Screen),
     }
 }
 
 /// Answers one line of the console.
-fn turn<D: Debugged, K: Keeper, I: Source, O: Sink>(
+fn turn<D: Debugged, K: Keeper, I: Source, O: Printer>(
     alloc: Global,
     run: &D,
     start: &Start,
@@ -274,14 +300,14 @@ fn turn<D: Debugged, K: Keeper, I: Source, O: Sink>(
     ensures handed { OnOk result (lines.old.handed < lines.new.handed) }
 {
     match next_reply(alloc, run, start, keeper, dialog, lines, console) {
-        Ok(reply) => give_reply(screen, reply.as_slice()),
+        Ok(reply) => give_reply(screen, run, dialog, &reply),
         Err(ending) => Err(ending),
     }
 }
 
 /// Answers the lines of the console, up to `quit` or its end. It takes memory for notes, for the digests of questions,
-/// for each reply and for each file that is stored.
-pub fn answer_lines<D: Debugged, K: Keeper, I: Source, O: Sink>(
+/// for what each reply is printed from and for each file that is stored; none for the text of a reply.
+pub fn answer_lines<D: Debugged, K: Keeper, I: Source, O: Printer>(
     alloc: Global,
     run: &D,
     start: &Start,

@@ -8,14 +8,14 @@ ghost use Rattle.ask_session.specs.Console.{EndsInTime, FirstAnswered, GaveOf, G
 ghost use Rattle.ask_session.specs.Laws.{AsksTheBest, FindsTheFault, NamesTheAccused, NarrowsTheFault};
 ghost use Rattle.ask_session.specs.Saves.{CountsAfter, FilesAfter, saves_in};
 
-use crate::dialog::{Ending, answer_lines};
+use crate::dialog::{Ending, answer_lines, give_reply};
 use crate::laws::{entries_follow_lines, search_is_sound};
 use dialog_replies::{Debugged, Start, open, refusal, resume};
-use edge_ports::{Keeper, Lines, Sink, Source, write_all};
+use edge_ports::{Keeper, Lines, Printer, Source, print_all};
 use std::alloc::Global;
 
 /// Gives the opening, and then answers the console.
-fn hold_session<D: Debugged, K: Keeper, I: Source, O: Sink>(
+fn hold_session<D: Debugged, K: Keeper, I: Source, O: Printer>(
     alloc: Global,
     run: &D,
     start: &Start,
@@ -52,7 +52,7 @@ fn hold_session<D: Debugged, K: Keeper, I: Source, O: Sink>(
     let Ok(opening) = open(alloc, run, start, &mut dialog) else {
         return Ending::Memory;
     };
-    match write_all(screen, opening.as_slice()) {
+    match give_reply(screen, run, &dialog, &opening) {
         Ok(()) => answer_lines(
             alloc,
             run,
@@ -68,7 +68,7 @@ fn hold_session<D: Debugged, K: Keeper, I: Source, O: Sink>(
 }
 
 /// Holds the session, or refuses a saved session that does not fit.
-fn hold_if_fit<D: Debugged, K: Keeper, I: Source, O: Sink>(
+fn hold_if_fit<D: Debugged, K: Keeper, I: Source, O: Printer>(
     alloc: Global,
     run: &D,
     start: &Start,
@@ -97,7 +97,7 @@ fn hold_if_fit<D: Debugged, K: Keeper, I: Source, O: Sink>(
 {
     match refusal(alloc, run, start) {
         Ok(None) => hold_session(alloc, run, start, keeper, console, screen),
-        Ok(Some(line)) => match write_all(screen, line.as_slice()) {
+        Ok(Some(line)) => match print_all(screen, line.as_slice()) {
             Ok(()) => Ending::Refused,
             Err(_) => Ending::Screen,
         },
@@ -113,7 +113,7 @@ fn hold_if_fit<D: Debugged, K: Keeper, I: Source, O: Sink>(
 /// fit the run is refused by one line.
 ///
 /// A store that runs out of memory ends the session with `Memory`.
-pub fn converse<D: Debugged, K: Keeper, I: Source, O: Sink>(
+pub fn converse<D: Debugged, K: Keeper, I: Source, O: Printer>(
     alloc: Global,
     run: &D,
     start: &Start,

@@ -1,7 +1,12 @@
 -- The way down to a cell, step by step.
 use Rattle.std.proofs.Common.{◌++◌, ◌+◌, ◌-◌, ◌<◌, ◌∙◌, ◌≡◌, ◌≤◌, ℕ, List, None, Option, Some, ap, append-nil, append_assoc, arith, suc, sym, zero}
-use Rattle.cell_names.specs.Names.{Scene, WayDown, WentDown, most_types, next_step, selector_text, way_after, way_by, way_down, way_here, way_within}
+use Rattle.cell_names.specs.Names.{Scene, WayDown, most_types, next_step, selector_text, way_after, way_by, way_down, way_here, way_within}
 use Rattle.cell_names.specs.declared.names.{Spot.Spot, Step.Step}
+
+-- all selectors of the way were written, and this is where it ends
+pub record WentDown (before : List ℕ) (w : WayDown) (after : List ℕ) (end : Spot) : Type 0 where
+  pub writes : after ≡ before ++ w.text
+  pub ends : end ≡ w.end
 
 -- this many steps were taken, and what is left of the way begins here
 pub record IsOnWay (s : Scene) (wanted : Option ℕ) (from : Spot) (before now : List ℕ) (at : Spot) (taken : ℕ) : Type 0 where

@@ -1,6 +1,6 @@
 -- Names of cells: the variable, whose it is, and the selectors on the way down to the cell (ISO 7185, 6.5).
-use Rattle.std.specs.Prelude.{if◌then◌else◌, ◌%◌, ◌&&◌, ◌++◌, ◌+ℤ◌, ◌-◌, ◌/◌, ◌==◌, ◌≡◌, [], ℕ, ℤ, Bool, List, None}
-use Rattle.std.specs.Prelude.{Option, Some, codes, decimal, false, nat_le, nat_lt, pos, slice_get, suc, zero}
+use Rattle.std.specs.Prelude.{if◌then◌else◌, ◌%◌, ◌&&◌, ◌++◌, ◌+ℤ◌, ◌-◌, ◌/◌, ◌==◌, [], ℕ, ℤ, Bool, List, None, Option}
+use Rattle.std.specs.Prelude.{Some, codes, decimal, false, nat_le, nat_lt, pos, slice_get, suc, zero}
 use Rattle.cell_value.specs.Effects.{heap_start}
 use Rattle.core_program.specs.ProgramRows.{ProgramRows, name_of, routine_at, row_at, size_of, text_at, type_at}
 use Rattle.core_program.specs.declared.program.Routine.{Routine}
@@ -124,11 +124,6 @@ most_types = 1048576
 
 abbrev pub way_down : Scene → (wanted : Option ℕ) → Spot → WayDown
 way_down s wanted at = way_within s wanted most_types at
-
--- the selectors of a way were written, and this is where it ends
-pub record WentDown (before : List ℕ) (w : WayDown) (after : List ℕ) (end : Spot) : Type 0 where
-  pub writes : after ≡ before ++ w.text
-  pub ends : end ≡ w.end
 
 abbrev pub result_of : Row → Option ℕ
 result_of (Row.Part (PartRow.Heading name sections result)) = result

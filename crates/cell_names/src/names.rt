@@ -1,11 +1,12 @@
 //! Names of cells: the variable, whose it is, and the selectors on the way down to the cell.
 
-ghost use Rattle.std.specs.Prelude.{◌++◌, ◌≡◌, IfOk, OnOk, Some, slice_get};
+ghost use Rattle.std.specs.Prelude.{◌≡◌, Some, slice_get};
+ghost use Rattle.edge_ports.specs.Printouts.{Prints};
 ghost use Rattle.core_program.specs.ProgramRows.{type_at};
-ghost use Rattle.cell_names.specs.Names.{WentDown, address_text, begins_there, cell_held, cell_text, component_step};
-ghost use Rattle.cell_names.specs.Names.{field_step, heap_root, is_link, is_of_type, is_result, is_wanted, least_in};
-ghost use Rattle.cell_names.specs.Names.{local_at, local_in, local_root, named_local, next_step, origin_text};
-ghost use Rattle.cell_names.specs.Names.{part_local, record_step, result_local, result_of, root_at, root_in, scene_in};
+ghost use Rattle.cell_names.specs.Names.{address_text, begins_there, cell_held, cell_text, component_step, field_step};
+ghost use Rattle.cell_names.specs.Names.{heap_root, is_link, is_of_type, is_result, is_wanted, least_in, local_at};
+ghost use Rattle.cell_names.specs.Names.{local_in, local_root, named_local, next_step, origin_text, part_local};
+ghost use Rattle.cell_names.specs.Names.{record_step, result_local, result_of, root_at, root_in, scene_in};
 ghost use Rattle.cell_names.specs.Names.{selector_text, stack_root, step_down, typed_step, way_down, whose_text};
 
 use crate::finding::NameFinder;
@@ -14,8 +15,7 @@ use crate::places::{PlacedPart, PlacedParts};
 use crate::values::{Bounds, bounds_of, write_ordinal};
 use core_program::rows::{Mode, NameRow, PartRow, Row, TypeRow};
 use core_program::{Program, Routine};
-use edge_ports::Bytes;
-use std::alloc::AllocError;
+use edge_ports::Printer;
 use std::marker::Model;
 
 /// What the names of cells stand on: a program and what is found in it by its place; of each call of its run the
@@ -218,23 +218,21 @@ pub(crate) fn step_down(scene: &Scene, at: Spot) -> Option<Step>
     }
 }
 
-/// Appends a selector.
-fn write_selector(out: &mut Bytes, program: &Program, selector: Selector) -> Result<(), AllocError>
-    ensures { OnOk result (out.new ≡ out.old ++ selector_text program.now selector) }
+/// Prints a selector.
+fn write_selector<P: Printer>(out: &mut P, program: &Program, selector: Selector)
+    ensures { Prints (P.printout out.old) (P.printout out.new) (selector_text program.now selector) }
 {
     match selector {
         Selector::Index { of, value } => {
-            out.append(b"[")?;
-            write_ordinal(out, program, of, value)?;
-            out.append(b"]")?;
-            Ok(())
+            out.print(b"[");
+            write_ordinal(out, program, of, value);
+            out.print(b"]");
         }
         Selector::Field(number) => {
-            out.append(b".")?;
-            out.append(program.text(number))?;
-            Ok(())
+            out.print(b".");
+            out.print(program.text(number));
         }
-        Selector::Case => out.append(b".case"),
+        Selector::Case => out.print(b".case"),
     }
 }
 
@@ -269,27 +267,23 @@ fn next_step(scene: &Scene, wanted: Option<u32>, at: Spot) -> Option<Step>
     }
 }
 
-/// Appends the selectors on the way down to a cell, or to the first variable of a wanted type; where the way ends is
+/// Prints the selectors on the way down to a cell, or to the first variable of a wanted type; where the way ends is
 /// given.
-pub fn write_way(
-    out: &mut Bytes,
-    scene: &Scene,
-    wanted: Option<u32>,
-    from: Spot,
-) -> Result<Spot, AllocError>
-    ensures { IfOk result (λ end. WentDown out.old (way_down (scene_in scene.now) wanted from) out.new end) }
+pub fn write_way<P: Printer>(out: &mut P, scene: &Scene, wanted: Option<u32>, from: Spot) -> Spot
+    ensures writes { Prints (P.printout out.old) (P.printout out.new) (way_down (scene_in scene.now) wanted from).text }
+    ensures ends { result ≡ (way_down (scene_in scene.now) wanted from).end }
 {
     let mut at = from;
     'steps: for _ in 0..1_048_576u32 {
         match next_step(scene, wanted, at) {
-            None => return Ok(at),
+            None => return at,
             Some(step) => {
-                write_selector(out, scene.program, step.selector)?;
+                write_selector(out, scene.program, step.selector);
                 at = step.spot;
             }
         }
     }
-    Ok(at)
+    at
 }
 
 /// The type of a function's result, by its heading.
@@ -473,66 +467,54 @@ pub fn is_link(scene: &Scene, address: u32) -> bool
     address < 524_288 && begins_there(address, scene.opened.find(address))
 }
 
-/// Appends what stands for the name of a cell that has none.
-pub fn write_address(out: &mut Bytes, address: u32) -> Result<(), AllocError>
-    ensures { OnOk result (out.new ≡ out.old ++ address_text address) }
+/// Prints what stands for the name of a cell that has none.
+pub fn write_address<P: Printer>(out: &mut P, address: u32)
+    ensures { Prints (P.printout out.old) (P.printout out.new) (address_text address) }
 {
-    out.append(b"cell ")?;
-    write_number(out, address)
+    out.print(b"cell ");
+    write_number(out, address);
 }
 
-/// Appends whose a variable of a call is, where it is none of call 0.
-fn write_whose(
-    out: &mut Bytes,
-    program: &Program,
-    call: u32,
-    routine: u32,
-) -> Result<(), AllocError>
-    ensures { OnOk result (out.new ≡ out.old ++ whose_text program.now call routine) }
+/// Prints whose a variable of a call is, where it is none of call 0.
+fn write_whose<P: Printer>(out: &mut P, program: &Program, call: u32, routine: u32)
+    ensures { Prints (P.printout out.old) (P.printout out.new) (whose_text program.now call routine) }
 {
     if call == 0 {
-        return Ok(());
+        return;
     }
-    out.append(program.name(routine))?;
-    out.append(b"#")?;
-    write_number(out, call)?;
-    out.append(b".")
+    out.print(program.name(routine));
+    out.print(b"#");
+    write_number(out, call);
+    out.print(b".");
 }
 
-/// Appends what the way down begins at.
-fn write_origin(out: &mut Bytes, program: &Program, origin: Origin) -> Result<(), AllocError>
-    ensures { OnOk result (out.new ≡ out.old ++ origin_text program.now origin) }
+/// Prints what the way down begins at.
+fn write_origin<P: Printer>(out: &mut P, program: &Program, origin: Origin)
+    ensures { Prints (P.printout out.old) (P.printout out.new) (origin_text program.now origin) }
 {
     match origin {
         Origin::Heap(base) => {
-            out.append(b"^")?;
-            write_number(out, base.saturating_sub(524_287))?;
-            out.append(b"^")?;
-            Ok(())
+            out.print(b"^");
+            write_number(out, base.saturating_sub(524_287));
+            out.print(b"^");
         }
         Origin::Local {
             call,
             routine,
             token,
         } => {
-            write_whose(out, program, call, routine)?;
-            out.append(program.text(token))?;
-            Ok(())
+            write_whose(out, program, call, routine);
+            out.print(program.text(token));
         }
     }
 }
 
-/// Appends the name of a cell, and gives what the cell is.
-pub fn write_root(
-    out: &mut Bytes,
-    scene: &Scene,
-    wanted: Option<u32>,
-    root: Root,
-) -> Result<Held, AllocError>
-    ensures writes { OnOk result (out.new ≡ out.old ++ cell_text (scene_in scene.now) wanted root) }
-    ensures is { IfOk result (λ held. held ≡ cell_held (scene_in scene.now) wanted root) }
+/// Prints the name of a cell, and gives what the cell is.
+pub fn write_root<P: Printer>(out: &mut P, scene: &Scene, wanted: Option<u32>, root: Root) -> Held
+    ensures writes { Prints (P.printout out.old) (P.printout out.new) (cell_text (scene_in scene.now) wanted root) }
+    ensures is { result ≡ cell_held (scene_in scene.now) wanted root }
 {
-    write_origin(out, scene.program, root.origin)?;
-    let end = write_way(out, scene, wanted, root.spot)?;
-    Ok(end.held)
+    write_origin(out, scene.program, root.origin);
+    let end = write_way(out, scene, wanted, root.spot);
+    end.held
 }

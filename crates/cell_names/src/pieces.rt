@@ -1,40 +1,37 @@
 //! Pieces of text: numbers, characters, and what was read and written.
 
-ghost use Rattle.std.specs.Prelude.{◌++◌, ◌≡◌, ◌≤◌, OnOk, decimal, flat_map, length, slice_range};
+ghost use Rattle.std.specs.Prelude.{◌≡◌, ◌≤◌, decimal, flat_map, length, slice_range};
 ghost use Rattle.std.specs.Fmt.{signed_decimal};
+ghost use Rattle.edge_ports.specs.Printouts.{Prints};
 ghost use Rattle.cell_names.specs.Pieces.{byte_text, escaped, hex_digit, hex_of, in_quotation_marks, is_plain};
 ghost use Rattle.cell_names.specs.Pieces.{shown_char};
 
 use cell_value::Items;
-use edge_ports::Bytes;
+use edge_ports::Printer;
 use itoa::Buffer;
-use std::alloc::AllocError;
 
-/// Appends a number in decimal.
-pub fn write_number(out: &mut Bytes, number: u32) -> Result<(), AllocError>
-    ensures { OnOk result (out.new ≡ out.old ++ decimal number) }
+/// Prints a number in decimal.
+pub fn write_number<P: Printer>(out: &mut P, number: u32)
+    ensures { Prints (P.printout out.old) (P.printout out.new) (decimal number) }
 {
     let mut buffer = Buffer::new();
-    out.append(buffer.format(number).as_bytes())?;
-    Ok(())
+    out.print(buffer.format(number).as_bytes());
 }
 
-/// Appends an integer in decimal.
-pub(crate) fn write_integer(out: &mut Bytes, number: i32) -> Result<(), AllocError>
-    ensures { OnOk result (out.new ≡ out.old ++ signed_decimal number) }
+/// Prints an integer in decimal.
+pub(crate) fn write_integer<P: Printer>(out: &mut P, number: i32)
+    ensures { Prints (P.printout out.old) (P.printout out.new) (signed_decimal number) }
 {
     let mut buffer = Buffer::new();
-    out.append(buffer.format(number).as_bytes())?;
-    Ok(())
+    out.print(buffer.format(number).as_bytes());
 }
 
-/// Appends a whole number in decimal.
-pub fn write_long(out: &mut Bytes, number: i64) -> Result<(), AllocError>
-    ensures { OnOk result (out.new ≡ out.old ++ signed_decimal number) }
+/// Prints a whole number in decimal.
+pub fn write_long<P: Printer>(out: &mut P, number: i64)
+    ensures { Prints (P.printout out.old) (P.printout out.new) (signed_decimal number) }
 {
     let mut buffer = Buffer::new();
-    out.append(buffer.format(number).as_bytes())?;
-    Ok(())
+    out.print(buffer.format(number).as_bytes());
 }
 
 /// Whether a character is shown as it is: those from the blank to the tilde are.
@@ -44,11 +41,11 @@ pub(crate) fn is_plain(item: u32) -> bool
     32 <= item && item <= 126
 }
 
-/// Appends one character, which is below 256.
-fn write_byte(out: &mut Bytes, byte: u32) -> Result<(), AllocError>
-    ensures { OnOk result (out.new ≡ out.old ++ byte_text byte) }
+/// Prints one character, which is below 256.
+fn write_byte<P: Printer>(out: &mut P, byte: u32)
+    ensures { Prints (P.printout out.old) (P.printout out.new) (byte_text byte) }
 {
-    out.append(&[(byte % 256) as u8])
+    out.print(&[(byte % 256) as u8]);
 }
 
 /// The digit of a number below 16 in hexadecimal.
@@ -59,93 +56,85 @@ fn hex_digit(number: u32) -> u32
     if digit < 10 { 48 + digit } else { 87 + digit }
 }
 
-/// Appends a byte as two hexadecimal digits.
-fn write_hex(out: &mut Bytes, item: u32) -> Result<(), AllocError>
-    ensures { OnOk result (out.new ≡ out.old ++ hex_of item) }
+/// Prints a byte as two hexadecimal digits.
+fn write_hex<P: Printer>(out: &mut P, item: u32)
+    ensures { Prints (P.printout out.old) (P.printout out.new) (hex_of item) }
 {
-    out.append(b"\\x")?;
-    write_byte(out, hex_digit(item / 16))?;
-    write_byte(out, hex_digit(item))?;
-    Ok(())
+    out.print(b"\\x");
+    write_byte(out, hex_digit(item / 16));
+    write_byte(out, hex_digit(item));
 }
 
-/// Appends a byte or an item of the input between quotation marks.
-pub(crate) fn write_escaped(out: &mut Bytes, item: u32) -> Result<(), AllocError>
-    ensures { OnOk result (out.new ≡ out.old ++ escaped item) }
+/// Prints a byte or an item of the input between quotation marks.
+pub(crate) fn write_escaped<P: Printer>(out: &mut P, item: u32)
+    ensures { Prints (P.printout out.old) (P.printout out.new) (escaped item) }
 {
     if item == 34 {
-        out.append(b"\\\"")
+        out.print(b"\\\"");
     } else if item == 92 {
-        out.append(b"\\\\")
+        out.print(b"\\\\");
     } else if item == 10 || item == 256 {
-        out.append(b"\\n")
+        out.print(b"\\n");
     } else if is_plain(item) {
-        write_byte(out, item)
+        write_byte(out, item);
     } else {
-        write_hex(out, item)
+        write_hex(out, item);
     }
 }
 
-/// Appends a value of the type char.
-pub(crate) fn write_char(out: &mut Bytes, ordinal: u32) -> Result<(), AllocError>
-    ensures { OnOk result (out.new ≡ out.old ++ shown_char ordinal) }
+/// Prints a value of the type char.
+pub(crate) fn write_char<P: Printer>(out: &mut P, ordinal: u32)
+    ensures { Prints (P.printout out.old) (P.printout out.new) (shown_char ordinal) }
 {
     if ordinal == 39 {
-        out.append(b"''''")
+        out.print(b"''''");
     } else if is_plain(ordinal) {
-        out.append(b"'")?;
-        write_byte(out, ordinal)?;
-        out.append(b"'")
+        out.print(b"'");
+        write_byte(out, ordinal);
+        out.print(b"'");
     } else {
-        out.append(b"chr(")?;
-        write_number(out, ordinal)?;
-        out.append(b")")
+        out.print(b"chr(");
+        write_number(out, ordinal);
+        out.print(b")");
     }
 }
 
-/// Appends bytes as they stand between quotation marks.
-fn write_bytes(out: &mut Bytes, bytes: &[u8]) -> Result<(), AllocError>
-    ensures { OnOk result (out.new ≡ out.old ++ flat_map escaped bytes.now) }
+/// Prints bytes as they stand between quotation marks.
+fn write_bytes<P: Printer>(out: &mut P, bytes: &[u8])
+    ensures { Prints (P.printout out.old) (P.printout out.new) (flat_map escaped bytes.now) }
 {
     'bytes: for byte in bytes {
-        write_escaped(out, u32::from(*byte))?;
+        write_escaped(out, u32::from(*byte));
     }
-    Ok(())
 }
 
-/// Appends the items of the input from one place to before another as they stand between quotation marks.
-fn write_items(out: &mut Bytes, items: &Items, from: u32, to: u32) -> Result<(), AllocError>
+/// Prints the items of the input from one place to before another as they stand between quotation marks.
+fn write_items<P: Printer>(out: &mut P, items: &Items, from: u32, to: u32)
     requires in_order { from ≤ to }
     requires in_input { to ≤ length items.now }
-    ensures { OnOk result (out.new ≡ out.old ++ flat_map escaped (slice_range items.now from to)) }
+    ensures { Prints (P.printout out.old) (P.printout out.new) (flat_map escaped (slice_range items.now from to)) }
 {
     'items: for place in from..to {
-        write_escaped(out, u32::from(items.at(place)))?;
+        write_escaped(out, u32::from(items.at(place)));
     }
-    Ok(())
 }
 
-/// Appends bytes in quotation marks.
-pub fn write_quoted(out: &mut Bytes, bytes: &[u8]) -> Result<(), AllocError>
-    ensures { OnOk result (out.new ≡ out.old ++ in_quotation_marks bytes.now) }
+/// Prints bytes in quotation marks.
+pub fn write_quoted<P: Printer>(out: &mut P, bytes: &[u8])
+    ensures { Prints (P.printout out.old) (P.printout out.new) (in_quotation_marks bytes.now) }
 {
-    out.append(b"\"")?;
-    write_bytes(out, bytes)?;
-    out.append(b"\"")
+    out.print(b"\"");
+    write_bytes(out, bytes);
+    out.print(b"\"");
 }
 
-/// Appends items of the input in quotation marks: those from one place to before another.
-pub fn write_quoted_items(
-    out: &mut Bytes,
-    items: &Items,
-    from: u32,
-    to: u32,
-) -> Result<(), AllocError>
+/// Prints items of the input in quotation marks: those from one place to before another.
+pub fn write_quoted_items<P: Printer>(out: &mut P, items: &Items, from: u32, to: u32)
     requires in_order { from ≤ to }
     requires in_input { to ≤ length items.now }
-    ensures { OnOk result (out.new ≡ out.old ++ in_quotation_marks (slice_range items.now from to)) }
+    ensures { Prints (P.printout out.old) (P.printout out.new) (in_quotation_marks (slice_range items.now from to)) }
 {
-    out.append(b"\"")?;
-    write_items(out, items, from, to)?;
-    out.append(b"\"")
+    out.print(b"\"");
+    write_items(out, items, from, to);
+    out.print(b"\"");
 }

@@ -1,6 +1,7 @@
 //! Values by their types.
 
-ghost use Rattle.std.specs.Prelude.{◌&&◌, ◌++◌, ◌+◌, ◌<◌, ◌≡◌, IfOk, OnOk, int_le, true};
+ghost use Rattle.std.specs.Prelude.{◌&&◌, ◌+◌, ◌<◌, ◌≡◌, int_le, true};
+ghost use Rattle.edge_ports.specs.Printouts.{Prints, PrintsAllBut};
 ghost use Rattle.cell_value.specs.Sets.{has};
 ghost use Rattle.cell_names.specs.Values.{bounds_of, constant_text, constant_token, host_text, member_text};
 ghost use Rattle.cell_names.specs.Values.{members_from, members_text, number_text, ordinal_text, pointer_text};
@@ -10,8 +11,7 @@ use crate::pieces::{write_char, write_integer, write_long, write_number};
 use cell_value::{SetBits, Value, holds};
 use core_program::Program;
 use core_program::rows::{BOOLEAN, CHAR, INTEGER, TypeRow};
-use edge_ports::Bytes;
-use std::alloc::AllocError;
+use edge_ports::Printer;
 
 /// The values of an ordinal type: those of its host type from one ordinal to another.
 #[derive(Clone, Copy)]
@@ -54,43 +54,33 @@ pub(crate) fn constant_token(host: u32, ordinal: u32) -> u32
         .saturating_add(ordinal.saturating_mul(2))
 }
 
-/// Appends the constant of an ordinal of a type other than integer.
-fn write_constant(
-    out: &mut Bytes,
-    program: &Program,
-    host: u32,
-    ordinal: u32,
-) -> Result<(), AllocError>
-    ensures { OnOk result (out.new ≡ out.old ++ constant_text program.now host ordinal) }
+/// Prints the constant of an ordinal of a type other than integer.
+fn write_constant<P: Printer>(out: &mut P, program: &Program, host: u32, ordinal: u32)
+    ensures { Prints (P.printout out.old) (P.printout out.new) (constant_text program.now host ordinal) }
 {
     if host == BOOLEAN {
         if ordinal == 0 {
-            out.append(b"false")
+            out.print(b"false");
         } else {
-            out.append(b"true")
+            out.print(b"true");
         }
     } else if host == CHAR {
-        write_char(out, ordinal)
+        write_char(out, ordinal);
     } else {
-        out.append(program.text(constant_token(host, ordinal)))
+        out.print(program.text(constant_token(host, ordinal)));
     }
 }
 
-/// Appends a value of a host type by its ordinal.
-fn write_of_host(
-    out: &mut Bytes,
-    program: &Program,
-    host: u32,
-    ordinal: i32,
-) -> Result<(), AllocError>
-    ensures { OnOk result (out.new ≡ out.old ++ host_text program.now host ordinal) }
+/// Prints a value of a host type by its ordinal.
+fn write_of_host<P: Printer>(out: &mut P, program: &Program, host: u32, ordinal: i32)
+    ensures { Prints (P.printout out.old) (P.printout out.new) (host_text program.now host ordinal) }
 {
     if host == INTEGER {
-        write_integer(out, ordinal)
+        write_integer(out, ordinal);
     } else if ordinal < 0 {
-        out.append(b"?")
+        out.print(b"?");
     } else {
-        write_constant(out, program, host, ordinal as u32)
+        write_constant(out, program, host, ordinal as u32);
     }
 }
 
@@ -101,41 +91,30 @@ pub(crate) fn has_ordinal(bounds: Bounds, ordinal: i64) -> bool
     i64::from(bounds.least) <= ordinal && ordinal <= i64::from(bounds.greatest)
 }
 
-/// Appends a value of an ordinal type by its ordinal.
-pub(crate) fn write_ordinal(
-    out: &mut Bytes,
-    program: &Program,
-    of: u32,
-    ordinal: i64,
-) -> Result<(), AllocError>
-    ensures { OnOk result (out.new ≡ out.old ++ ordinal_text program.now of ordinal) }
+/// Prints a value of an ordinal type by its ordinal.
+pub(crate) fn write_ordinal<P: Printer>(out: &mut P, program: &Program, of: u32, ordinal: i64)
+    ensures { Prints (P.printout out.old) (P.printout out.new) (ordinal_text program.now of ordinal) }
 {
     match bounds_of(program, of) {
-        None => out.append(b"?"),
+        None => out.print(b"?"),
         Some(bounds) => {
             if has_ordinal(bounds, ordinal) {
-                write_of_host(out, program, bounds.host, ordinal as i32)
+                write_of_host(out, program, bounds.host, ordinal as i32);
             } else {
-                out.append(b"?")
+                out.print(b"?");
             }
         }
     }
 }
 
-/// Appends a member of a set after those before it.
-fn write_member(
-    out: &mut Bytes,
-    program: &Program,
-    base: u32,
-    first: bool,
-    ordinal: u32,
-) -> Result<(), AllocError>
-    ensures { OnOk result (out.new ≡ out.old ++ member_text program.now base first ordinal) }
+/// Prints a member of a set after those before it.
+fn write_member<P: Printer>(out: &mut P, program: &Program, base: u32, first: bool, ordinal: u32)
+    ensures { Prints (P.printout out.old) (P.printout out.new) (member_text program.now base first ordinal) }
 {
     if !first {
-        out.append(b", ")?;
+        out.print(b", ");
     }
-    write_ordinal(out, program, base, i64::from(ordinal))
+    write_ordinal(out, program, base, i64::from(ordinal));
 }
 
 /// Whether a set has an ordinal.
@@ -145,98 +124,83 @@ fn is_member(set: SetBits, ordinal: u32) -> bool
     holds(set, i64::from(ordinal))
 }
 
-/// Appends an ordinal if it is a member of a set, and says whether the next member is the first.
-fn write_if_member(
-    out: &mut Bytes,
+/// Prints an ordinal if it is a member of a set, and says whether the next member is the first.
+fn write_if_member<P: Printer>(
+    out: &mut P,
     program: &Program,
     base: u32,
     set: SetBits,
     first: bool,
     ordinal: u32,
-) -> Result<bool, AllocError>
+) -> bool
     requires { ordinal < 256 }
-    ensures { IfOk result (λ next. out.new ++ members_text program.now base next (members_from set (ordinal + 1))
-        ≡ out.old ++ members_text program.now base first (members_from set ordinal)) }
+    ensures { PrintsAllBut (P.printout out.old) (members_text program.now base first (members_from set ordinal))
+        (P.printout out.new) (members_text program.now base result (members_from set (ordinal + 1))) }
 {
     if is_member(set, ordinal) {
-        write_member(out, program, base, first, ordinal)?;
-        return Ok(false);
+        write_member(out, program, base, first, ordinal);
+        return false;
     }
-    Ok(first)
+    first
 }
 
-/// Appends the members of a set.
-fn write_members(
-    out: &mut Bytes,
-    program: &Program,
-    base: u32,
-    set: SetBits,
-) -> Result<(), AllocError>
-    ensures { OnOk result (out.new ≡ out.old ++ members_text program.now base true (members_from set 0)) }
+/// Prints the members of a set.
+fn write_members<P: Printer>(out: &mut P, program: &Program, base: u32, set: SetBits)
+    ensures { Prints (P.printout out.old) (P.printout out.new)
+        (members_text program.now base true (members_from set 0)) }
 {
     let mut first = true;
     'members: for ordinal in 0..256u32 {
-        first = write_if_member(out, program, base, set, first, ordinal)?;
+        first = write_if_member(out, program, base, set, first, ordinal);
     }
-    Ok(())
 }
 
-/// Appends a set with this base type.
-fn write_set(out: &mut Bytes, program: &Program, base: u32, set: SetBits) -> Result<(), AllocError>
-    ensures { OnOk result (out.new ≡ out.old ++ set_text program.now base set) }
+/// Prints a set with this base type.
+fn write_set<P: Printer>(out: &mut P, program: &Program, base: u32, set: SetBits)
+    ensures { Prints (P.printout out.old) (P.printout out.new) (set_text program.now base set) }
 {
-    out.append(b"[")?;
-    write_members(out, program, base, set)?;
-    out.append(b"]")
+    out.print(b"[");
+    write_members(out, program, base, set);
+    out.print(b"]");
 }
 
-/// Appends a value of a set type with this base type.
-fn write_set_value(
-    out: &mut Bytes,
-    program: &Program,
-    base: u32,
-    value: Value,
-) -> Result<(), AllocError>
-    ensures { OnOk result (out.new ≡ out.old ++ set_value_text program.now base value) }
+/// Prints a value of a set type with this base type.
+fn write_set_value<P: Printer>(out: &mut P, program: &Program, base: u32, value: Value)
+    ensures { Prints (P.printout out.old) (P.printout out.new) (set_value_text program.now base value) }
 {
     match value {
         Value::Bits(set) => write_set(out, program, base, set),
-        _ => out.append(b"?"),
+        _ => out.print(b"?"),
     }
 }
 
-/// Appends a value of an ordinal type.
-fn write_number_of(
-    out: &mut Bytes,
-    program: &Program,
-    of: u32,
-    value: Value,
-) -> Result<(), AllocError>
-    ensures { OnOk result (out.new ≡ out.old ++ number_text program.now of value) }
+/// Prints a value of an ordinal type.
+fn write_number_of<P: Printer>(out: &mut P, program: &Program, of: u32, value: Value)
+    ensures { Prints (P.printout out.old) (P.printout out.new) (number_text program.now of value) }
 {
     match value {
         Value::Number(ordinal) => write_ordinal(out, program, of, ordinal),
-        _ => out.append(b"?"),
+        _ => out.print(b"?"),
     }
 }
 
-/// Appends a pointer.
-fn write_pointer(out: &mut Bytes, value: Value) -> Result<(), AllocError>
-    ensures { OnOk result (out.new ≡ out.old ++ pointer_text value) }
+/// Prints a pointer.
+fn write_pointer<P: Printer>(out: &mut P, value: Value)
+    ensures { Prints (P.printout out.old) (P.printout out.new) (pointer_text value) }
 {
     match value {
-        Value::Nil => out.append(b"nil"),
+        Value::Nil => out.print(b"nil"),
         Value::Heap(address) => {
-            out.append(b"^")?;
-            write_number(out, address.saturating_sub(524_287))
+            out.print(b"^");
+            write_number(out, address.saturating_sub(524_287));
         }
-        _ => out.append(b"?"),
+        _ => out.print(b"?"),
     }
 }
 
-/// Appends a value of which no type is known: a number or a pointer.
-pub fn write_untyped(out: &mut Bytes, value: Value) -> Result<(), AllocError>
-    ensures { OnOk result (out.new ≡ out.old ++ untyped_text value) }
+/// Prints a value of which no type is known: a number or a pointer.
+pub fn write_untyped<P: Printer>(out: &mut P, value: Value)
+    ensures { Prints (P.printout out.old) (P.printout out.new) (untyped_text value) }
 {
     match value {
         Value::Number(number) => write_long(out, number),
@@ -244,20 +208,15 @@ pub fn write_untyped(out: &mut Bytes, value: Value) -> Result<(), AllocError>
     }
 }
 
-/// Appends a value of a type.
-pub fn write_typed(
-    out: &mut Bytes,
-    program: &Program,
-    of: u32,
-    value: Value,
-) -> Result<(), AllocError>
-    ensures { OnOk result (out.new ≡ out.old ++ typed_text program.now of value) }
+/// Prints a value of a type.
+pub fn write_typed<P: Printer>(out: &mut P, program: &Program, of: u32, value: Value)
+    ensures { Prints (P.printout out.old) (P.printout out.new) (typed_text program.now of value) }
 {
     match program.type_row(of) {
         Some(TypeRow::Ordinal { .. }) => write_number_of(out, program, of, value),
         Some(TypeRow::Subrange { .. }) => write_number_of(out, program, of, value),
         Some(TypeRow::Set { base, .. }) => write_set_value(out, program, base, value),
         Some(TypeRow::Pointer { .. }) => write_pointer(out, value),
-        _ => out.append(b"?"),
+        _ => out.print(b"?"),
     }
 }

@@ -5,7 +5,7 @@ use Rattle.std.specs.Prelude.{unwrap_or}
 use Rattle.std.proofs.lemmas.{Bool.Decides.nat_tests, List.get_or-set_other, List.get_or-set_same, Option.unwrap_or-slice_get}
 use Rattle.check_steps.proofs.Chains.{got_before}
 use Rattle.check_steps.specs.{Frames.frame_in, declared.regions.Frame.Frame}
-use Rattle.check_steps.specs.Around.{IsBook, IsKept, around, first_around, is_among, is_around, kept_in, later, latest, reach}
+use Rattle.check_steps.specs.Around.{Falls, IsBook, IsKept, around, first_around, is_among, is_around, kept_in, later, latest, reach}
 
 -- ---- the first frame outward
 
@@ -309,6 +309,12 @@ kept-first b fs shadowed inner at f rs e k is =
     ap (λ o. fold (λ best r. later best (kept_in inner r)) o rs) (sym (passes-none (suc f) fs (Some f)))
     ∙ best-of fs shadowed inner f book rs (λ x. false)
     ∙ enough fs (is_among rs) book.falls (suc f) (length fs) (Some f) (omega arith) (omega (arith, w))
+
+-- ---- the order of frames
+
+pub kept-falls : (b : Bool) (fs : List Frame) (shadowed inner : List (Option ℕ)) (at : Option ℕ) → b ≡ true → IsKept b fs shadowed inner at → Falls fs
+unfolding Falls
+kept-falls b fs shadowed inner at e k = let book = booked b fs shadowed inner at e k in book.falls
 
 -- ---- a frame of one region
 

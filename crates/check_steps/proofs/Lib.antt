@@ -12,4 +12,5 @@ pub mod FirstThreat
 pub mod SectionLists
 pub mod Seen
 pub mod Answered
+pub mod Falls
 pub mod Recalls

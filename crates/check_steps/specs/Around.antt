@@ -30,6 +30,10 @@ reach (Some f) = suc f
 abbrev pub around : List Frame → (ℕ → Bool) → Option ℕ → Option ℕ
 around fs test at = first_around (reach at) fs test at
 
+-- Each frame comes after the one around it.
+unfoldable pub Falls : List Frame → Type 0
+Falls fs = (f : ℕ) → reach (frame_in fs f).outer ≤ f
+
 abbrev pub kept_in : List (Option ℕ) → ℕ → Option ℕ
 kept_in kept n = unwrap_or (slice_get kept n) None
 

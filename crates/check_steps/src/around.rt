@@ -1,7 +1,7 @@
 //! Frames, and for one of them which frames are around it: names are looked up there.
 
 ghost use Rattle.std.specs.Prelude.{◌++◌, ◌+◌, ◌∷◌, ◌≡◌, ◌≤◌, [], IfSome, None, OnOk, Some, length, slice_set, true};
-ghost use Rattle.check_steps.specs.Around.{first_around, is_among, is_around, kept_in, later, latest};
+ghost use Rattle.check_steps.specs.Around.{Falls, first_around, is_among, is_around, kept_in, later, latest};
 ghost use Rattle.check_steps.specs.Frames.{Leads, frame_in};
 
 use crate::frames::{Beyond, Frames};
@@ -65,27 +65,29 @@ fn is_same(left: Option<u32>, right: Option<u32>) -> bool
     }
 }
 
-/// The greater of two numbers, where there is one. Mostly the right one is None, so that is told first.
-#[tactic(auto, using(crate::proofs::Books::later_none))]
-fn later(left: Option<u32>, right: Option<u32>) -> Option<u32>
-    ensures { result ≡ later left right }
+/// The greater of two numbers, where there is a first one.
+#[inline(never)]
+fn later(best: Option<u32>, frame: u32) -> Option<u32>
+    ensures { result ≡ later best (Some frame) }
 {
-    let Some(b) = right else {
-        return left;
-    };
-    match left {
-        None => right,
-        Some(a) => if a < b { right } else { left },
+    match best {
+        None => Some(frame),
+        Some(a) => if a < frame { Some(frame) } else { best },
     }
 }
 
-/// The innermost frame of those that are kept for these regions.
+/// The innermost frame of those that are kept for these regions. Of most regions none is: `later` is not inlined, so
+/// that nothing is worked out for these.
+#[tactic(auto, using(crate::proofs::Books::later_none))]
 fn latest(kept: &[Option<u32>], regions: &[u32]) -> Option<u32>
     ensures { result ≡ latest kept.now regions.now }
 {
     let mut best = None;
     'regions: for i in 0..regions.len() {
-        best = later(best, kept_in(kept, regions[i]));
+        let Some(frame) = kept_in(kept, regions[i]) else {
+            continue;
+        };
+        best = later(best, frame);
     }
     best
 }
@@ -186,6 +188,13 @@ impl Around {
         } else {
             false
         }
+    }
+
+    /// Whether each frame is known to come after the one around it: false says nothing.
+    pub(crate) fn is_ordered(&self) -> bool
+        ensures { result ≡ true → Falls self.now }
+    {
+        self.fits
     }
 
     /// Goes from the frame where one is into one inside it, and tells whether it could.

@@ -6,16 +6,17 @@ ghost use Rattle.check_steps.specs.{Around.is_among, Homes.homes_of};
 
 use indexmap::IndexMap;
 use std::alloc::{AllocError, Global};
+use std::hash::BuildHasher;
 use std::marker::Model;
 
 /// By number, a list of regions. Clauses see the list of each number.
 #[derive(Drop)]
-pub(crate) struct Homes {
+pub(crate) struct Homes<S: BuildHasher> {
     alloc: Global,
-    regions: IndexMap<u32, Vec<u32>>,
+    regions: IndexMap<u32, Vec<u32>, S>,
 }
 
-impl Model for Homes {
+impl<S: BuildHasher> Model for Homes<S> {
     ghost use Rattle.std.specs.{Prelude.ℕ, Prelude.List, Global.Vec};
 
     ghost Value = { List (ℕ × Vec ℕ) };
@@ -23,14 +24,14 @@ impl Model for Homes {
     ghost view = { λ h. h.regions.entries };
 }
 
-impl Homes {
+impl<S: BuildHasher> Homes<S> {
     /// No regions.
-    pub(crate) fn new(alloc: Global) -> Self
+    pub(crate) fn new(alloc: Global, hasher: S) -> Self
         ensures { result ≡ [] }
     {
         Homes {
             alloc,
-            regions: IndexMap::new(alloc),
+            regions: IndexMap::with_hasher(alloc, hasher),
         }
     }
 

@@ -10,6 +10,7 @@ mod frames;
 pub mod headings;
 mod homes;
 pub mod items;
+mod keyed;
 mod recent;
 pub mod regions;
 pub mod required;

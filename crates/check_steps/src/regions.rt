@@ -1,5 +1,6 @@
 //! Regions and frames.
 
+use crate::keyed::Keyed;
 use indexmap::IndexMap;
 
 /// What a name stands for, by a number of the tables.
@@ -64,5 +65,5 @@ pub struct Region {
     /// Its definitions by the numbers of their names, in order.
     pub names: IndexMap<u32, Definition>,
     /// Of a block, the tokens that declare its labels, by the labels' values.
-    pub labels: IndexMap<u32, u32>,
+    pub labels: IndexMap<u32, u32, Keyed>,
 }

@@ -5,9 +5,11 @@ ghost use Rattle.check_steps.specs.{Around.is_among, Homes.with_definition, Home
 ghost use Rattle.check_steps.specs.Regions.{declared_in, defined_in, fresh_region, region_at};
 
 use crate::homes::Homes;
+use crate::keyed::Keyed;
 use crate::regions::{Definition, Region};
 use indexmap::IndexMap;
 use std::alloc::{AllocError, Global};
+use std::hash::{BuildHasherDefault, FoldHasher};
 use std::marker::Model;
 
 /// Regions by their numbers. Clauses see the list of them.
@@ -15,9 +17,11 @@ use std::marker::Model;
 pub(crate) struct Scopes {
     regions: Vec<Region>,
     /// By name, regions: all that define it are among them.
-    homes: Homes,
+    homes: Homes<BuildHasherDefault<FoldHasher>>,
     /// By value, regions: all that declare a label of it are among them.
-    label_homes: Homes,
+    label_homes: Homes<Keyed>,
+    /// The hash of values, which a source chooses.
+    keyed: Keyed,
 }
 
 impl Model for Scopes {
@@ -34,13 +38,14 @@ impl Model for Scopes {
 
 impl Scopes {
     /// No regions.
-    pub(crate) fn new(alloc: Global) -> Self
+    pub(crate) fn new(alloc: Global, keyed: Keyed) -> Self
         ensures { result ≡ [] }
     {
         Scopes {
             regions: Vec::new(alloc),
-            homes: Homes::new(alloc),
-            label_homes: Homes::new(alloc),
+            homes: Homes::new(alloc, BuildHasherDefault::new()),
+            label_homes: Homes::new(alloc, keyed),
+            keyed,
         }
     }
 
@@ -114,7 +119,7 @@ impl Scopes {
             token,
             frame,
             names: IndexMap::new(alloc),
-            labels: IndexMap::new(alloc),
+            labels: IndexMap::with_hasher(alloc, self.keyed),
         })?;
         Ok(())
     }

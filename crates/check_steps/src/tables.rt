@@ -1,18 +1,20 @@
 //! The tables that a check fills.
 
 ghost use Rattle.std.specs.Prelude.{◌++◌, ◌+◌, ◌<◌, ◌^◌, ◌∷◌, ◌≡◌, ℕ, IfOk, IfSome, None, OnOk, Some, length, true};
-ghost use Rattle.check_steps.specs.{Around.is_around, Frames.Leads, Headings.congruous, Names.usable};
-ghost use Rattle.check_steps.specs.{Words.known_at_start, Words.number_of_name, declared.regions.Found.Found};
+ghost use Rattle.check_steps.specs.{Around.Falls, Around.is_around, Frames.Leads, Headings.congruous, Names.usable};
 ghost use Rattle.check_steps.specs.Known.{and_choice, and_control, and_definition, and_frame, and_label, and_region};
 ghost use Rattle.check_steps.specs.Known.{and_routine, and_threat, find, find_label, found_in, frame_at, in_block};
 ghost use Rattle.check_steps.specs.Known.{is_chosen, is_control, label_at, line_at, name_at, row_at, spelled_at};
 ghost use Rattle.check_steps.specs.Known.{threat_of, type_at, with_routine, with_row, without_control, word_at};
 ghost use Rattle.check_steps.specs.Regions.{declared_in, defined_in, region_at};
+ghost use Rattle.check_steps.specs.Words.{known_at_start, number_of_name};
+ghost use Rattle.check_steps.specs.declared.{recent.Recalled.Recalled, regions.Found.Found};
 
 use crate::around::Around;
 use crate::compared::Compared;
 use crate::frames::Beyond;
-use crate::recent::{Recalled, Recent};
+use crate::keyed::Keyed;
+use crate::recent::{FromFrame, Recalled, Recent};
 use crate::regions::{Definition, Found, Frame, Span};
 use crate::scopes::Scopes;
 use crate::threats::Threats;
@@ -24,13 +26,25 @@ use pas_lexer::Tokens;
 use std::alloc::{AllocError, Global};
 use std::marker::Model;
 
-/// Of so few regions that may define a name all are looked at each time.
+/// What is looked up in so few steps is not recalled.
 const FEW: usize = 64;
+/// So many frames outward is what uses of a name close to one another find first.
+const NEAR: usize = 4;
+/// So many frames outward is looked for what is recalled.
+const FAR: usize = 256;
+
+/// Whether something is recalled for this frame.
+fn is_of(recalled: Option<Recalled>, frame: u32) -> bool {
+    match recalled {
+        Some(recalled) => recalled.near.frame == frame || recalled.far.frame == frame,
+        None => false,
+    }
+}
 
 /// What is known of a program.
 #[derive(Drop)]
 pub struct Tables {
-    names: IndexSet<Vec<u8>>,
+    names: IndexSet<Vec<u8>, Keyed>,
     words: Vec<SpelledToken>,
     program: Compared,
     regions: Scopes,
@@ -39,7 +53,7 @@ pub struct Tables {
     controls: Vec<u32>,
     threats: Threats,
     block: Span,
-    choices: IndexSet<(u32, i32)>,
+    choices: IndexSet<(u32, i32), Keyed>,
 }
 
 impl Model for Tables {
@@ -76,7 +90,8 @@ impl Tables {
         if count >= u32::MAX - REQUIRED_NAMES {
             return Err(AllocError);
         }
-        let names = names(alloc, tokens)?;
+        let keyed = Keyed::of(tokens);
+        let names = names(alloc, keyed, tokens)?;
         if names.len() > u32::MAX as usize {
             return Err(AllocError);
         }
@@ -88,7 +103,7 @@ impl Tables {
             names,
             words,
             program: Compared::new(alloc, program),
-            regions: Scopes::new(alloc),
+            regions: Scopes::new(alloc, keyed),
             frames: Around::new(alloc),
             recent: Recent::new(alloc),
             controls: Vec::new(alloc),
@@ -97,7 +112,7 @@ impl Tables {
                 first: 0,
                 statements: 0,
             },
-            choices: IndexSet::new(alloc),
+            choices: IndexSet::with_hasher(alloc, keyed),
         })
     }
 
@@ -238,9 +253,14 @@ impl Tables {
         if number >= u32::MAX as usize {
             return Err(AllocError);
         }
-        self.recent.forget();
-        self.frames.push(frame)?;
-        Ok(number as u32)
+        self.recent.keep_if(self.frames.is_ordered());
+        match self.frames.push(frame) {
+            Ok(()) => Ok(number as u32),
+            Err(error) => {
+                self.recent.forget();
+                Err(error)
+            }
+        }
     }
 
     /// How many regions there are.
@@ -380,32 +400,52 @@ impl Tables {
         }
     }
 
-    /// Whether a way through the blocks and with statements around a frame is shorter than one through all regions that
-    /// may define a name.
-    fn is_common(&self, frame: u32, name: u32) -> bool {
+    /// About how many steps it takes to go outward through all blocks and with statements around a frame. To look at a
+    /// region that may define a name takes one.
+    fn way_out(&self, frame: u32) -> usize {
         let around = self.frame(frame);
-        8 * (around.level as usize + around.withs as usize) < self.regions.homes(name).len()
+        8 * (around.level as usize + around.withs as usize)
     }
 
     /// The definition in the closest region around, by the way that seems shorter.
     fn find_shorter(&self, frame: u32, name: u32) -> Option<Found>
         ensures { result ≡ find self.now frame name }
     {
-        if self.is_common(frame, name) {
+        if self.way_out(frame) < self.regions.homes(name).len() {
             self.find_outward(frame, name)
         } else {
             self.find_home(frame, name)
         }
     }
 
-    /// What was found of a name, if it was looked up in this frame last.
+    /// About how many steps that takes.
+    fn steps(&self, frame: u32, name: u32) -> usize {
+        self.way_out(frame).min(self.regions.homes(name).len())
+    }
+
+    /// How many frames outward may be looked at for what is recalled: half of those steps at most.
+    fn reach(&self, frame: u32, name: u32) -> usize {
+        (self.steps(frame, name) / 16).min(FAR)
+    }
+
+    /// What is recalled of a name.
+    fn recalled_of(&self, name: u32) -> Option<Recalled>
+        ensures near { (r : Recalled) → result ≡ Some r → r.near.found ≡ find self.now r.near.frame name }
+        ensures far { (r : Recalled) → result ≡ Some r → r.far.found ≡ find self.now r.far.frame name }
+    {
+        self.recent.of(name)
+    }
+
+    /// What is found of a name from a frame, if that is recalled.
     fn recalled(&self, frame: u32, name: u32) -> Option<Option<Found>>
         ensures { IfSome result (λ found. found ≡ find self.now frame name) }
     {
-        match self.recent.of(name) {
+        match self.recalled_of(name) {
             Some(recalled) => {
-                if recalled.frame == frame {
-                    Some(recalled.found)
+                if recalled.near.frame == frame {
+                    Some(recalled.near.found)
+                } else if recalled.far.frame == frame {
+                    Some(recalled.far.found)
                 } else {
                     None
                 }
@@ -414,30 +454,68 @@ impl Tables {
         }
     }
 
-    /// What is found of a name is recalled from now on.
-    fn recall(&mut self, frame: u32, name: u32)
-        ensures { self.new ≡ self.old }
-    {
-        let found = self.find_shorter(frame, name);
-        self.recent.put(name, Recalled { frame, found });
-    }
-
-    /// The definition in the closest region around, which may be recalled.
-    fn find_beyond(&self, frame: u32, name: u32) -> Option<Found>
-        ensures { result ≡ find self.now frame name }
+    /// What is found from a frame, if that is recalled or the region of the frame itself defines the name.
+    fn find_close(&self, frame: u32, name: u32) -> Option<Option<Found>>
+        ensures { IfSome result (λ found. found ≡ find self.now frame name) }
     {
         match self.recalled(frame, name) {
-            Some(found) => found,
-            None => self.find_shorter(frame, name),
+            Some(found) => Some(found),
+            None => match self.find_here(frame, name) {
+                Some(found) => Some(Some(found)),
+                None => None,
+            },
         }
     }
 
-    /// Whether it takes long to look a name up: many regions may define it, and nothing is recalled of it.
-    fn is_dear(&self, frame: u32, name: u32) -> bool {
-        self.regions.homes(name).len() > FEW
-            && self.find_here(frame, name).is_none()
-            && self.recalled(frame, name).is_none()
-            && !self.is_common(frame, name)
+    /// Whether each frame is known to come after the one around it: false says nothing.
+    fn is_ordered(&self) -> bool
+        ensures { result ≡ true → Falls self.now.frames }
+    {
+        self.frames.is_ordered()
+    }
+
+    /// The frame around a frame whose region doesn't define a name, if the same is known to be found from there.
+    #[tactic(auto, using(crate::proofs::Falls::passing))]
+    fn passed(&self, frame: u32, name: u32) -> Option<u32>
+        ensures { (outer : ℕ) → result ≡ Some outer → find self.now outer name ≡ find self.now frame name }
+    {
+        if self.is_ordered() && self.found_in(frame, name).is_none() {
+            self.frame(frame).outer
+        } else {
+            None
+        }
+    }
+
+    /// A frame at most this many frames outward, from which the same is found: the first for which it is recalled or
+    /// whose region defines the name, if there is one.
+    fn outward(&self, frame: u32, name: u32, most: usize) -> u32
+        ensures { find self.now result name ≡ find self.now frame name }
+    {
+        let recalled = self.recent.of(name);
+        let mut at = frame;
+        'frames: for _ in 0..most {
+            if is_of(recalled, at) {
+                break;
+            }
+            let Some(outer) = self.passed(at, name) else {
+                break;
+            };
+            at = outer;
+        }
+        at
+    }
+
+    /// The definition in the closest region around, which may be recalled for a frame close by, or for one as far
+    /// outward from there as `recall` goes.
+    fn find_beyond(&self, frame: u32, name: u32) -> Option<Found>
+        ensures { result ≡ find self.now frame name }
+    {
+        let most = self.reach(frame, name);
+        let last = self.outward(frame, name, most.saturating_add(most.min(NEAR)));
+        match self.find_close(last, name) {
+            Some(found) => found,
+            None => self.find_shorter(frame, name),
+        }
     }
 
     /// The definition in the closest region around that defines a name, a frame's own region being the closest.
@@ -450,13 +528,69 @@ impl Tables {
         }
     }
 
+    /// This is recalled of a name from now on, if there are such frames.
+    fn keep(&mut self, name: u32, recalled: Recalled)
+        requires near { recalled.near.found ≡ find self.old recalled.near.frame name }
+        requires far { recalled.far.found ≡ find self.old recalled.far.frame name }
+        ensures { self.new ≡ self.old }
+    {
+        let most = self.frames();
+        if (recalled.near.frame as usize) < most && (recalled.far.frame as usize) < most {
+            self.recent.put(name, recalled);
+        }
+    }
+
+    /// What is found of a name from a frame is recalled from now on, beside what is recalled of a frame further out.
+    fn keep_near(&mut self, name: u32, near: FromFrame)
+        requires { near.found ≡ find self.old near.frame name }
+        ensures { self.new ≡ self.old }
+    {
+        match self.recalled_of(name) {
+            Some(recalled) => self.keep(
+                name,
+                Recalled {
+                    near,
+                    far: recalled.far,
+                },
+            ),
+            None => self.keep(name, Recalled { near, far: near }),
+        }
+    }
+
+    /// What is found of a name from a frame, and so from two others outward, is recalled for these from now on.
+    fn keep_both(&mut self, frame: u32, near: u32, far: u32, name: u32)
+        requires near { find self.old near name ≡ find self.old frame name }
+        requires far { find self.old far name ≡ find self.old near name }
+        ensures { self.new ≡ self.old }
+    {
+        let found = self.find_shorter(frame, name);
+        let near = FromFrame { frame: near, found };
+        let far = FromFrame { frame: far, found };
+        self.keep(name, Recalled { near, far });
+    }
+
+    /// What is found of a name is recalled from now on for a frame near by, and for one further out where it took long.
+    fn recall(&mut self, frame: u32, near: u32, name: u32)
+        requires { find self.old near name ≡ find self.old frame name }
+        ensures { self.new ≡ self.old }
+    {
+        let far = self.outward(near, name, self.reach(frame, name));
+        match self.find_close(far, name) {
+            Some(found) => self.keep_near(name, FromFrame { frame: near, found }),
+            None => self.keep_both(frame, near, far, name),
+        }
+    }
+
     /// Names are looked up in this frame from now on, this one first. What is known of a program stays the same.
     pub fn look_from(&mut self, frame: u32, name: u32)
         ensures { self.new ≡ self.old }
     {
         self.come_to(frame);
-        if self.is_dear(frame, name) {
-            self.recall(frame, name);
+        if self.steps(frame, name) > FEW {
+            let near = self.outward(frame, name, NEAR);
+            if self.find_close(near, name).is_none() {
+                self.recall(frame, near, name);
+            }
         }
     }
 

@@ -6,6 +6,7 @@ ghost use Rattle.check_steps.specs.Words.{kept_text, name_number, names_of, requ
 ghost use Rattle.check_steps.specs.Words.{required_functions, required_names, required_procedures, required_types};
 ghost use Rattle.check_steps.specs.Words.{spelled_by, texts_in, texts_of, with_name, with_name_of, words_of};
 
+use crate::keyed::Keyed;
 use indexmap::IndexSet;
 use pas_lexer::{TokenKind, Tokens};
 use std::alloc::{AllocError, Global};
@@ -34,7 +35,11 @@ pub struct SpelledToken {
 }
 
 /// Adds a name, if it is new.
-fn add_name(alloc: Global, names: &mut IndexSet<Vec<u8>>, name: &[u8]) -> Result<(), AllocError>
+fn add_name(
+    alloc: Global,
+    names: &mut IndexSet<Vec<u8>, Keyed>,
+    name: &[u8],
+) -> Result<(), AllocError>
     ensures { OnOk result (texts_in names.new.keys ≡ with_name (texts_in names.old.keys) name.now) }
 {
     if !names.contains(name) {
@@ -44,7 +49,7 @@ fn add_name(alloc: Global, names: &mut IndexSet<Vec<u8>>, name: &[u8]) -> Result
     Ok(())
 }
 
-fn add_types(alloc: Global, names: &mut IndexSet<Vec<u8>>) -> Result<(), AllocError>
+fn add_types(alloc: Global, names: &mut IndexSet<Vec<u8>, Keyed>) -> Result<(), AllocError>
     ensures { OnOk result (texts_in names.new.keys ≡ fold with_name (texts_in names.old.keys) required_types) }
 {
     add_name(alloc, names, b"integer")?;
@@ -53,7 +58,7 @@ fn add_types(alloc: Global, names: &mut IndexSet<Vec<u8>>) -> Result<(), AllocEr
     Ok(())
 }
 
-fn add_constants(alloc: Global, names: &mut IndexSet<Vec<u8>>) -> Result<(), AllocError>
+fn add_constants(alloc: Global, names: &mut IndexSet<Vec<u8>, Keyed>) -> Result<(), AllocError>
     ensures { OnOk result (texts_in names.new.keys ≡ fold with_name (texts_in names.old.keys) required_constants) }
 {
     add_name(alloc, names, b"false")?;
@@ -62,7 +67,7 @@ fn add_constants(alloc: Global, names: &mut IndexSet<Vec<u8>>) -> Result<(), All
     Ok(())
 }
 
-fn add_functions(alloc: Global, names: &mut IndexSet<Vec<u8>>) -> Result<(), AllocError>
+fn add_functions(alloc: Global, names: &mut IndexSet<Vec<u8>, Keyed>) -> Result<(), AllocError>
     ensures { OnOk result (texts_in names.new.keys ≡ fold with_name (texts_in names.old.keys) required_functions) }
 {
     add_name(alloc, names, b"abs")?;
@@ -77,7 +82,7 @@ fn add_functions(alloc: Global, names: &mut IndexSet<Vec<u8>>) -> Result<(), All
     Ok(())
 }
 
-fn add_procedures(alloc: Global, names: &mut IndexSet<Vec<u8>>) -> Result<(), AllocError>
+fn add_procedures(alloc: Global, names: &mut IndexSet<Vec<u8>, Keyed>) -> Result<(), AllocError>
     ensures { OnOk result (texts_in names.new.keys ≡ fold with_name (texts_in names.old.keys) required_procedures) }
 {
     add_name(alloc, names, b"read")?;
@@ -92,7 +97,7 @@ fn add_procedures(alloc: Global, names: &mut IndexSet<Vec<u8>>) -> Result<(), Al
     Ok(())
 }
 
-fn add_files(alloc: Global, names: &mut IndexSet<Vec<u8>>) -> Result<(), AllocError>
+fn add_files(alloc: Global, names: &mut IndexSet<Vec<u8>, Keyed>) -> Result<(), AllocError>
     ensures { OnOk result (texts_in names.new.keys ≡ fold with_name (texts_in names.old.keys) required_files) }
 {
     add_name(alloc, names, b"input")?;
@@ -101,10 +106,10 @@ fn add_files(alloc: Global, names: &mut IndexSet<Vec<u8>>) -> Result<(), AllocEr
 }
 
 /// The required names.
-fn start_names(alloc: Global) -> Result<IndexSet<Vec<u8>>, AllocError>
+fn start_names(alloc: Global, keyed: Keyed) -> Result<IndexSet<Vec<u8>, Keyed>, AllocError>
     ensures { IfOk result (λ names. texts_in names.keys ≡ required_names) }
 {
-    let mut names = IndexSet::new(alloc);
+    let mut names = IndexSet::with_hasher(alloc, keyed);
     add_types(alloc, &mut names)?;
     add_constants(alloc, &mut names)?;
     add_functions(alloc, &mut names)?;
@@ -116,7 +121,7 @@ fn start_names(alloc: Global) -> Result<IndexSet<Vec<u8>>, AllocError>
 /// Adds the name that a token of this kind and spelling spells, if it spells one.
 fn add_spelling(
     alloc: Global,
-    names: &mut IndexSet<Vec<u8>>,
+    names: &mut IndexSet<Vec<u8>, Keyed>,
     kind: TokenKind,
     spelling: &[u8],
 ) -> Result<(), AllocError>
@@ -129,10 +134,14 @@ fn add_spelling(
 }
 
 /// The spellings of names, each once: the required ones, and the others in the order in which they come.
-pub fn names(alloc: Global, tokens: &Tokens) -> Result<IndexSet<Vec<u8>>, AllocError>
+pub fn names(
+    alloc: Global,
+    keyed: Keyed,
+    tokens: &Tokens,
+) -> Result<IndexSet<Vec<u8>, Keyed>, AllocError>
     ensures { IfOk result (λ names. texts_in names.keys ≡ names_of tokens.now) }
 {
-    let mut names = start_names(alloc)?;
+    let mut names = start_names(alloc, keyed)?;
     'tokens: for i in 0..tokens.len() {
         let token = tokens.at(i);
         add_spelling(alloc, &mut names, token.kind, tokens.spelling(i))?;
@@ -141,7 +150,7 @@ pub fn names(alloc: Global, tokens: &Tokens) -> Result<IndexSet<Vec<u8>>, AllocE
 }
 
 /// The number of a name: its place among the names, and 0 where it is not among them.
-fn number(names: &IndexSet<Vec<u8>>, name: &[u8]) -> u32
+fn number(names: &IndexSet<Vec<u8>, Keyed>, name: &[u8]) -> u32
     requires { index_set_len names.now < 2 ^ 32 }
     ensures { result ≡ name_number (texts_in names.now.keys) name.now }
 {
@@ -152,7 +161,7 @@ fn number(names: &IndexSet<Vec<u8>>, name: &[u8]) -> u32
 }
 
 /// What a token of this kind and spelling spells.
-fn spelling_of(names: &IndexSet<Vec<u8>>, kind: TokenKind, spelling: &[u8]) -> Spelled
+fn spelling_of(names: &IndexSet<Vec<u8>, Keyed>, kind: TokenKind, spelling: &[u8]) -> Spelled
     requires { index_set_len names.now < 2 ^ 32 }
     ensures { result ≡ spelled_by (texts_in names.now.keys) kind spelling.now }
 {
@@ -167,7 +176,7 @@ fn spelling_of(names: &IndexSet<Vec<u8>>, kind: TokenKind, spelling: &[u8]) -> S
 /// What the tokens are.
 pub fn words(
     alloc: Global,
-    names: &IndexSet<Vec<u8>>,
+    names: &IndexSet<Vec<u8>, Keyed>,
     tokens: &Tokens,
 ) -> Result<Vec<SpelledToken>, AllocError>
     requires { index_set_len names.now < 2 ^ 32 }

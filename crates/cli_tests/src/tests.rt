@@ -1,6 +1,6 @@
 //! What no file can say: that the command ends in order wherever memory runs out, and that the native stack suffices.
 use debug_cli::ask_pascal;
-use edge_ports::{Page, Shelf, Tape};
+use edge_ports::{Page, Pieces, Shelf, Tape};
 use std::alloc::Global;
 use std::test::Fail;
 
@@ -21,16 +21,16 @@ fn little_memory(rt: HostRuntime) -> Result<(), Fail> {
     let mut keeper = Shelf::new(alloc, &[])?;
     keeper.put("F", ADDERS)?;
     let mut console = Tape::new(alloc, b"wrong\nwhy\nquit\n", &[])?;
-    let mut screen = Page::new(alloc, 4_096, &[])?;
+    let mut screen = Pieces::new(alloc, Page::new(alloc, 4_096, &[])?)?;
     let status = ask_pascal(alloc, &words, &mut keeper, &mut console, &mut screen);
     assert!(rt; status == 0 || status == 7);
-    assert!(rt; SHOWN.starts_with(screen.given()));
-    assert!(rt; status == 7 || screen.given() == SHOWN);
+    assert!(rt; SHOWN.starts_with(screen.sink().given()));
+    assert!(rt; status == 7 || screen.sink().given() == SHOWN);
     Ok(())
 }
 
 /// What the command says of a program whose statement is this many repeats, each in the one before it.
-fn said_of_repeats(alloc: Global, count: usize) -> Result<Page, Fail> {
+fn said_of_repeats(alloc: Global, count: usize) -> Result<Pieces<Page>, Fail> {
     let mut source = Vec::from_slice(alloc, b"program p; begin ")?;
     for _ in 0..count {
         source.extend_from_slice(b"repeat ")?;
@@ -43,7 +43,7 @@ fn said_of_repeats(alloc: Global, count: usize) -> Result<Page, Fail> {
     let mut keeper = Shelf::new(alloc, &[])?;
     keeper.put("F", &source)?;
     let mut console = Tape::new(alloc, b"", &[])?;
-    let mut screen = Page::new(alloc, 4_096, &[])?;
+    let mut screen = Pieces::new(alloc, Page::new(alloc, 4_096, &[])?)?;
     ask_pascal(alloc, &words, &mut keeper, &mut console, &mut screen);
     Ok(screen)
 }
@@ -64,10 +64,10 @@ fn found_in_repeats(alloc: Global, count: usize) -> Result<Vec<u8>, Fail> {
 fn deepest_repeats(rt: HostRuntime) -> Result<(), Fail> {
     let taken = said_of_repeats(rt.alloc(), 198)?;
     let found = found_in_repeats(rt.alloc(), 198)?;
-    assert_eq!(rt; taken.given(), found.as_slice());
+    assert_eq!(rt; taken.sink().given(), found.as_slice());
     let refused = said_of_repeats(rt.alloc(), 199)?;
     assert_eq!(rt;
-        refused.given(),
+        refused.sink().given(),
         b"refused: TooDeep, line 1, byte 1410\n".as_slice()
     );
     Ok(())

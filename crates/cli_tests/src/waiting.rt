@@ -1,6 +1,6 @@
 //! What no clause says: that the console is asked for more only once each line that it gave got its reply.
 use debug_cli::ask_pascal;
-use edge_ports::{Shelf, StdSink, StdSource};
+use edge_ports::{Pieces, Shelf, StdSink, StdSource};
 use std::cell::Cell;
 use std::io::{self, Read, Write};
 use std::test::Fail;
@@ -78,11 +78,13 @@ fn each_reply_comes_first(rt: HostRuntime) -> Result<(), Fail> {
         typed: &typed,
         seen: 0,
     });
-    let mut screen = StdSink::new(Watched {
+    let watched = StdSink::new(Watched {
         shown: &shown,
         text: &mut text,
     });
+    let mut screen = Pieces::new(alloc, watched)?;
     let status = ask_pascal(alloc, &words, &mut keeper, &mut console, &mut screen);
+    drop(screen);
     assert_eq!(rt; status, 0);
     assert_eq!(rt; typed.get(), LINES.len());
     assert!(rt; text.as_slice() == SHOWN);

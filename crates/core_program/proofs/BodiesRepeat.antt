@@ -22,7 +22,7 @@ use Rattle.core_program.specs.Tree.{ActTree, Address, Cells, Do, Enter, Halt, Ju
 -- ---- how a call's inside may end
 
 -- an end that a record tells: that of a statement, of a function, or by a jump
-abbrev IsCallEnd : End → Type 0
+abbrev pub IsCallEnd : End → Type 0
 IsCallEnd (Ended (Cells vs)) = ⊥
 IsCallEnd (Ended (Address addr)) = ⊥
 IsCallEnd e = Unit {0}
@@ -81,11 +81,11 @@ module _ (p : ProgramRows) where
   frame_returns (ways.NoSteps e t u) = tt
   frame_returns (ways.Worked {f = f} {σ = σ} {q = q} e t u h) = ran_returns h (whole_returns p f σ.top q)
 
-  call_returns : {n f : ℕ} {args : List Value} {σ : State} {r : Result State Call} → RanCall p n f args σ r → IsCallEnd r.end
+  pub call_returns : {n f : ℕ} {args : List Value} {σ : State} {r : Result State Call} → RanCall p n f args σ r → IsCallEnd r.end
   call_returns (ways.Closed c h) = frame_returns h
 
 -- such an end is told by the way out and the result
-end_told : (e : End) → IsCallEnd e → IsProper e → end_of (way_out e) (result_in e) ≡ e
+pub end_told : (e : End) → IsCallEnd e → IsProper e → end_of (way_out e) (result_in e) ≡ e
 end_told (Ended Nothing) h k = refl
 end_told (Ended (Scalar v)) h k = refl
 end_told (Ended (Jump label base)) h k = refl
@@ -206,7 +206,7 @@ ended_redo {y = y} {out = out} g a e b = front_redo y.log y.events a.run.log a.r
 int_self : (i : ℤ) → int_eq i i ≡ true
 int_self i = grind (arith, nat_tests)
 
-nat_self : (n : ℕ) → nat_eq n n ≡ true
+pub nat_self : (n : ℕ) → nat_eq n n ≡ true
 nat_self n = grind (arith, nat_tests)
 
 numbers_self : (ns : List ℕ) → same_numbers ns ns ≡ true
@@ -223,7 +223,7 @@ value_self (Value.Place a) = nat_self a
 value_self (Value.Frame a) = nat_self a
 value_self (Value.Routine f a) = ap (λ b. b && nat_eq a a) (nat_self f) ∙ nat_self a
 
-args_self : (vs : List Value) → same_args vs vs ≡ true
+pub args_self : (vs : List Value) → same_args vs vs ≡ true
 args_self [] = refl
 args_self (v ∷ vs) = ap (λ b. b && same_args vs vs) (value_self v) ∙ args_self vs
 

@@ -20,14 +20,14 @@ use crate::made::made_text;
 use crate::refusals::refuse;
 use crate::status::{Status, give_text};
 use command_words::{Asked, WordFault, read_words};
-use edge_ports::{Keeper, Sink, Source};
+use edge_ports::{Keeper, Printer, Source};
 use std::alloc::Global;
 
 /// The line on words that are refused.
 const USAGE: &[u8] = b"usage: pasask SOURCE [--input F] [--budget N] [--load F]\n";
 
 /// Does what the words mean.
-fn ask<K: Keeper, I: Source, O: Sink>(
+fn ask<K: Keeper, I: Source, O: Printer>(
     alloc: Global,
     words: &[String],
     keeper: &mut K,
@@ -71,7 +71,7 @@ fn ask<K: Keeper, I: Source, O: Sink>(
 /// screen failed; 7 where memory ran out; 8 where the saved session is refused: it is none, or does not fit the run; 9
 /// where 16,777,216 bytes were taken of the console and no end was seen. For 2, 3, 4 and 8 one line says so. A source
 /// is refused that is no program of the language, or that breaks a static rule; its input is not fetched then.
-pub fn ask_pascal<K: Keeper, I: Source, O: Sink>(
+pub fn ask_pascal<K: Keeper, I: Source, O: Printer>(
     alloc: Global,
     words: &[String],
     keeper: &mut K,

@@ -16,7 +16,7 @@ use ask_session::converse;
 use command_words::Request;
 use debuggee::{INPUT_BYTES, SourceProgram, read_source, run_program};
 use dialog_replies::Start;
-use edge_ports::{Bytes, Keeper, Sink, Source};
+use edge_ports::{Bytes, Keeper, Printer, Source};
 use session_file::{Session, digest_of, load};
 use std::alloc::Global;
 
@@ -142,7 +142,7 @@ fn digest(bytes: &[u8]) -> [u8; 32]
 }
 
 /// Runs the program and asks about it on the console.
-pub fn ask_about<K: Keeper, I: Source, O: Sink>(
+pub fn ask_about<K: Keeper, I: Source, O: Printer>(
     alloc: Global,
     request: &Request,
     supplied: Supplied,

@@ -16,4 +16,4 @@ pub use ask::ask_pascal;
 pub use command_words::{BUDGET, MOST_MADE, MOST_STEPS};
 pub use debuggee::INPUT_BYTES;
 pub use files::{SESSION_BYTES, SOURCE_BYTES};
-pub use process::ask_as_process;
+pub use process::{ask_as_process, out_of_memory};

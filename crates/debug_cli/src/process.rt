@@ -3,7 +3,7 @@ ghost use Rattle.std.specs.{Prelude.◌≡◌, Prelude.IfOk, Prelude.IsErr, Proc
 ghost use Rattle.debug_cli.specs.{Exits.EndsAs, Exits.EndsAsCommand, Named.meaning};
 
 use crate::ask::ask_pascal;
-use edge_ports::{Keeper, Sink, Source};
+use edge_ports::{Keeper, Printer, Source};
 use std::alloc::{AllocError, Global};
 use std::process::ExitCode;
 use std::string::String;
@@ -11,9 +11,17 @@ use std::string::String;
 /// The exit status where memory ran out.
 const MEMORY: u8 = 7;
 
+/// How a process ends where memory ran out before the words were known.
+pub fn out_of_memory() -> ExitCode
+    ensures memory { exit_status result ≡ 7 }
+    ensures ended { EndsAsCommand result }
+{
+    ExitCode::from(MEMORY)
+}
+
 /// Does what the words ask for, as `ask_pascal`, and answers its status as the code of a process. Where memory ran out
 /// before the words were known nothing is done, and the code is 7.
-pub fn ask_as_process<K: Keeper, I: Source, O: Sink>(
+pub fn ask_as_process<K: Keeper, I: Source, O: Printer>(
     alloc: Global,
     words: Result<Vec<String>, AllocError>,
     keeper: &mut K,
@@ -41,6 +49,6 @@ pub fn ask_as_process<K: Keeper, I: Source, O: Sink>(
             let status = ask_pascal(alloc, &words, keeper, console, screen);
             ExitCode::from(status)
         }
-        Err(_) => ExitCode::from(MEMORY),
+        Err(_) => out_of_memory(),
     }
 }

@@ -7,7 +7,7 @@ ghost use Rattle.debug_cli.specs.Status.{is_console, is_screen};
 use crate::status::{Status, give_text};
 use crate::texts::refusal_line;
 use debuggee::SourceFault;
-use edge_ports::{FetchFault, Sink};
+use edge_ports::{FetchFault, Printer};
 use session_file::LoadFault;
 use std::alloc::{AllocError, Global};
 
@@ -74,7 +74,7 @@ impl<'a> Refusal<'a> {
 }
 
 /// Says what is refused, by its line. Where memory ran out nothing is said.
-pub fn refuse<O: Sink>(alloc: Global, refusal: &Refusal<'_>, screen: &mut O) -> Status
+pub fn refuse<O: Printer>(alloc: Global, refusal: &Refusal<'_>, screen: &mut O) -> Status
     ensures says { GivesLine (line_on refusal.now) (refusal_status refusal.now) result
         (O.given screen.old) (O.given screen.new) }
     ensures not_console { is_console result ≡ false }

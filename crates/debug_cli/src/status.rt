@@ -4,7 +4,7 @@ ghost use Rattle.edge_ports.specs.Counts.{Counted};
 ghost use Rattle.debug_cli.specs.{Given.GivesText, Status.code_of, Status.is_screen, Status.session_status};
 
 use ask_session::Ending;
-use edge_ports::{Sink, write_all};
+use edge_ports::{Printer, print_all};
 
 /// How the command ends.
 #[derive(Clone, Copy)]
@@ -63,14 +63,14 @@ pub fn status_of(ending: Ending) -> Status
 }
 
 /// Gives a whole text and ends with this status, or with that of a screen that failed.
-pub fn give_text<O: Sink>(screen: &mut O, text: &[u8], status: Status) -> Status
+pub fn give_text<O: Printer>(screen: &mut O, text: &[u8], status: Status) -> Status
     requires { is_screen status ≡ false }
     ensures gives { GivesText result status text.now (O.given screen.old) (O.given screen.new) }
     ensures faults { Counted (is_screen result) (O.faults screen.old) (O.faults screen.new) }
     ensures last { IsTrue (is_screen result) → IsTrue (O.last_failed screen.new) }
     ensures loan { O.loan screen.new ≡ O.loan screen.old }
 {
-    match write_all(screen, text) {
+    match print_all(screen, text) {
         Ok(()) => status,
         Err(_) => Status::Screen,
     }

@@ -4,8 +4,8 @@ ghost use Rattle.debug_cli.specs.Refusals.{file_told, line_on, session_told};
 ghost use Rattle.debug_cli.specs.Texts.{field_key, refusal_name, refusal_text, refused_line};
 
 use crate::refusals::Refusal;
-use cell_names::write_number;
 use debuggee::{SourceFault, SourceRefusal};
+use dialog_replies::write_number;
 use edge_ports::{Bytes, FetchFault};
 use itoa::Buffer;
 use session_file::{LoadFault, SessionField};

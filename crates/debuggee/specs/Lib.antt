@@ -4,3 +4,4 @@ pub mod Execution
 pub mod Subjects
 pub mod Program
 pub mod LeftOut
+pub mod Prepared

@@ -6,16 +6,19 @@ ghost use Rattle.question_text.specs.Cards.{recorded_in};
 ghost use Rattle.debuggee.specs.Limits.{input_bytes, most_steps};
 ghost use Rattle.debuggee.specs.Told.{AreTold, counts_once, history_of};
 
-use body_replay::{carries, replay};
+use body_replay::{Trace, carries, replay};
 use call_tree::{Calls, Mark};
-use cell_names::NameFinder;
+use cell_names::{NameFinder, PlacedParts};
 use cell_value::Steps;
 use core_program::Program;
 use dialog_replies::Debugged;
-use edge_ports::{Bytes, Memory};
+use edge_ports::{Memory, Printer};
 use pas_lexer::Tokens;
 use program_run::History;
-use question_text::{Recorded, write_call, write_question, write_state, write_trace, write_tree};
+use question_text::{
+    CardParts, Recorded, card_parts, opened_calls, write_call, write_question, write_state,
+    write_trace, write_tree,
+};
 use std::alloc::Global;
 
 /// A source that was run: its tokens, the program that they are, and its run.
@@ -64,9 +67,17 @@ impl<'a> Debuggee<'a> {
 }
 
 impl<'a> Debugged for Debuggee<'a> {
-    ghost use Rattle.debuggee.specs.{Execution.execution, Subjects.subject_of};
+    ghost use Rattle.debuggee.specs.{Execution.execution, Prepared.prepared_of, Subjects.subject_of};
+
+    type Card = CardParts;
+
+    type Opened = PlacedParts;
+
+    type Trace = Trace;
 
     ghost subject = { λ debuggee. subject_of (execution debuggee) };
+
+    ghost prepared = { λ debuggee. prepared_of (execution debuggee) };
 
     fn calls(&self) -> &Calls {
         &self.history.calls
@@ -76,35 +87,47 @@ impl<'a> Debugged for Debuggee<'a> {
         self.program.name(routine)
     }
 
-    fn write_card(&self, alloc: Global, out: &mut Bytes, call: u32) -> Result<(), Memory> {
-        write_call(alloc, out, &self.recorded(), call)
+    fn prepare_card(&self, alloc: Global, call: u32) -> Result<CardParts, Memory> {
+        card_parts(alloc, &self.recorded(), call)
     }
 
-    fn write_question(&self, alloc: Global, out: &mut Bytes, call: u32) -> Result<(), Memory> {
-        write_question(alloc, out, &self.recorded(), call)
+    fn prepare_state(&self, alloc: Global, call: u32) -> Result<PlacedParts, Memory> {
+        opened_calls(alloc, &self.history.calls, call)
     }
 
-    fn write_trace(&self, alloc: Global, out: &mut Bytes, call: u32) -> Result<(), Memory> {
+    fn prepare_trace(&self, alloc: Global, call: u32) -> Result<Trace, Memory> {
         let mut steps: Steps<()> = Steps::new();
         let trace = replay(alloc, &self.program, &self.history, call, &mut steps)?;
-        write_trace(alloc, out, &self.recorded(), call, &trace.events, trace.way)
+        Ok(trace)
     }
 
-    fn write_state(
+    fn write_card<P: Printer>(&self, out: &mut P, call: u32, card: &CardParts) {
+        write_call(out, &self.recorded(), call, card);
+    }
+
+    fn write_question<P: Printer>(&self, out: &mut P, call: u32, card: &CardParts) {
+        write_question(out, &self.recorded(), call, card);
+    }
+
+    fn write_trace<P: Printer>(&self, out: &mut P, call: u32, trace: &Trace) {
+        write_trace(out, &self.recorded(), call, &trace.events, trace.way);
+    }
+
+    fn write_state<P: Printer>(
         &self,
-        alloc: Global,
-        out: &mut Bytes,
+        out: &mut P,
         call: u32,
         name: &[u8],
-    ) -> Result<bool, Memory> {
-        write_state(alloc, out, &self.recorded(), call, name)
+        opened: &PlacedParts,
+    ) -> bool {
+        write_state(out, &self.recorded(), call, name, opened)
     }
 
     fn carries(&self, alloc: Global, call: u32, onto: u32) -> Result<bool, Memory> {
         carries(alloc, &self.program, &self.history, call, onto)
     }
 
-    fn write_tree(&self, alloc: Global, out: &mut Bytes, marks: &[Mark]) -> Result<(), Memory> {
-        write_tree(alloc, out, &self.program, &self.history.calls, marks)
+    fn write_tree<P: Printer>(&self, out: &mut P, marks: &[Mark]) {
+        write_tree(out, &self.program, &self.history.calls, marks);
     }
 }

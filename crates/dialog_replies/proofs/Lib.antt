@@ -5,5 +5,6 @@ pub mod LinesInTurn
 mod MisfitsInTurn
 mod RepliesInTurn
 pub mod NamedCalls
+mod PiecesInTurn
 pub mod RisingCalls
 pub mod WordsInTurn

@@ -10,3 +10,4 @@ pub mod Start
 pub mod Subject
 pub mod Texts
 pub mod Words
+pub mod Prepared

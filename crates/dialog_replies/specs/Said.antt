@@ -1,5 +1,5 @@
 -- What was said so far in a session, and what is known from sessions before.
-use Rattle.std.specs.Prelude.{if◌then◌else◌, ◌∷◌, [], ℕ, List, None, Option, Some}
+use Rattle.std.specs.Prelude.{if◌then◌else◌, ◌∷◌, [], ℕ, List, Option}
 use Rattle.sha2.specs.Sha256.{sha256}
 use Rattle.answer_book.specs.declared.entries.{Entry.Entry, Judgement.Judgement}
 use Rattle.answer_book.specs.declared.entries.What.{What, TheVariants.Judged, TheVariants.Trusted}

@@ -1,11 +1,12 @@
 //! Calls and routines by number and name.
 ghost use Rattle.std.specs.Prelude.{◌++◌, ◌<◌, ◌≡◌, OnOk, decimal};
 ghost use Rattle.std.specs.Str.{str_eq_ignore_ascii_case};
+ghost use Rattle.edge_ports.specs.Printouts.{Prints};
 ghost use Rattle.dialog_replies.specs.Subject.{calls_recorded, routine_named};
 ghost use Rattle.dialog_replies.specs.Texts.{named_call, routine_of};
 
 use crate::debugged::Debugged;
-use edge_ports::{Bytes, Memory};
+use edge_ports::{Bytes, Memory, Printer};
 use itoa::Buffer;
 
 /// Appends a number in decimal.
@@ -15,6 +16,14 @@ pub fn write_number(out: &mut Bytes, number: u32) -> Result<(), Memory>
     let mut buffer = Buffer::new();
     out.append(buffer.format(number).as_bytes())?;
     Ok(())
+}
+
+/// Prints a number in decimal.
+pub fn print_number<P: Printer>(out: &mut P, number: u32)
+    ensures { Prints (P.printout out.old) (P.printout out.new) (decimal number) }
+{
+    let mut buffer = Buffer::new();
+    out.print(buffer.format(number).as_bytes());
 }
 
 /// The routine of a call.
@@ -34,6 +43,16 @@ pub fn write_named_call<D: Debugged>(out: &mut Bytes, run: &D, call: u32) -> Res
     out.append(b" ")?;
     out.append(run.name(routine_of(run, call)))?;
     Ok(())
+}
+
+/// Prints a call by its number and the name of its routine.
+pub fn print_named_call<D: Debugged, P: Printer>(out: &mut P, run: &D, call: u32)
+    requires { call < calls_recorded (D.subject run.now) }
+    ensures { Prints (P.printout out.old) (P.printout out.new) (named_call (D.subject run.now) call) }
+{
+    print_number(out, call);
+    out.print(b" ");
+    out.print(run.name(routine_of(run, call)));
 }
 
 /// Whether two spellings are of one name: letter case does not count (ISO 7185, 6.1.1).

@@ -1,15 +1,17 @@
 //! The replies to changes of the book.
 ghost use Rattle.std.specs.Prelude.{◌++◌, ◌≡◌, IfOk, decimal};
 ghost use Rattle.answer_book.specs.Answers.{take_back_answer, take_back_last_answer};
-ghost use Rattle.dialog_replies.specs.{Kept.IsDialogOf, Kept.said_in_dialog, Subject.book_of};
-ghost use Rattle.dialog_replies.specs.Replies.{adds, back_text, book_fault_text, entry_text, judges, notes_entry};
-ghost use Rattle.dialog_replies.specs.Replies.{replied, takes_back, takes_back_last, trust_outcome};
+ghost use Rattle.dialog_replies.specs.{Kept.IsDialogOf, Kept.said_in_dialog, Subject.book_of, Subject.calls_recorded};
+ghost use Rattle.dialog_replies.specs.Prepared.{IsReply, IsText, outcome_with, text_of_reply};
+ghost use Rattle.dialog_replies.specs.Replies.{back_text, book_fault_text, entry_text, judges, notes_entry, takes_back};
+ghost use Rattle.dialog_replies.specs.Replies.{takes_back_last, trust_outcome};
 
 use crate::calls::write_number;
 use crate::debugged::Debugged;
 use crate::dialogs::Dialog;
 use crate::instructions::NoteText;
-use crate::reports::write_report;
+use crate::reply::Reply;
+use crate::reports::report_now;
 use answer_book::{BookFault, Judgement};
 use cell_value::Steps;
 use edge_ports::{Bytes, Memory};
@@ -53,22 +55,37 @@ pub fn refusal(alloc: Global, fault: BookFault) -> Result<Bytes, Memory>
     }
 }
 
+/// The same as a reply.
+pub fn refused<C, O, T>(alloc: Global, fault: BookFault) -> Result<Reply<C, O, T>, Memory>
+    ensures { IfOk result (IsText (book_fault_text fault)) }
+{
+    Ok(Reply::Text(refusal(alloc, fault)?))
+}
+
+/// A reply of a text alone.
+pub fn text_reply<C, O, T>(alloc: Global, text: &[u8]) -> Result<Reply<C, O, T>, Memory>
+    ensures { IfOk result (IsText text.now) }
+{
+    Ok(Reply::Text(text_of(alloc, text)?))
+}
+
 /// The reply to a new entry of this number: its number, and a report.
 fn entry_made<D: Debugged>(
     alloc: Global,
     run: &D,
     dialog: &mut Dialog,
     number: u32,
-) -> Result<Bytes, Memory>
+) -> Result<Reply<D::Card, D::Opened, D::Trace>, Memory>
     requires dialog { IsDialogOf (D.subject run.now) dialog.old }
-    ensures text { IfOk result (λ text. text
+    ensures text { IfOk result (λ reply. text_of_reply (D.subject run.now) (said_in_dialog dialog.old) reply
         ≡ entry_text (D.subject run.now) (said_in_dialog dialog.old) number) }
     ensures said { said_in_dialog dialog.new ≡ said_in_dialog dialog.old }
+    ensures prepared { IfOk result (IsReply (D.prepared run.now) (calls_recorded (D.subject run.now))) }
     ensures dialog { IsDialogOf (D.subject run.now) dialog.new }
 {
-    let mut text = numbered_text(alloc, b"entry ", number, b"\n")?;
-    write_report(alloc, &mut text, run, dialog)?;
-    Ok(text)
+    let text = numbered_text(alloc, b"entry ", number, b"\n")?;
+    let report = report_now(alloc, run, dialog)?;
+    Ok(Reply::Reported(text, report))
 }
 
 /// The reply to an entry of this number that was taken back: its number, and a report.
@@ -77,16 +94,17 @@ fn taken_back<D: Debugged>(
     run: &D,
     dialog: &mut Dialog,
     number: u32,
-) -> Result<Bytes, Memory>
+) -> Result<Reply<D::Card, D::Opened, D::Trace>, Memory>
     requires dialog { IsDialogOf (D.subject run.now) dialog.old }
-    ensures text { IfOk result (λ text. text
+    ensures text { IfOk result (λ reply. text_of_reply (D.subject run.now) (said_in_dialog dialog.old) reply
         ≡ back_text (D.subject run.now) (said_in_dialog dialog.old) number) }
     ensures said { said_in_dialog dialog.new ≡ said_in_dialog dialog.old }
+    ensures prepared { IfOk result (IsReply (D.prepared run.now) (calls_recorded (D.subject run.now))) }
     ensures dialog { IsDialogOf (D.subject run.now) dialog.new }
 {
-    let mut text = numbered_text(alloc, b"back ", number, b"\n")?;
-    write_report(alloc, &mut text, run, dialog)?;
-    Ok(text)
+    let text = numbered_text(alloc, b"back ", number, b"\n")?;
+    let report = report_now(alloc, run, dialog)?;
+    Ok(Reply::Reported(text, report))
 }
 
 /// Judges a call.
@@ -96,16 +114,17 @@ pub fn judge<D: Debugged>(
     dialog: &mut Dialog,
     judgement: Judgement,
     call: u32,
-) -> Result<Bytes, Memory>
+) -> Result<Reply<D::Card, D::Opened, D::Trace>, Memory>
     requires dialog { IsDialogOf (D.subject run.now) dialog.old }
-    ensures judged { IfOk result (λ text. replied (said_in_dialog dialog.new) text
+    ensures judged { IfOk result (λ reply. outcome_with (D.subject run.now) (said_in_dialog dialog.new) reply
         ≡ judges (D.subject run.now) (said_in_dialog dialog.old) judgement call) }
+    ensures prepared { IfOk result (IsReply (D.prepared run.now) (calls_recorded (D.subject run.now))) }
     ensures dialog { IsDialogOf (D.subject run.now) dialog.new }
 {
     let mut steps: Steps<Uncounted> = Steps::new();
     match dialog.debug.judge(call, judgement, &mut steps) {
         Ok(number) => entry_made(alloc, run, dialog, number),
-        Err(fault) => refusal(alloc, fault),
+        Err(fault) => refused(alloc, fault),
     }
 }
 
@@ -115,16 +134,17 @@ pub fn trust<D: Debugged>(
     run: &D,
     dialog: &mut Dialog,
     routine: u32,
-) -> Result<Bytes, Memory>
+) -> Result<Reply<D::Card, D::Opened, D::Trace>, Memory>
     requires dialog { IsDialogOf (D.subject run.now) dialog.old }
-    ensures trusted { IfOk result (λ text. replied (said_in_dialog dialog.new) text
+    ensures trusted { IfOk result (λ reply. outcome_with (D.subject run.now) (said_in_dialog dialog.new) reply
         ≡ trust_outcome (D.subject run.now) (said_in_dialog dialog.old) routine) }
+    ensures prepared { IfOk result (IsReply (D.prepared run.now) (calls_recorded (D.subject run.now))) }
     ensures dialog { IsDialogOf (D.subject run.now) dialog.new }
 {
     let mut steps: Steps<Uncounted> = Steps::new();
     match dialog.debug.trust(routine, &mut steps) {
         Ok(number) => entry_made(alloc, run, dialog, number),
-        Err(fault) => refusal(alloc, fault),
+        Err(fault) => refused(alloc, fault),
     }
 }
 
@@ -134,17 +154,18 @@ pub fn take_back<D: Debugged>(
     run: &D,
     dialog: &mut Dialog,
     number: u32,
-) -> Result<Bytes, Memory>
+) -> Result<Reply<D::Card, D::Opened, D::Trace>, Memory>
     requires dialog { IsDialogOf (D.subject run.now) dialog.old }
-    ensures taken { IfOk result (λ text. replied (said_in_dialog dialog.new) text
+    ensures taken { IfOk result (λ reply. outcome_with (D.subject run.now) (said_in_dialog dialog.new) reply
         ≡ takes_back (D.subject run.now) (said_in_dialog dialog.old) number
         (take_back_answer (book_of (D.subject run.now) (said_in_dialog dialog.old).entries) number)) }
+    ensures prepared { IfOk result (IsReply (D.prepared run.now) (calls_recorded (D.subject run.now))) }
     ensures dialog { IsDialogOf (D.subject run.now) dialog.new }
 {
     let mut steps: Steps<Uncounted> = Steps::new();
     match dialog.debug.take_back(number, &mut steps) {
         Ok(()) => taken_back(alloc, run, dialog, number),
-        Err(fault) => refusal(alloc, fault),
+        Err(fault) => refused(alloc, fault),
     }
 }
 
@@ -153,17 +174,18 @@ pub fn take_back_last<D: Debugged>(
     alloc: Global,
     run: &D,
     dialog: &mut Dialog,
-) -> Result<Bytes, Memory>
+) -> Result<Reply<D::Card, D::Opened, D::Trace>, Memory>
     requires dialog { IsDialogOf (D.subject run.now) dialog.old }
-    ensures taken { IfOk result (λ text. replied (said_in_dialog dialog.new) text
+    ensures taken { IfOk result (λ reply. outcome_with (D.subject run.now) (said_in_dialog dialog.new) reply
         ≡ takes_back_last (D.subject run.now) (said_in_dialog dialog.old)
         (take_back_last_answer (book_of (D.subject run.now) (said_in_dialog dialog.old).entries))) }
+    ensures prepared { IfOk result (IsReply (D.prepared run.now) (calls_recorded (D.subject run.now))) }
     ensures dialog { IsDialogOf (D.subject run.now) dialog.new }
 {
     let mut steps: Steps<Uncounted> = Steps::new();
     match dialog.debug.take_back_last(&mut steps) {
         Ok(number) => taken_back(alloc, run, dialog, number),
-        Err(fault) => refusal(alloc, fault),
+        Err(fault) => refused(alloc, fault),
     }
 }
 
@@ -174,16 +196,17 @@ pub fn note<D: Debugged>(
     dialog: &mut Dialog,
     entry: u32,
     note: &NoteText<'_>,
-) -> Result<Bytes, Memory>
+) -> Result<Reply<D::Card, D::Opened, D::Trace>, Memory>
     requires dialog { IsDialogOf (D.subject run.now) dialog.old }
-    ensures noted { IfOk result (λ text. replied (said_in_dialog dialog.new) text
+    ensures noted { IfOk result (λ reply. outcome_with (D.subject run.now) (said_in_dialog dialog.new) reply
         ≡ notes_entry (said_in_dialog dialog.old) entry note.now) }
+    ensures prepared { IfOk result (IsReply (D.prepared run.now) (calls_recorded (D.subject run.now))) }
     ensures dialog { IsDialogOf (D.subject run.now) dialog.new }
 {
     if 1 <= entry && entry <= dialog.debug.book().entries() {
         dialog.notes.set(entry as usize, note.as_str())?;
-        numbered_text(alloc, b"noted ", entry, b"\n")
+        Ok(Reply::Text(numbered_text(alloc, b"noted ", entry, b"\n")?))
     } else {
-        numbered_text(alloc, b"no entry ", entry, b"\n")
+        Ok(Reply::Text(numbered_text(alloc, b"no entry ", entry, b"\n")?))
     }
 }

@@ -1,15 +1,29 @@
 //! What the dialog needs of a run.
-ghost use Rattle.std.specs.Prelude.{◌++◌, ◌<◌, ◌≡◌, IfOk, OnOk, length};
-ghost use Rattle.dialog_replies.specs.{Kept.AreCallsOf, Subject.Subject, Subject.calls_recorded};
+ghost use Rattle.std.specs.Prelude.{◌<◌, ◌≡◌, [], IfOk, false, length};
+ghost use Rattle.edge_ports.specs.Printouts.{Prints};
+ghost use Rattle.dialog_replies.specs.{Kept.AreCallsOf, Prepared.Prepared, Subject.Subject, Subject.calls_recorded};
 
 use call_tree::{Calls, Mark};
-use edge_ports::{Bytes, Memory};
+use edge_ports::{Memory, Printer};
 use std::alloc::Global;
 
-/// A run that is debugged: its calls, the routines of its program, and the texts on its calls.
+/// A run that is debugged: its calls, the routines of its program, and the texts on its calls. What takes memory for a
+/// text is prepared before it is printed.
 pub trait Debugged {
+    /// What the card of a call is printed from, and the question about it.
+    type Card: Drop;
+
+    /// What the lines on the cells of a name are printed from.
+    type Opened: Drop;
+
+    /// What the trace of a call is printed from.
+    type Trace: Drop;
+
     /// The columns, names and texts.
     ghost subject: { Self → Subject };
+
+    /// Of which calls what was prepared is.
+    ghost prepared: { Self → Prepared Self.Card Self.Opened Self.Trace };
 
     /// The calls of the run, of which there is one at least; all were left.
     fn calls(&self) -> &Calls
@@ -19,33 +33,53 @@ pub trait Debugged {
     fn name(&self, routine: u32) -> &[u8]
         ensures { result.now ≡ (subject self.now).name routine };
 
-    /// Appends the card of a call.
-    fn write_card(&self, alloc: Global, out: &mut Bytes, call: u32) -> Result<(), Memory>
+    /// Prepares the card of a call, and the question about it.
+    fn prepare_card(&self, alloc: Global, call: u32) -> Result<Self::Card, Memory>
         requires { call < calls_recorded (subject self.now) }
-        ensures { OnOk result (out.new ≡ out.old ++ (subject self.now).card call) };
+        ensures { IfOk result ((prepared self.now).card call) };
 
-    /// Appends the text of the question about a call, which says neither its number nor the call that made it.
-    fn write_question(&self, alloc: Global, out: &mut Bytes, call: u32) -> Result<(), Memory>
+    /// Prepares the lines on cells before and after a call.
+    fn prepare_state(&self, alloc: Global, call: u32) -> Result<Self::Opened, Memory>
         requires { call < calls_recorded (subject self.now) }
-        ensures { OnOk result (out.new ≡ out.old ++ (subject self.now).question call) };
+        ensures { IfOk result ((prepared self.now).opened call) };
 
-    /// Appends the lines of the trace of a call, the last of which says how the call ended.
-    fn write_trace(&self, alloc: Global, out: &mut Bytes, call: u32) -> Result<(), Memory>
+    /// Prepares the trace of a call.
+    fn prepare_trace(&self, alloc: Global, call: u32) -> Result<Self::Trace, Memory>
         requires { call < calls_recorded (subject self.now) }
-        ensures { OnOk result (out.new ≡ out.old ++ (subject self.now).trace call) };
+        ensures { IfOk result ((prepared self.now).trace call) };
 
-    /// Appends the lines on the cells of a name: what each held before a call and after it. It answers whether there
-    /// is such a cell.
-    fn write_state(
+    /// Prints the card of a call.
+    fn write_card<P: Printer>(&self, out: &mut P, call: u32, card: &Self::Card)
+        requires a_call { call < calls_recorded (subject self.now) }
+        requires prepared { (prepared self.now).card call card.now }
+        ensures { Prints (P.printout out.old) (P.printout out.new) ((subject self.now).card call) };
+
+    /// Prints the text of the question about a call, which says neither its number nor the call that made it.
+    fn write_question<P: Printer>(&self, out: &mut P, call: u32, card: &Self::Card)
+        requires a_call { call < calls_recorded (subject self.now) }
+        requires prepared { (prepared self.now).card call card.now }
+        ensures { Prints (P.printout out.old) (P.printout out.new) ((subject self.now).question call) };
+
+    /// Prints the lines of the trace of a call, the last of which says how the call ended.
+    fn write_trace<P: Printer>(&self, out: &mut P, call: u32, trace: &Self::Trace)
+        requires a_call { call < calls_recorded (subject self.now) }
+        requires prepared { (prepared self.now).trace call trace.now }
+        ensures { Prints (P.printout out.old) (P.printout out.new) ((subject self.now).trace call) };
+
+    /// Prints the lines on the cells of a name: what each held before a call and after it. It answers whether there is
+    /// such a cell, and prints nothing where there is none.
+    fn write_state<P: Printer>(
         &self,
-        alloc: Global,
-        out: &mut Bytes,
+        out: &mut P,
         call: u32,
         name: &[u8],
-    ) -> Result<bool, Memory>
-        requires { call < calls_recorded (subject self.now) }
-        ensures lines { OnOk result (out.new ≡ out.old ++ (subject self.now).state call name.now) }
-        ensures has_cell { IfOk result (λ has. has ≡ (subject self.now).has_cell call name.now) };
+        opened: &Self::Opened,
+    ) -> bool
+        requires a_call { call < calls_recorded (subject self.now) }
+        requires prepared { (prepared self.now).opened call opened.now }
+        ensures lines { Prints (P.printout out.old) (P.printout out.new) ((subject self.now).state call name.now) }
+        ensures has_cell { result ≡ (subject self.now).has_cell call name.now }
+        ensures none { result ≡ false → (subject self.now).state call name.now ≡ [] };
 
     /// Whether the record of a call may be put in place of its run where another call was entered.
     fn carries(&self, alloc: Global, call: u32, onto: u32) -> Result<bool, Memory>
@@ -53,8 +87,8 @@ pub trait Debugged {
         requires onto { onto < calls_recorded (subject self.now) }
         ensures { IfOk result (λ carries. carries ≡ (subject self.now).carries call onto) };
 
-    /// Appends a line on each call, in order of entry, with these marks: one for each call.
-    fn write_tree(&self, alloc: Global, out: &mut Bytes, marks: &[Mark]) -> Result<(), Memory>
+    /// Prints a line on each call, in order of entry, with these marks: one for each call.
+    fn write_tree<P: Printer>(&self, out: &mut P, marks: &[Mark])
         requires { length marks.now ≡ calls_recorded (subject self.now) }
-        ensures { OnOk result (out.new ≡ out.old ++ (subject self.now).marked marks.now) };
+        ensures { Prints (P.printout out.old) (P.printout out.new) ((subject self.now).marked marks.now) };
 }

@@ -6,8 +6,8 @@ ghost use Rattle.dialog_replies.specs.Kept.{AreDigestsOf, IsDialogOf, said_in_di
 use crate::debugged::Debugged;
 use crate::dialogs::Dialog;
 use answer_book::Judgement;
-use edge_ports::{Bytes, Memory};
-use session_file::digest_of;
+use edge_ports::Memory;
+use session_file::Hashing;
 use std::alloc::Global;
 use std::collections::BTreeMap;
 
@@ -31,9 +31,10 @@ fn new_digest<D: Debugged>(alloc: Global, run: &D, call: u32) -> Result<[u8; 32]
     requires { call < calls_recorded (D.subject run.now) }
     ensures { IfOk result (λ digest. digest ≡ digest_on (D.subject run.now) call) }
 {
-    let mut text = Bytes::new(alloc);
-    run.write_question(alloc, &mut text, call)?;
-    Ok(digest_of(text.as_slice()))
+    let card = run.prepare_card(alloc, call)?;
+    let mut hashing = Hashing::new();
+    run.write_question(&mut hashing, call, &card);
+    Ok(hashing.digest())
 }
 
 /// The digest of the question about a call. It is made once.

@@ -1,26 +1,39 @@
 //! The reply to each line.
-ghost use Rattle.std.specs.Prelude.{if◌then◌else◌, ◌++◌, ◌<◌, ◌≡◌, IfOk, codes, nat_lt};
-ghost use Rattle.dialog_replies.specs.{Said.kept_on, Start.said_at_start, Texts.tree_text};
-ghost use Rattle.dialog_replies.specs.Kept.{IsDialogOf, IsSearchOf, said_in_dialog};
+ghost use Rattle.std.specs.Prelude.{if◌then◌else◌, ◌++◌, ◌<◌, ◌≡◌, [], IfOk, codes, nat_lt};
+ghost use Rattle.dialog_replies.specs.{Kept.IsDialogOf, Kept.IsSearchOf, Kept.said_in_dialog, Said.Said, Said.kept_on};
+ghost use Rattle.dialog_replies.specs.{Start.gives_replies_alone, Start.said_at_start, Texts.tree_text};
+ghost use Rattle.dialog_replies.specs.Prepared.{IsReply, outcome_with, text_of_reply};
 ghost use Rattle.dialog_replies.specs.Replies.{card_or_none, carry_line, carry_or_none, carry_text, command_outcome};
-ghost use Rattle.dialog_replies.specs.Replies.{judges_as_kept, judges_asked, judges_same, no_call, no_cell, opening_of};
-ghost use Rattle.dialog_replies.specs.Replies.{replied, state_or_none, trace_or_none, trusts_named};
+ghost use Rattle.dialog_replies.specs.Replies.{judges_as_kept, judges_asked, judges_same, no_call, opening_of};
+ghost use Rattle.dialog_replies.specs.Replies.{state_or_none, trace_or_none, trusts_named};
 ghost use Rattle.dialog_replies.specs.Subject.{calls_recorded, routine_named, state_after};
 
 use crate::calls::{routine_named, write_number};
-use crate::changes::{judge, note, refusal, take_back, take_back_last, text_of, trust};
+use crate::changes::{judge, note, refused, take_back, take_back_last, text_of, text_reply, trust};
 use crate::debugged::Debugged;
 use crate::dialogs::Dialog;
 use crate::fit::gives_replies_alone;
 use crate::instructions::DialogCommand;
 use crate::marks::marks_now;
 use crate::questions::kept_reply;
-use crate::reports::{state_now, write_report};
+use crate::reply::Reply;
+use crate::reports::{report_now, state_now};
 use crate::start::Start;
 use answer_book::{BookFault, Judgement};
 use edge_ports::{Bytes, Memory};
 use optimal_query::{Debug, SearchState};
 use std::alloc::Global;
+
+/// The line before the card where the saved session gives its replies alone, and else nothing.
+fn first_line(alloc: Global, start: &Start) -> Result<Bytes, Memory>
+    ensures { IfOk result (λ text. text ≡ (if gives_replies_alone start.now then codes "replies only\n" else [])) }
+{
+    if gives_replies_alone(start) {
+        text_of(alloc, b"replies only\n")
+    } else {
+        Ok(Bytes::new(alloc))
+    }
+}
 
 /// What a session opens with, as its entries stand: a line where the saved session gives its replies alone, the card of
 /// call 0, and a report.
@@ -29,20 +42,19 @@ pub fn open<D: Debugged>(
     run: &D,
     start: &Start,
     dialog: &mut Dialog,
-) -> Result<Bytes, Memory>
+) -> Result<Reply<D::Card, D::Opened, D::Trace>, Memory>
     requires dialog { IsDialogOf (D.subject run.now) dialog.old }
     requires said { said_in_dialog dialog.old ≡ said_at_start start.now }
-    ensures text { IfOk result (λ text. text ≡ opening_of (D.subject run.now) start.now) }
+    ensures text { IfOk result (λ reply. text_of_reply (D.subject run.now) (said_in_dialog dialog.new) reply
+        ≡ opening_of (D.subject run.now) start.now) }
+    ensures prepared { IfOk result (IsReply (D.prepared run.now) (calls_recorded (D.subject run.now))) }
     ensures said { said_in_dialog dialog.new ≡ said_in_dialog dialog.old }
     ensures dialog { IsDialogOf (D.subject run.now) dialog.new }
 {
-    let mut text = Bytes::new(alloc);
-    if gives_replies_alone(start) {
-        text.append(b"replies only\n")?;
-    }
-    run.write_card(alloc, &mut text, 0)?;
-    write_report(alloc, &mut text, run, dialog)?;
-    Ok(text)
+    let text = first_line(alloc, start)?;
+    let card = run.prepare_card(alloc, 0)?;
+    let report = report_now(alloc, run, dialog)?;
+    Ok(Reply::Opening(text, card, report))
 }
 
 /// Judges the call that is asked about.
@@ -51,11 +63,12 @@ fn judge_asked<D: Debugged>(
     run: &D,
     dialog: &mut Dialog,
     judgement: Judgement,
-) -> Result<Bytes, Memory>
+) -> Result<Reply<D::Card, D::Opened, D::Trace>, Memory>
     requires dialog { IsDialogOf (D.subject run.now) dialog.old }
-    ensures judged { IfOk result (λ text. replied (said_in_dialog dialog.new) text
+    ensures judged { IfOk result (λ reply. outcome_with (D.subject run.now) (said_in_dialog dialog.new) reply
         ≡ judges_asked (D.subject run.now) (said_in_dialog dialog.old) judgement
         (state_after (D.subject run.now) (said_in_dialog dialog.old).entries)) }
+    ensures prepared { IfOk result (IsReply (D.prepared run.now) (calls_recorded (D.subject run.now))) }
     ensures dialog { IsDialogOf (D.subject run.now) dialog.new }
 {
     match state_now(run, &dialog.debug) {
@@ -63,7 +76,7 @@ fn judge_asked<D: Debugged>(
         SearchState::Found(_)
         | SearchState::Narrowed(_)
         | SearchState::NothingWrong
-        | SearchState::Unclear => { text_of(alloc, b"no question\n") }
+        | SearchState::Unclear => { text_reply(alloc, b"no question\n") }
     }
 }
 
@@ -73,26 +86,32 @@ fn judge_as_kept<D: Debugged>(
     run: &D,
     dialog: &mut Dialog,
     call: u32,
-) -> Result<Bytes, Memory>
+) -> Result<Reply<D::Card, D::Opened, D::Trace>, Memory>
     requires call { call < calls_recorded (D.subject run.now) }
     requires dialog { IsDialogOf (D.subject run.now) dialog.old }
-    ensures judged { IfOk result (λ text. replied (said_in_dialog dialog.new) text
+    ensures judged { IfOk result (λ reply. outcome_with (D.subject run.now) (said_in_dialog dialog.new) reply
         ≡ judges_as_kept (D.subject run.now) (said_in_dialog dialog.old) call
         (kept_on (D.subject run.now) (said_in_dialog dialog.old).replies call)) }
+    ensures prepared { IfOk result (IsReply (D.prepared run.now) (calls_recorded (D.subject run.now))) }
     ensures dialog { IsDialogOf (D.subject run.now) dialog.new }
 {
     match kept_reply(alloc, run, dialog, call)? {
         Some(judgement) => judge(alloc, run, dialog, judgement, call),
-        None => text_of(alloc, b"no kept reply\n"),
+        None => text_reply(alloc, b"no kept reply\n"),
     }
 }
 
 /// Judges the call that is asked about as its question was replied before.
-fn judge_same<D: Debugged>(alloc: Global, run: &D, dialog: &mut Dialog) -> Result<Bytes, Memory>
+fn judge_same<D: Debugged>(
+    alloc: Global,
+    run: &D,
+    dialog: &mut Dialog,
+) -> Result<Reply<D::Card, D::Opened, D::Trace>, Memory>
     requires dialog { IsDialogOf (D.subject run.now) dialog.old }
-    ensures judged { IfOk result (λ text. replied (said_in_dialog dialog.new) text
+    ensures judged { IfOk result (λ reply. outcome_with (D.subject run.now) (said_in_dialog dialog.new) reply
         ≡ judges_same (D.subject run.now) (said_in_dialog dialog.old)
         (state_after (D.subject run.now) (said_in_dialog dialog.old).entries)) }
+    ensures prepared { IfOk result (IsReply (D.prepared run.now) (calls_recorded (D.subject run.now))) }
     ensures dialog { IsDialogOf (D.subject run.now) dialog.new }
 {
     match state_now(run, &dialog.debug) {
@@ -100,7 +119,7 @@ fn judge_same<D: Debugged>(alloc: Global, run: &D, dialog: &mut Dialog) -> Resul
         SearchState::Found(_)
         | SearchState::Narrowed(_)
         | SearchState::NothingWrong
-        | SearchState::Unclear => { text_of(alloc, b"no question\n") }
+        | SearchState::Unclear => { text_reply(alloc, b"no question\n") }
     }
 }
 
@@ -121,80 +140,71 @@ fn trust_named<D: Debugged>(
     run: &D,
     dialog: &mut Dialog,
     name: &[u8],
-) -> Result<Bytes, Memory>
+) -> Result<Reply<D::Card, D::Opened, D::Trace>, Memory>
     requires dialog { IsDialogOf (D.subject run.now) dialog.old }
-    ensures trusted { IfOk result (λ text. replied (said_in_dialog dialog.new) text
+    ensures trusted { IfOk result (λ reply. outcome_with (D.subject run.now) (said_in_dialog dialog.new) reply
         ≡ trusts_named (D.subject run.now) (said_in_dialog dialog.old) name.now
         (routine_named (D.subject run.now) name.now)) }
+    ensures prepared { IfOk result (IsReply (D.prepared run.now) (calls_recorded (D.subject run.now))) }
     ensures dialog { IsDialogOf (D.subject run.now) dialog.new }
 {
     match routine_named(run, name) {
         Some(routine) => trust(alloc, run, dialog, routine),
-        None => no_routine(alloc, name),
+        None => Ok(Reply::Text(no_routine(alloc, name)?)),
     }
 }
 
 /// The card of a call, where there is one of this number.
-fn card_of<D: Debugged>(alloc: Global, run: &D, call: u32) -> Result<Bytes, Memory>
-    ensures { IfOk result (λ text. text ≡ card_or_none (D.subject run.now) call) }
+fn card_of<D: Debugged>(
+    alloc: Global,
+    run: &D,
+    call: u32,
+) -> Result<Reply<D::Card, D::Opened, D::Trace>, Memory>
+    ensures text { IfOk result (λ reply. (said : Said) → text_of_reply (D.subject run.now) said reply
+        ≡ card_or_none (D.subject run.now) call) }
+    ensures prepared { IfOk result (IsReply (D.prepared run.now) (calls_recorded (D.subject run.now))) }
 {
     if call < run.calls().len() {
-        let mut text = Bytes::new(alloc);
-        run.write_card(alloc, &mut text, call)?;
-        Ok(text)
+        Ok(Reply::Card(call, run.prepare_card(alloc, call)?))
     } else {
-        refusal(alloc, BookFault::NoCall(call))
+        refused(alloc, BookFault::NoCall(call))
     }
 }
 
 /// The lines of the trace of a call, where there is one of this number.
-fn trace_of<D: Debugged>(alloc: Global, run: &D, call: u32) -> Result<Bytes, Memory>
-    ensures { IfOk result (λ text. text ≡ trace_or_none (D.subject run.now) call) }
+fn trace_of<D: Debugged>(
+    alloc: Global,
+    run: &D,
+    call: u32,
+) -> Result<Reply<D::Card, D::Opened, D::Trace>, Memory>
+    ensures text { IfOk result (λ reply. (said : Said) → text_of_reply (D.subject run.now) said reply
+        ≡ trace_or_none (D.subject run.now) call) }
+    ensures prepared { IfOk result (IsReply (D.prepared run.now) (calls_recorded (D.subject run.now))) }
 {
     if call < run.calls().len() {
-        let mut text = Bytes::new(alloc);
-        run.write_trace(alloc, &mut text, call)?;
-        Ok(text)
+        Ok(Reply::Trace(call, run.prepare_trace(alloc, call)?))
     } else {
-        refusal(alloc, BookFault::NoCall(call))
+        refused(alloc, BookFault::NoCall(call))
     }
-}
-
-/// The reply where no cell has this name before or after a call.
-fn no_cell(alloc: Global, call: u32, name: &[u8]) -> Result<Bytes, Memory>
-    ensures { IfOk result (λ text. text ≡ no_cell call name.now) }
-{
-    let mut text = Bytes::new(alloc);
-    text.append(b"no cell ")?;
-    text.append(name)?;
-    text.append(b" at call ")?;
-    write_number(&mut text, call)?;
-    text.append(b"\n")?;
-    Ok(text)
 }
 
 /// The lines on the cells of a name before and after a call, or that there is none.
-fn cells_of<D: Debugged>(alloc: Global, run: &D, call: u32, name: &[u8]) -> Result<Bytes, Memory>
-    requires { call < calls_recorded (D.subject run.now) }
-    ensures { IfOk result (λ text. text ≡ (if (D.subject run.now).has_cell call name.now
-        then (D.subject run.now).state call name.now else no_cell call name.now)) }
-{
-    let mut text = Bytes::new(alloc);
-    if run.write_state(alloc, &mut text, call, name)? {
-        Ok(text)
-    } else {
-        no_cell(alloc, call, name)
-    }
-}
-
-/// The same, where there is a call of this number.
-fn state_of<D: Debugged>(alloc: Global, run: &D, call: u32, name: &[u8]) -> Result<Bytes, Memory>
-    ensures { IfOk result (λ text. text ≡ state_or_none (D.subject run.now) call name.now) }
+fn state_of<D: Debugged>(
+    alloc: Global,
+    run: &D,
+    call: u32,
+    name: &[u8],
+) -> Result<Reply<D::Card, D::Opened, D::Trace>, Memory>
+    ensures text { IfOk result (λ reply. (said : Said) → text_of_reply (D.subject run.now) said reply
+        ≡ state_or_none (D.subject run.now) call name.now) }
+    ensures prepared { IfOk result (IsReply (D.prepared run.now) (calls_recorded (D.subject run.now))) }
 {
     if call < run.calls().len() {
-        cells_of(alloc, run, call, name)
+        let opened = run.prepare_state(alloc, call)?;
+        let name = text_of(alloc, name)?;
+        Ok(Reply::State(call, name, opened))
     } else {
-        refusal(alloc, BookFault::NoCall(call))
+        refused(alloc, BookFault::NoCall(call))
     }
 }
 
@@ -223,39 +233,57 @@ fn carry_text(alloc: Global, carries: bool, call: u32, onto: u32) -> Result<Byte
 }
 
 /// Whether a call carries to another, where there is one of that number.
-fn carry_to<D: Debugged>(alloc: Global, run: &D, call: u32, onto: u32) -> Result<Bytes, Memory>
+fn carry_to<D: Debugged>(
+    alloc: Global,
+    run: &D,
+    call: u32,
+    onto: u32,
+) -> Result<Reply<D::Card, D::Opened, D::Trace>, Memory>
     requires { call < calls_recorded (D.subject run.now) }
-    ensures { IfOk result (λ text. text ≡ (if nat_lt onto (calls_recorded (D.subject run.now))
+    ensures text { IfOk result (λ reply. (said : Said) → text_of_reply (D.subject run.now) said reply
+        ≡ (if nat_lt onto (calls_recorded (D.subject run.now))
         then carry_text ((D.subject run.now).carries call onto) call onto else no_call onto)) }
+    ensures prepared { IfOk result (IsReply (D.prepared run.now) (calls_recorded (D.subject run.now))) }
 {
     if onto < run.calls().len() {
         let carries = run.carries(alloc, call, onto)?;
-        carry_text(alloc, carries, call, onto)
+        Ok(Reply::Text(carry_text(alloc, carries, call, onto)?))
     } else {
-        refusal(alloc, BookFault::NoCall(onto))
+        refused(alloc, BookFault::NoCall(onto))
     }
 }
 
 /// The same, where there is a call of this number.
-fn carry_of<D: Debugged>(alloc: Global, run: &D, call: u32, onto: u32) -> Result<Bytes, Memory>
-    ensures { IfOk result (λ text. text ≡ carry_or_none (D.subject run.now) call onto) }
+fn carry_of<D: Debugged>(
+    alloc: Global,
+    run: &D,
+    call: u32,
+    onto: u32,
+) -> Result<Reply<D::Card, D::Opened, D::Trace>, Memory>
+    ensures text { IfOk result (λ reply. (said : Said) → text_of_reply (D.subject run.now) said reply
+        ≡ carry_or_none (D.subject run.now) call onto) }
+    ensures prepared { IfOk result (IsReply (D.prepared run.now) (calls_recorded (D.subject run.now))) }
 {
     if call < run.calls().len() {
         carry_to(alloc, run, call, onto)
     } else {
-        refusal(alloc, BookFault::NoCall(call))
+        refused(alloc, BookFault::NoCall(call))
     }
 }
 
 /// The tree of the calls with their marks.
-fn tree_of<D: Debugged>(alloc: Global, run: &D, debug: &Debug) -> Result<Bytes, Memory>
+fn tree_of<D: Debugged>(
+    alloc: Global,
+    run: &D,
+    debug: &Debug,
+) -> Result<Reply<D::Card, D::Opened, D::Trace>, Memory>
     requires { IsSearchOf (D.subject run.now) debug.now }
-    ensures { IfOk result (λ text. text ≡ tree_text (D.subject run.now) debug.now.book.entries) }
+    ensures text { IfOk result (λ reply. (said : Said) → text_of_reply (D.subject run.now) said reply
+        ≡ tree_text (D.subject run.now) debug.now.book.entries) }
+    ensures prepared { IfOk result (IsReply (D.prepared run.now) (calls_recorded (D.subject run.now))) }
 {
     let marks = marks_now(alloc, run, debug)?;
-    let mut text = Bytes::new(alloc);
-    run.write_tree(alloc, &mut text, &marks)?;
-    Ok(text)
+    Ok(Reply::Tree(marks))
 }
 
 /// Does what a line asks of the run and of the entries, and answers the reply to it.
@@ -265,14 +293,15 @@ pub fn answer<D: Debugged>(
     run: &D,
     dialog: &mut Dialog,
     command: DialogCommand<'_>,
-) -> Result<Bytes, Memory>
+) -> Result<Reply<D::Card, D::Opened, D::Trace>, Memory>
     requires dialog { IsDialogOf (D.subject run.now) dialog.old }
-    ensures outcome { IfOk result (λ text. replied (said_in_dialog dialog.new) text
+    ensures outcome { IfOk result (λ reply. outcome_with (D.subject run.now) (said_in_dialog dialog.new) reply
         ≡ command_outcome (D.subject run.now) (said_in_dialog dialog.old) command.entry) }
+    ensures prepared { IfOk result (IsReply (D.prepared run.now) (calls_recorded (D.subject run.now))) }
     ensures dialog { IsDialogOf (D.subject run.now) dialog.new }
 {
     match command {
-        DialogCommand::Nothing => Ok(Bytes::new(alloc)),
+        DialogCommand::Nothing => text_reply(alloc, b""),
         DialogCommand::Judge(judgement, None) => judge_asked(alloc, run, dialog, judgement),
         DialogCommand::Judge(judgement, Some(call)) => judge(alloc, run, dialog, judgement, call),
         DialogCommand::Same => judge_same(alloc, run, dialog),
@@ -286,6 +315,6 @@ pub fn answer<D: Debugged>(
         DialogCommand::Trace(call) => trace_of(alloc, run, call),
         DialogCommand::Carry(call, onto) => carry_of(alloc, run, call, onto),
         DialogCommand::Tree => tree_of(alloc, run, &dialog.debug),
-        DialogCommand::Other => text_of(alloc, b"not understood\n"),
+        DialogCommand::Other => text_reply(alloc, b"not understood\n"),
     }
 }

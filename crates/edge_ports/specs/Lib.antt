@@ -1,5 +1,8 @@
 pub mod Counts
 pub mod Told
+pub mod Printouts
+pub mod Chains
+pub mod Sticking
 pub mod States
 pub mod Limits
 pub mod Lines

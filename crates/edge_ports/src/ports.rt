@@ -1,9 +1,9 @@
 //! What the program asks of the outside.
 ghost use Rattle.std.specs.Prelude.{◌<◌, ◌≡◌, ◌≤◌, ℕ, Bool, Err, IfOk, List, Ok, OnErr, OnOk, Option, is_err, length};
 ghost use Rattle.std.specs.{Prelude.take, Prelude.true, Io.KnownBytes.IsAtEnd};
+ghost use Rattle.edge_ports.specs.{Limits.piece_bytes, Told.GaveAll, Told.GavePrefix, Told.TookAll};
 ghost use Rattle.edge_ports.specs.Counts.{CountsFetch, CountsStore, KeeperCounts, NoneFallen, NotFallen, Rose};
 ghost use Rattle.edge_ports.specs.Files.{FileMap, HoldsFile, HoldsLonger, KeepsOthers, LacksFile, StoresFile};
-ghost use Rattle.edge_ports.specs.Told.{GaveAll, GavePrefix, TookAll};
 
 use crate::Bytes;
 use std::alloc::Global;
@@ -35,6 +35,9 @@ pub trait Source {
         ensures faults { NotFallen (faults self.old) (faults self.new) };
 }
 
+/// The most bytes that are given to a sink at once.
+pub const PIECE_BYTES: usize = 65_536;
+
 /// Where bytes go to, such as a screen.
 pub trait Sink {
     /// The bytes that were given so far, where the object tells them.
@@ -50,9 +53,11 @@ pub trait Sink {
     /// The name of the loan of the room that the bytes go to, if they go to one that is borrowed. No call changes it.
     ghost loan: { Self → ℕ };
 
-    /// Appends bytes from the front of the piece to what was given, and answers how many, at least 1.
+    /// Appends bytes from the front of the piece to what was given, and answers how many, at least 1. No piece has more
+    /// than [`PIECE_BYTES`] bytes.
     fn give(&mut self, piece: &[u8]) -> Result<usize, Failed>
-        requires { 0 < length piece.now }
+        requires some { 0 < length piece.now }
+        requires small { length piece.now ≤ piece_bytes }
         ensures count { IfOk result (λ n. n ≤ length piece.now) }
         ensures some { IfOk result (λ n. 0 < n) }
         ensures gave { IfOk result (λ n. GaveAll (given self.old) (given self.new) (take n piece.now)) }
@@ -122,8 +127,9 @@ pub trait Keeper {
         ensures not_fallen { NoneFallen (counts self.old) (counts self.new) };
 }
 
-/// Gives all the bytes, piece by piece. It takes no memory.
-pub fn write_all<O: Sink>(sink: &mut O, bytes: &[u8]) -> Result<(), Failed>
+/// Gives all the bytes, of which there are no more than fit into one piece. It takes no memory.
+pub(crate) fn write_all<O: Sink>(sink: &mut O, bytes: &[u8]) -> Result<(), Failed>
+    requires small { length bytes.now ≤ piece_bytes }
     ensures ok { OnOk result (GaveAll (O.given sink.old) (O.given sink.new) bytes.now) }
     ensures failed { OnErr result (GavePrefix (O.given sink.old) (O.given sink.new) bytes.now) }
     ensures cause { OnErr result (Rose (O.faults sink.old) (O.faults sink.new)) }

@@ -434,18 +434,12 @@ fn locate_component_in(
 {
     match index {
         Some(TypeRow::Ordinal { least, greatest }) => {
-            body.address(
-                line,
-                component(
-                    Components {
-                        least,
-                        greatest,
-                        size,
-                    },
-                    addr,
-                    value,
-                ),
-            )
+            let array = Components {
+                least,
+                greatest,
+                size,
+            };
+            body.address(line, component(array, addr, value))
         }
         Some(
             TypeRow::Subrange {
@@ -454,18 +448,12 @@ fn locate_component_in(
                 ..
             },
         ) => {
-            body.address(
-                line,
-                component(
-                    Components {
-                        least,
-                        greatest,
-                        size,
-                    },
-                    addr,
-                    value,
-                ),
-            )
+            let array = Components {
+                least,
+                greatest,
+                size,
+            };
+            body.address(line, component(array, addr, value))
         }
         _ => body.no_row(),
     }

@@ -4,8 +4,8 @@
 ghost use Rattle.debug_cli.specs.Exits.{EndsAsCommand};
 
 use command_words::{Asked, read_words};
-use debug_cli::ask_as_process;
-use edge_ports::{FileKeeper, StdSink, StdSource};
+use debug_cli::{ask_as_process, out_of_memory};
+use edge_ports::{FileKeeper, Pieces, StdSink, StdSource};
 use std::alloc::AllocError;
 use std::env;
 use std::io::{self, ErrorKind};
@@ -61,8 +61,12 @@ fn run(rt: HostRuntime) -> ExitCode
     let mut keeper = FileKeeper::new(rt);
     let words = words_with_own_spared(&rt, &mut keeper);
     let mut console = StdSource::new(rt.reader());
-    let mut screen = StdSink::new(io::writer(&rt));
-    ask_as_process(rt.alloc(), words, &mut keeper, &mut console, &mut screen)
+    match Pieces::new(rt.alloc(), StdSink::new(io::writer(&rt))) {
+        Ok(mut screen) => {
+            ask_as_process(rt.alloc(), words, &mut keeper, &mut console, &mut screen)
+        }
+        Err(_) => out_of_memory(),
+    }
 }
 
 fn main(rt: HostRuntime) -> ExitCode {

@@ -1,5 +1,5 @@
 -- The cells that a name names, one address after another.
-use Rattle.std.proofs.Common.{if◌then◌else◌, ◌&&◌, ◌++◌, ◌+◌, ◌-◌, ◌<◌, ◌||◌, ◌∙◌, ◌≡◌, ◌≤◌, [], ℕ, Bool, List, None, Option, Some, ap, append-nil}
+use Rattle.std.proofs.Common.{if◌then◌else◌, ◌&&◌, ◌++◌, ◌+◌, ◌-◌, ◌<◌, ◌||◌, ◌∙◌, ◌∷◌, ◌≡◌, ◌≤◌, [], ℕ, Bool, List, None, Option, Some, ap, append-nil}
 use Rattle.std.proofs.Common.{append_assoc, arith, false, flat_map, is_some, nat_lt, refl, suc, sym, true, zero}
 use Rattle.std.{proofs.lemmas.Bool.Decides.nat_tests, specs.List.list_any, specs.List.range_with_len}
 use Rattle.call_tree.specs.declared.records.Call.{Call}
@@ -35,6 +35,14 @@ unnamed_root s name sides None e = refl
 unnamed_root s name sides (Some r) e =
     ap (λ b. if is_cell sides && b then Some r else None) e ∙ ap (λ b. if b then Some r else None) (and_false (is_cell sides))
 
+pub none_of_two : (a b : Bool) → (a || b) ≡ false → (a ≡ false) × (b ≡ false)
+none_of_two true b e = absurd (let z : ⊥ = cc in z)
+none_of_two false b e = (refl, e)
+
+no_line : (s : Scene) (sides : CellSides) (o : Option Root) → is_some o ≡ false → line_by s sides o ≡ []
+no_line s sides None e = refl
+no_line s sides (Some r) e = absurd (let z : ⊥ = cc in z)
+
 module _ (s : Scene) (call : Call) (name : List ℕ) where
   first_line : (at to : ℕ) → at < to → lines_between s call name at to ≡ line_at s call name at ++ lines_between s call name (at + 1) to
   unfolding lines_between
@@ -56,6 +64,17 @@ module _ (s : Scene) (call : Call) (name : List ℕ) where
   no_cells at to past =
       ap (λ n. list_any (λ address. is_some (cell_at s call name address)) (range_with_len at n))
       (let e : to - at ≡ zero = omega (arith, past) in e)
+
+  no_cell_no_line : (xs : List ℕ) → list_any (λ address. is_some (cell_at s call name address)) xs ≡ false → flat_map (line_at s call name) xs ≡ []
+  no_cell_no_line [] e = refl
+  no_cell_no_line (x ∷ xs) e =
+      let two = none_of_two (is_some (cell_at s call name x)) (list_any (λ address. is_some (cell_at s call name address)) xs) e in
+      ap (λ l. l ++ flat_map (line_at s call name) xs) (no_line s (sides_at call x) (cell_at s call name x) two.0) ∙ no_cell_no_line xs two.1
+
+  -- where there is no cell there is no line
+  pub no_cell_no_lines : (at to : ℕ) → is_between s call name at to ≡ false → lines_between s call name at to ≡ []
+  unfolding is_between lines_between
+  no_cell_no_lines at to e = no_cell_no_line (range_with_len at (to - at)) e
 
   -- one more address
   pub line_written : (at to : ℕ) (before after all : List ℕ) → at < to → after ≡ before ++ line_at s call name at

@@ -1,10 +1,11 @@
 -- The states of a call, by what names stand on.
-use Rattle.std.proofs.Common.{◌++◌, ◌∙◌, ◌≡◌, ◌≤◌, [], ℕ, Bool, List, Option, Some, ap, false, length, slice_get, sym}
+use Rattle.std.proofs.Common.{◌++◌, ◌∙◌, ◌≡◌, ◌≤◌, [], ℕ, Bool, List, None, Option, Some, ap, false, length, refl, slice_get, sym}
 use Rattle.std.proofs.lemmas.Option.{slice_get_past}
 use Rattle.call_tree.specs.{Recording.routines_of, declared.records.Call.Call}
-use Rattle.cell_names.specs.{Finding.Finding, Finding.finding_of, Places.finds, declared.places.PlacedPart.PlacedPart}
-use Rattle.question_text.proofs.CardsWhole.{scene_by}
-use Rattle.question_text.specs.{Cards.Recorded, Cards.scene_of, Frames.opened_from, States.has_cell, States.has_cell_by, States.lines_by, States.state_text}
+use Rattle.cell_names.specs.{Finding.Finding, Finding.finding_of, Names.Scene, Places.finds, declared.places.PlacedPart.PlacedPart}
+use Rattle.question_text.proofs.{CardsWhole.scene_by, CellsInTurn.no_cell_no_lines, CellsInTurn.none_of_two}
+use Rattle.question_text.specs.{Cards.Recorded, Cards.scene_of, Frames.opened_from}
+use Rattle.question_text.specs.States.{has_cell, has_cell_by, is_between, lines_between, lines_by, state_text}
 
 pub no_state : (r : Recorded) (k : ℕ) (name : List ℕ) → length r.calls ≤ k → state_text r k name ≡ []
 unfolding state_text
@@ -35,3 +36,15 @@ module _ (r : Recorded) (k : ℕ) (finding : Finding) (routines : List ℕ) (ope
   unfolding has_cell
   has_cell_is call name some g found is =
       is ∙ ap (λ s. has_cell_by s name (Some call)) (scene_is g) ∙ ap (λ c. has_cell_by (scene_of r k) name c) (sym found)
+
+no_cell_no_text_by : (s : Scene) (name : List ℕ) (o : Option Call) → has_cell_by s name o ≡ false → lines_by s name o ≡ []
+no_cell_no_text_by s name None e = refl
+no_cell_no_text_by s name (Some call) e =
+    let two = none_of_two (is_between s call name 0 call.entry.top) (is_between s call name 524288 call.exit.fresh) e in
+    ap (λ l. l ++ lines_between s call name 524288 call.exit.fresh) (no_cell_no_lines s call name 0 call.entry.top two.0)
+    ∙ no_cell_no_lines s call name 524288 call.exit.fresh two.1
+
+-- where no cell has the name, the text is empty
+pub no_cell_no_text : (r : Recorded) (k : ℕ) (name : List ℕ) → has_cell r k name ≡ false → state_text r k name ≡ []
+unfolding has_cell state_text
+no_cell_no_text r k name e = no_cell_no_text_by (scene_of r k) name (slice_get r.calls k) e

@@ -10,7 +10,7 @@ use Rattle.cell_names.specs.{Finding.finding_of, Names.Scene, Names.result_of, P
 use Rattle.cell_names.specs.Values.{typed_text, untyped_text}
 use Rattle.question_text.specs.{Cells.change_line, Cells.parameters_text, Cells.seen_line, Frames.opened_from}
 use Rattle.question_text.specs.{Lines.call_line, Lines.inner_line, Lines.routine_line, WaysOut.way_text}
-use Rattle.question_text.specs.declared.cards.Recorded as kept
+use Rattle.question_text.specs.declared.prepared.Recorded as kept
 
 abbrev pub end_text : (items to : ℕ) → List ℕ
 end_text items to = if nat_lt items to then codes " end" else []

@@ -6,3 +6,4 @@ pub mod States
 pub mod Traces
 pub mod Trees
 pub mod WaysOut
+pub mod Prepared

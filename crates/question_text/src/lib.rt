@@ -8,12 +8,15 @@ mod cards;
 mod cells;
 mod lines;
 mod opened;
+mod prepared;
 mod states;
 mod traces;
 mod trees;
 mod ways_out;
 
-pub use cards::{Recorded, write_call, write_question};
+pub use cards::{write_call, write_question};
+pub use opened::opened_calls;
+pub use prepared::{CardParts, Recorded, card_parts};
 pub use states::write_state;
 pub use traces::write_trace;
 pub use trees::write_tree;

@@ -144,11 +144,7 @@ fn frames_outward(alloc: Global, calls: &Calls, call: u32) -> Result<Vec<PlacedP
 }
 
 /// The calls that are open while one runs, by where their frames begin.
-pub(crate) fn opened_calls(
-    alloc: Global,
-    calls: &Calls,
-    call: u32,
-) -> Result<PlacedParts, AllocError>
+pub fn opened_calls(alloc: Global, calls: &Calls, call: u32) -> Result<PlacedParts, AllocError>
     ensures { IfOk result (λ places. finds places
         ≡ finds (opened_from calls.now.calls (length calls.now.calls) (Some call))) }
 {

@@ -1,13 +1,13 @@
 //! The calls of a run, a line for each.
 
-ghost use Rattle.std.specs.Prelude.{◌++◌, ◌≡◌, OnErr, OnOk, length};
+ghost use Rattle.std.specs.Prelude.{◌≡◌, length};
+ghost use Rattle.edge_ports.specs.Printouts.{Prints};
 ghost use Rattle.question_text.specs.Trees.{mark_text, numbered_routine, tree_line, tree_text, under};
 
 use call_tree::{Call, Calls, Mark};
 use cell_names::write_number;
 use core_program::Program;
-use edge_ports::Bytes;
-use std::alloc::{AllocError, Global};
+use edge_ports::Printer;
 
 /// The name of what is said of a call.
 fn mark_name(mark: Mark) -> &'static str
@@ -22,56 +22,46 @@ fn mark_name(mark: Mark) -> &'static str
     }
 }
 
-/// Appends the call that made one.
-fn write_under(out: &mut Bytes, parent: Option<u32>) -> Result<(), AllocError>
-    ensures { OnOk result (out.new ≡ out.old ++ under parent) }
+/// Prints the call that made one.
+fn write_under<P: Printer>(out: &mut P, parent: Option<u32>)
+    ensures { Prints (P.printout out.old) (P.printout out.new) (under parent) }
 {
     match parent {
-        None => Ok(()),
+        None => {}
         Some(parent) => {
-            out.append(b" in ")?;
-            write_number(out, parent)
+            out.print(b" in ");
+            write_number(out, parent);
         }
     }
 }
 
-/// Appends the routine of a call, by its name and its number.
-fn write_routine(out: &mut Bytes, program: &Program, routine: u32) -> Result<(), AllocError>
-    ensures { OnOk result (out.new ≡ out.old ++ numbered_routine program.now routine) }
+/// Prints the routine of a call, by its name and its number.
+fn write_routine<P: Printer>(out: &mut P, program: &Program, routine: u32)
+    ensures { Prints (P.printout out.old) (P.printout out.new) (numbered_routine program.now routine) }
 {
-    out.append(b" ")?;
-    out.append(program.name(routine))?;
-    out.append(b" #")?;
-    write_number(out, routine)
+    out.print(b" ");
+    out.print(program.name(routine));
+    out.print(b" #");
+    write_number(out, routine);
 }
 
-/// Appends the line of a call.
-fn write_tree_line(
-    out: &mut Bytes,
-    program: &Program,
-    number: u32,
-    call: &Call,
-    mark: Mark,
-) -> Result<(), AllocError>
-    ensures { OnOk result (out.new ≡ out.old ++ tree_line program.now number call.now mark) }
+/// Prints the line of a call.
+fn write_tree_line<P: Printer>(out: &mut P, program: &Program, number: u32, call: &Call, mark: Mark)
+    ensures { Prints (P.printout out.old) (P.printout out.new) (tree_line program.now number call.now mark) }
 {
-    write_number(out, number)?;
-    write_under(out, call.parent)?;
-    write_routine(out, program, call.routine)?;
-    out.append(b" ")?;
-    out.append(mark_name(mark).as_bytes())?;
-    out.append(b"\n")
+    write_number(out, number);
+    write_under(out, call.parent);
+    write_routine(out, program, call.routine);
+    out.print(b" ");
+    out.print(mark_name(mark).as_bytes());
+    out.print(b"\n");
 }
 
-/// Appends the lines of the calls.
-fn write_tree_lines(
-    out: &mut Bytes,
-    program: &Program,
-    calls: &Calls,
-    marks: &[Mark],
-) -> Result<(), AllocError>
+/// Prints the calls of a run, a line for each, in order of entry: its number, the call that made it, its routine by
+/// name and number, and its mark. There is a mark for each call.
+pub fn write_tree<P: Printer>(out: &mut P, program: &Program, calls: &Calls, marks: &[Mark])
     requires { length marks.now ≡ length calls.now.calls }
-    ensures { OnOk result (out.new ≡ out.old ++ tree_text program.now calls.now.calls marks.now) }
+    ensures { Prints (P.printout out.old) (P.printout out.new) (tree_text program.now calls.now.calls marks.now) }
 {
     'calls: for number in 0..calls.len() {
         write_tree_line(
@@ -80,25 +70,6 @@ fn write_tree_lines(
             number,
             calls.call(number),
             marks[number as usize],
-        )?;
+        );
     }
-    Ok(())
-}
-
-/// Appends the calls of a run, a line for each, in order of entry: its number, the call that made it, its routine by
-/// name and number, and its mark. There is a mark for each call. After `Memory` the text is as before.
-pub fn write_tree(
-    alloc: Global,
-    out: &mut Bytes,
-    program: &Program,
-    calls: &Calls,
-    marks: &[Mark],
-) -> Result<(), AllocError>
-    requires a_mark_each { length marks.now ≡ length calls.now.calls }
-    ensures ok { OnOk result (out.new ≡ out.old ++ tree_text program.now calls.now.calls marks.now) }
-    ensures err { OnErr result (out.new ≡ out.old) }
-{
-    let mut text = Bytes::new(alloc);
-    write_tree_lines(&mut text, program, calls, marks)?;
-    out.append(text.as_slice())
 }

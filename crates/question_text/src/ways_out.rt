@@ -1,6 +1,7 @@
 //! How a call ended.
 
-ghost use Rattle.std.specs.Prelude.{◌++◌, ◌≡◌, OnOk, codes, decimal, length};
+ghost use Rattle.std.specs.Prelude.{◌++◌, ◌≡◌, codes, decimal, length};
+ghost use Rattle.edge_ports.specs.Printouts.{Prints};
 ghost use Rattle.question_text.specs.{Frames.call_of_frame, Lines.inner_line};
 ghost use Rattle.question_text.specs.WaysOut.{fault_text, holder_text, limit_text, way_text};
 
@@ -8,8 +9,7 @@ use crate::opened::frame_of;
 use call_tree::Calls;
 use cell_names::write_number;
 use cell_value::{Kind, WayOut, Which};
-use edge_ports::Bytes;
-use std::alloc::AllocError;
+use edge_ports::Printer;
 
 /// The name of a kind of fault.
 fn fault_name(kind: Kind) -> &'static str
@@ -63,71 +63,65 @@ fn call_of_frame(calls: &Calls, from: Option<u32>, base: u32) -> Option<u32>
     None
 }
 
-/// Appends the call that went on at a label; or, if it is no open call, where its frame begins.
-fn write_holder(out: &mut Bytes, base: u32, holder: Option<u32>) -> Result<(), AllocError>
-    ensures { OnOk result (out.new ≡ out.old ++ holder_text base holder) }
+/// Prints the call that went on at a label; or, if it is no open call, where its frame begins.
+fn write_holder<P: Printer>(out: &mut P, base: u32, holder: Option<u32>)
+    ensures { Prints (P.printout out.old) (P.printout out.new) (holder_text base holder) }
 {
     match holder {
         None => {
-            out.append(b" of frame ")?;
-            write_number(out, base)
+            out.print(b" of frame ");
+            write_number(out, base);
         }
         Some(call) => {
-            out.append(b" of call ")?;
-            write_number(out, call)
+            out.print(b" of call ");
+            write_number(out, call);
         }
     }
 }
 
-/// Appends the label to which a call was left, and the call that went on there.
-fn write_jump(out: &mut Bytes, label: u32, base: u32, holder: Option<u32>) -> Result<(), AllocError>
-    ensures { OnOk result (out.new ≡ out.old ++ codes "jumped to " ++ decimal label ++ holder_text base holder) }
+/// Prints the label to which a call was left, and the call that went on there.
+fn write_jump<P: Printer>(out: &mut P, label: u32, base: u32, holder: Option<u32>)
+    ensures { Prints (P.printout out.old) (P.printout out.new)
+        (codes "jumped to " ++ decimal label ++ holder_text base holder) }
 {
-    out.append(b"jumped to ")?;
-    write_number(out, label)?;
-    write_holder(out, base, holder)
+    out.print(b"jumped to ");
+    write_number(out, label);
+    write_holder(out, base, holder);
 }
 
-/// Appends how a call ended that this call made.
-fn write_way_out(
-    out: &mut Bytes,
-    calls: &Calls,
-    parent: Option<u32>,
-    way: WayOut,
-) -> Result<(), AllocError>
-    ensures { OnOk result (out.new ≡ out.old ++ way_text calls.now.calls parent way) }
+/// Prints how a call ended that this call made.
+fn write_way_out<P: Printer>(out: &mut P, calls: &Calls, parent: Option<u32>, way: WayOut)
+    ensures { Prints (P.printout out.old) (P.printout out.new) (way_text calls.now.calls parent way) }
 {
     match way {
-        WayOut::Returned => out.append(b"returned")?,
+        WayOut::Returned => out.print(b"returned"),
         WayOut::Jumped(label, base) => {
-            write_jump(out, label, base, call_of_frame(calls, parent, base))?
+            write_jump(out, label, base, call_of_frame(calls, parent, base));
         }
         WayOut::Faulted(kind, line) => {
-            out.append(b"faulted ")?;
-            out.append(fault_name(kind).as_bytes())?;
-            out.append(b" line ")?;
-            write_number(out, line)?;
+            out.print(b"faulted ");
+            out.print(fault_name(kind).as_bytes());
+            out.print(b" line ");
+            write_number(out, line);
         }
-        WayOut::OutOfSteps => out.append(b"out of steps")?,
+        WayOut::OutOfSteps => out.print(b"out of steps"),
         WayOut::Limited(which) => {
-            out.append(b"limited ")?;
-            out.append(limit_name(which).as_bytes())?;
+            out.print(b"limited ");
+            out.print(limit_name(which).as_bytes());
         }
     }
-    Ok(())
 }
 
-/// Appends how a call ended that this call made, as a line of its card and of its trace.
-pub(crate) fn write_way_line(
-    out: &mut Bytes,
+/// Prints how a call ended that this call made, as a line of its card and of its trace.
+pub(crate) fn write_way_line<P: Printer>(
+    out: &mut P,
     calls: &Calls,
     parent: Option<u32>,
     way: WayOut,
-) -> Result<(), AllocError>
-    ensures { OnOk result (out.new ≡ out.old ++ inner_line (way_text calls.now.calls parent way)) }
+)
+    ensures { Prints (P.printout out.old) (P.printout out.new) (inner_line (way_text calls.now.calls parent way)) }
 {
-    out.append(b"  ")?;
-    write_way_out(out, calls, parent, way)?;
-    out.append(b"\n")?;
-    Ok(())
+    out.print(b"  ");
+    write_way_out(out, calls, parent, way);
+    out.print(b"\n");
 }

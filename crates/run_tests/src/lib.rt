@@ -1,5 +1,5 @@
 //! Tests of what a run is made of and kept in: lists of values, the store, the log and its effects, the calls, a
-//! machine and a body; and of whole runs, with their calls done again.
+//! machine and a body; and of whole runs, with their calls done again and outputs sliced.
 #![tactic(auto)]
 
 #[cfg(test)]
@@ -8,6 +8,8 @@ mod actions;
 mod log;
 #[cfg(test)]
 mod runs;
+#[cfg(test)]
+mod slices;
 #[cfg(test)]
 mod store;
 #[cfg(test)]

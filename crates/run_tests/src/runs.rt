@@ -3,6 +3,7 @@ ghost use Rattle.std.specs.Prelude.{◌<◌, ◌≡◌, ◌≤◌, ℕ, IfOk, Li
 ghost use Rattle.core_program.specs.RunLaws.{most_bytes};
 ghost use Rattle.program_run.specs.History.{IsOfRun};
 
+use crate::slices::slices_hold;
 use body_replay::{KeptState, Trace, carries, entry_of, replay, transplant};
 use call_tree::{Call, Calls, Event, Events, Side};
 use cell_value::{Memory, Steps, Touch, Value, WayOut};
@@ -277,12 +278,14 @@ fn carries_home(alloc: Global, program: &Program, history: &History) -> Result<b
     Ok(itself && !block)
 }
 
-/// Runs the program: whether its run is that which is wanted, its calls do again what they did, and `next` carries.
-fn run_holds(alloc: Global, program: &Program) -> Result<[bool; 3], Memory> {
+/// Runs the program: whether its run is that which is wanted, its calls do again what they did, `next` carries, and
+/// outputs have their slices.
+fn run_holds(alloc: Global, program: &Program) -> Result<[bool; 4], Memory> {
     let history = history_of(alloc, program, INPUT)?;
     let again = all_repeat(alloc, program, &history)?;
     let carried = carries_home(alloc, program, &history)?;
-    Ok([history_holds(&history), again, carried])
+    let sliced = slices_hold(alloc, program, &history);
+    Ok([history_holds(&history), again, carried, sliced])
 }
 
 #[test]

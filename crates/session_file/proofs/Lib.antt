@@ -1,6 +1,12 @@
 pub mod Turns
+pub mod WholeRead
+pub mod FieldsShown
+pub mod ListsShown
 pub mod NotesInOrder
-pub mod RepliesInTurn
+pub mod ListedSame
+pub mod PartsRead
+pub mod PartsSame
+pub mod TextRead
 pub mod EntriesInOrder
 pub mod NoFloats
 pub mod SavedIsJson
@@ -8,6 +14,5 @@ pub mod SavedIsUtf8
 pub mod NotesRead
 pub mod RepliesRead
 pub mod SavedIsRead
-pub mod EntryLists
 pub mod Loading
 pub mod LoadedIsWhole

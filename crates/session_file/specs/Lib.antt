@@ -1,3 +1,6 @@
 pub mod Text
 pub mod Reading
 pub mod Whole
+pub mod Shown
+pub mod Listed
+pub mod Parts

@@ -3,7 +3,9 @@ use Rattle.std.specs.Prelude.{if◌then◌else◌, ◌&&◌, ◌+◌, ◌==◌, 
 use Rattle.std.specs.Prelude.{Result, Some, codes, false, nat_le, nat_lt, option_and_then, option_map, slice_get}
 use Rattle.std.specs.{Result.result_ok, Str.bytes_eq, Str.is_utf8}
 use Rattle.hex.specs.Hex.{decode_sized}
-use Rattle.serde_json.specs.{Data.Data, Data.Items, Data.item, Data.no_items, Events.items_len, Read.read}
+use Rattle.json.specs.{Json.if_last, Json.value, Token.Token}
+use Rattle.serde_json.specs.{Events.items_len, Read.max_depth, Read.of_json, Read.read}
+use Rattle.serde_json.specs.Data.{Data, Items, item, no_items}
 use Rattle.serde_json.specs.Find.{as_array, as_bool, as_number, as_str, as_u64, get}
 use Rattle.answer_book.specs.declared.entries.{Entry.Entry, Judgement.Judgement}
 use Rattle.answer_book.specs.declared.entries.Judgement.TheVariants.{Right, Unknown, Wrong}
@@ -216,6 +218,10 @@ abbrev pub session_in : Data → Result Session LoadFault
 session_in d =
     with_field Version (whole_under (codes "version") d) (λ version.
     if is_version version then fields_read version d else Err (BadVersion version))
+
+-- the value that all these tokens are, if they are one that nests no deeper than 127
+abbrev pub text_read : List Token → Option Data
+text_read ts = option_and_then of_json (option_and_then (λ p. if_last p.0 p.1) (value max_depth ts))
 
 -- the value that the bytes are, if they are JSON in UTF-8 that nests no deeper than 127
 abbrev pub json_of : List ℕ → Option Data

@@ -20,8 +20,11 @@
 
 mod digests;
 mod entries;
+mod fields;
+mod hashing;
 mod laws;
-mod noted;
+mod listed;
+mod parts;
 mod reading;
 mod replied;
 mod session;
@@ -29,6 +32,7 @@ mod writing;
 
 pub use digests::digest_of;
 pub use entries::SavedEntries;
+pub use hashing::Hashing;
 pub use laws::{version_1_is_loaded, what_is_saved_is_loaded};
 pub use reading::load;
 pub use session::{LoadFault, Session, SessionField};

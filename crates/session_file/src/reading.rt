@@ -1,26 +1,26 @@
 //! From a text to the session that it is.
-ghost use Rattle.std.specs.Prelude.{◌<◌, ◌≡◌, ◌≤◌, ◌⊎◌, Err, IfOk, IfSome, Some, codes, length, option_and_then};
-ghost use Rattle.std.specs.{Prelude.option_map, Prelude.slice_get, Option.ok_or, Str.bytes_eq};
-ghost use Rattle.serde_json.specs.{Find.as_bool, Find.get, View.items_view, View.view};
+ghost use Rattle.std.specs.Prelude.{◌≡◌, ◌⊎◌, Err, IfOk, codes, option_and_then, option_map};
+ghost use Rattle.serde_json.specs.{Data.object, Find.as_bool, Find.get, Read.read, View.members_view, View.view};
 ghost use Rattle.answer_book.specs.declared.entries.What.TheVariants as what;
-ghost use Rattle.session_file.specs.Reading.{begins_wrong, budget_at, digest_at, entries_at, entries_in, entry_in};
-ghost use Rattle.session_file.specs.Reading.{fields_read, said_as, says_wrong, session_in, session_of, text_under};
-ghost use Rattle.session_file.specs.Reading.{values_at, with_notes, with_replies, word_under};
-ghost use Rattle.session_file.specs.Whole.{IsWhole};
+ghost use Rattle.session_file.specs.{Parts.session_by, Whole.IsWhole};
+ghost use Rattle.session_file.specs.Parts.{answered_by, begun_wrong, fields_by, listed_by, notes_by, replies_by};
+ghost use Rattle.session_file.specs.Reading.{begins_wrong, budget_at, digest_at, entry_in, said_as, says_wrong};
+ghost use Rattle.session_file.specs.Reading.{session_of, session_or_fault, text_read, text_under, word_under};
 
 use crate::entries::SavedEntries;
-use crate::noted::notes_from;
-use crate::replied::replies_from;
+use crate::fields::opens_object;
+use crate::listed::Listed;
+use crate::parts::{Parts, parts_in};
+use crate::replied::Answered;
 use crate::session::{LoadFault, Session, SessionField};
 use crate::writing::VERSION;
 use answer_book::{Entry, Judgement, What};
 use hex::FromHex;
+use json::{Reader, Scratch};
+use json_pass::pass_rest;
 use kept_replies::{Notes, Replies};
 use serde_json::Value;
 use std::alloc::Global;
-
-/// The most entries of a session.
-const MOST_ENTRIES: usize = 100_000;
 
 /// The version before the one that is written.
 pub(crate) const FIRST_VERSION: u64 = 1;
@@ -31,10 +31,14 @@ const MOST_STEPS: u64 = 4_000_000;
 /// How many numbers of 32 bits there are.
 const NUMBERS: u64 = 4_294_967_296;
 
+/// How deep a text may nest.
+const MAX_DEPTH: usize = 127;
+
 /// The session that the bytes are, or why they are none. White space that JSON allows, the order of keys and keys that
 /// no session has say nothing; of equal keys the last one counts, and hexadecimal digits may be of either case. A whole
 /// number is one from 0 to 2^64 - 1, written with digits alone. The fields are looked at in the order of
-/// `SessionField`.
+/// `SessionField`. What says nothing is passed over, however long it is, so that the memory is in proportion to the
+/// length of the text.
 pub fn load(alloc: Global, bytes: &[u8]) -> Result<Session, LoadFault>
     // The answer is the session that the bytes are, or why they are none, unless memory runs out.
     ensures answer { (result ≡ Err LoadFault.Memory) ⊎ (result ≡ session_of bytes.now) }
@@ -42,82 +46,190 @@ pub fn load(alloc: Global, bytes: &[u8]) -> Result<Session, LoadFault>
     // A session that was loaded is within its limits, so that it is loaded again as it is saved.
     ensures whole { IfOk result IsWhole }
 {
-    match Value::from_slice(alloc, bytes) {
-        Ok(value) => session_from(alloc, &value),
-        Err(error) => {
-            if error.is_memory() {
-                Err(LoadFault::Memory)
-            } else {
-                Err(LoadFault::NotJson)
+    match str::from_utf8(bytes) {
+        Ok(text) => loaded(alloc, text),
+        Err(_) => Err(LoadFault::NotJson),
+    }
+}
+
+/// The session that a text is, or why it is none.
+fn loaded(alloc: Global, text: &str) -> Result<Session, LoadFault>
+    ensures { (result ≡ Err LoadFault.Memory) ⊎ (result ≡ session_or_fault (read text.now)) }
+{
+    let mut scratch = Scratch::new(alloc);
+    match Reader::new(text, &mut scratch) {
+        Ok(reader) => session_read(alloc, reader),
+        Err(_) => Err(LoadFault::Memory),
+    }
+}
+
+/// The session that all these tokens are, or why they are none.
+fn session_read(alloc: Global, reader: Reader<'_>) -> Result<Session, LoadFault>
+    ensures { (result ≡ Err LoadFault.Memory) ⊎ (result ≡ session_or_fault (text_read reader.entry)) }
+{
+    let mut reader = reader;
+    let Some(token) = reader.next() else {
+        return Err(LoadFault::NotJson);
+    };
+    if opens_object(&token) {
+        match parts_in(alloc, &mut reader, MAX_DEPTH - 1) {
+            Ok(parts) => {
+                if reader.next().is_some() {
+                    return Err(LoadFault::NotJson);
+                }
+                session_from(alloc, parts)
             }
+            Err(fault) => Err(fault),
+        }
+    } else {
+        match pass_rest(&mut reader, token, MAX_DEPTH) {
+            Ok(()) => {
+                if reader.next().is_some() {
+                    return Err(LoadFault::NotJson);
+                }
+                Err(LoadFault::BadShape(SessionField::Version))
+            }
+            Err(_) => Err(LoadFault::NotJson),
         }
     }
 }
 
-/// The session that a value is, or the first field that is not as it should be.
-fn session_from(alloc: Global, value: &Value) -> Result<Session, LoadFault>
-    ensures { (result ≡ Err LoadFault.Memory) ⊎ (result ≡ session_in (view value.now)) }
+/// The session of these parts, or the first field that is not as it should be.
+fn session_from(alloc: Global, parts: Parts) -> Result<Session, LoadFault>
+    ensures { result ≡ session_by (object (members_view parts.fields.entries)) parts.entries parts.replies }
 {
-    match value.get("version").and_then(Value::as_u64) {
-        Some(version) => {
-            if FIRST_VERSION <= version && version <= VERSION {
-                fields_from(alloc, value, version as u32)
-            } else {
-                Err(LoadFault::BadVersion(version))
-            }
-        }
-        None => Err(LoadFault::BadShape(SessionField::Version)),
+    let fields = Value::Object(parts.fields);
+    versioned_from(alloc, &fields, parts.entries, parts.replies)
+}
+
+/// The session of these fields and lists, or the first field that is not as it should be.
+fn versioned_from(
+    alloc: Global,
+    fields: &Value,
+    entries: Option<Listed>,
+    replies: Option<Answered>,
+) -> Result<Session, LoadFault>
+    ensures { result ≡ session_by (view fields.now) entries replies }
+{
+    let Some(version) = fields.get("version").and_then(Value::as_u64) else {
+        return Err(LoadFault::BadShape(SessionField::Version));
+    };
+    if FIRST_VERSION <= version && version <= VERSION {
+        fields_from(alloc, fields, version as u32, entries, replies)
+    } else {
+        Err(LoadFault::BadVersion(version))
     }
 }
 
-/// The session of this version that the fields after the version are.
-fn fields_from(alloc: Global, value: &Value, version: u32) -> Result<Session, LoadFault>
-    ensures { (result ≡ Err LoadFault.Memory) ⊎ (result ≡ fields_read version (view value.now)) }
+/// The session of this version that the fields after the version and the lists are.
+fn fields_from(
+    alloc: Global,
+    fields: &Value,
+    version: u32,
+    entries: Option<Listed>,
+    replies: Option<Answered>,
+) -> Result<Session, LoadFault>
+    ensures { result ≡ fields_by version (view fields.now) entries replies }
 {
-    let Some(source) = digest_from(value, "source") else {
+    let Some(source) = digest_from(fields, "source") else {
         return Err(LoadFault::BadShape(SessionField::Source));
     };
-    let Some(input) = digest_from(value, "input") else {
+    let Some(input) = digest_from(fields, "input") else {
         return Err(LoadFault::BadShape(SessionField::Input));
     };
-    let Some(budget) = budget_from(value) else {
+    let Some(budget) = budget_from(fields) else {
         return Err(LoadFault::BadShape(SessionField::Budget));
     };
-    match entries_from(alloc, value) {
-        Ok(entries) => with_notes(
+    let session = Session {
+        version,
+        source,
+        input,
+        budget,
+        entries: SavedEntries::new(alloc),
+        notes: Notes::new(alloc),
+        replies: Replies::new(alloc),
+    };
+    listed_from(alloc, session, entries, replies)
+}
+
+/// The session with its entries, notes and replies.
+fn listed_from(
+    alloc: Global,
+    session: Session,
+    listed: Option<Listed>,
+    answered: Option<Answered>,
+) -> Result<Session, LoadFault>
+    ensures { result ≡ listed_by session listed answered }
+{
+    let Some(listed) = begun_wrong(listed) else {
+        return Err(LoadFault::BadShape(SessionField::Entries));
+    };
+    let entries = listed.entries;
+    match notes_from(alloc, session.version, listed.notes) {
+        Some(notes) => answered_from(
             alloc,
-            value,
             Session {
-                version,
-                source,
-                input,
-                budget,
                 entries,
-                notes: Notes::new(alloc),
-                replies: Replies::new(alloc),
+                notes,
+                ..session
             },
+            answered,
         ),
-        Err(fault) => Err(fault),
+        None => Err(LoadFault::BadShape(SessionField::Entries)),
     }
 }
 
-/// The session with the notes and the replies of its version.
-fn with_notes(alloc: Global, value: &Value, session: Session) -> Result<Session, LoadFault>
-    ensures { (result ≡ Err LoadFault.Memory) ⊎ (result ≡ with_notes (view value.now) session) }
+/// The session with its replies.
+fn answered_from(
+    alloc: Global,
+    session: Session,
+    answered: Option<Answered>,
+) -> Result<Session, LoadFault>
+    ensures { result ≡ answered_by session answered }
 {
-    match notes_from(alloc, value, session.version) {
-        Ok(notes) => with_replies(alloc, value, Session { notes, ..session }),
-        Err(fault) => Err(fault),
+    match replies_from(alloc, session.version, answered) {
+        Some(replies) => Ok(Session { replies, ..session }),
+        None => Err(LoadFault::BadShape(SessionField::Replies)),
     }
 }
 
-/// The session with the replies of its version.
-fn with_replies(alloc: Global, value: &Value, session: Session) -> Result<Session, LoadFault>
-    ensures { (result ≡ Err LoadFault.Memory) ⊎ (result ≡ with_replies (view value.now) session) }
+/// The notes of a session of this version, if each is one. Version 1 has none.
+fn notes_from(alloc: Global, version: u32, notes: Option<Notes>) -> Option<Notes>
+    ensures { result ≡ notes_by version notes }
 {
-    match replies_from(alloc, value, session.version) {
-        Ok(replies) => Ok(Session { replies, ..session }),
-        Err(fault) => Err(fault),
+    if u64::from(version) == FIRST_VERSION {
+        Some(Notes::new(alloc))
+    } else {
+        notes
+    }
+}
+
+/// The replies of a session of this version, if each is one. Version 1 has none.
+fn replies_from(alloc: Global, version: u32, answered: Option<Answered>) -> Option<Replies>
+    ensures { result ≡ replies_by version answered }
+{
+    if u64::from(version) == FIRST_VERSION {
+        return Some(Replies::new(alloc));
+    }
+    match answered {
+        Some(answered) => Some(answered.replies),
+        None => None,
+    }
+}
+
+/// The entries, if the first says that call 0 is wrong.
+fn begun_wrong(listed: Option<Listed>) -> Option<Listed>
+    ensures { result ≡ begun_wrong listed }
+{
+    match listed {
+        Some(listed) => {
+            if is_first_wrong(&listed.entries) {
+                Some(listed)
+            } else {
+                None
+            }
+        }
+        None => None,
     }
 }
 
@@ -207,7 +319,7 @@ fn standing_from(value: &Value) -> Option<bool>
 }
 
 /// The entry that a value is.
-fn entry_from(value: &Value) -> Option<Entry>
+pub(crate) fn entry_from(value: &Value) -> Option<Entry>
     ensures { result ≡ entry_in (view value.now) }
 {
     match what_from(value) {
@@ -217,25 +329,6 @@ fn entry_from(value: &Value) -> Option<Entry>
         },
         None => None,
     }
-}
-
-/// The entries that these values are.
-#[tactic(auto, using(crate::proofs::EntryLists::the_entry_lists))]
-fn entries_of(alloc: Global, values: &[Value]) -> Result<SavedEntries, LoadFault>
-    requires few { length values.now ≤ 100000 }
-    ensures { (result ≡ Err LoadFault.Memory)
-        ⊎ (result ≡ ok_or (entries_in (items_view values.now)) (LoadFault.BadShape SessionField.Entries)) }
-{
-    let mut entries = SavedEntries::new(alloc);
-    'values: for value in values {
-        let Some(entry) = entry_from(value) else {
-            return Err(LoadFault::BadShape(SessionField::Entries));
-        };
-        if entries.push(entry).is_err() {
-            return Err(LoadFault::Memory);
-        }
-    }
-    Ok(entries)
 }
 
 /// Whether this says that call 0 is wrong.
@@ -255,45 +348,5 @@ fn is_first_wrong(entries: &SavedEntries) -> bool
     match entries.items.first() {
         Some(entry) => is_wrong(entry.what),
         None => false,
-    }
-}
-
-/// The value at a place, counted from 0.
-pub(crate) fn value_at(values: &[Value], place: usize) -> &Value
-    requires { place < length values.now }
-    ensures { slice_get values.now place ≡ Some result.now }
-{
-    &values[place]
-}
-
-/// The values that are to be entries, of which there are 1 to 100,000.
-#[tactic(auto, using(crate::proofs::EntryLists::the_values))]
-pub(crate) fn values_from(value: &Value) -> Option<&Vec<Value>>
-    ensures values { option_map (λ values. items_view values.now.items) result ≡ values_at (view value.now) }
-    ensures few { IfSome result (λ values. length values.now.items ≤ 100000) }
-{
-    match value.get("entries").and_then(Value::as_array) {
-        Some(values) if 1 <= values.len() && values.len() <= MOST_ENTRIES => Some(values),
-        _ => None,
-    }
-}
-
-/// The entries, of which there are 1 to 100,000 and the first says that call 0 is wrong.
-fn entries_from(alloc: Global, value: &Value) -> Result<SavedEntries, LoadFault>
-    ensures { (result ≡ Err LoadFault.Memory)
-        ⊎ (result ≡ ok_or (entries_at (view value.now)) (LoadFault.BadShape SessionField.Entries)) }
-{
-    let Some(values) = values_from(value) else {
-        return Err(LoadFault::BadShape(SessionField::Entries));
-    };
-    match entries_of(alloc, values) {
-        Ok(entries) => {
-            if is_first_wrong(&entries) {
-                Ok(entries)
-            } else {
-                Err(LoadFault::BadShape(SessionField::Entries))
-            }
-        }
-        Err(fault) => Err(fault),
     }
 }

@@ -1,16 +1,29 @@
-//! From values to the replies of a session.
-ghost use Rattle.std.specs.Prelude.{◌≡◌, ◌⊎◌, [], Err, IfErr, None, OnOk, Some, codes, option_and_then, option_map};
-ghost use Rattle.std.specs.Option.{ok_or};
-ghost use Rattle.serde_json.specs.View.{items_view, view};
-ghost use Rattle.session_file.specs.Reading.{judgement_of, replies_at, replies_in, reply_in, reply_values_at};
-ghost use Rattle.session_file.specs.Reading.{text_under, with_kept};
+//! The replies of a session, one after another as the text has them.
+ghost use Rattle.std.specs.Prelude.{◌<◌, ◌≡◌, IfErr, IfOk, OnOk, Some, codes, length, option_and_then};
+ghost use Rattle.serde_json.specs.{Data.Data, Data.Items, View.view};
+ghost use Rattle.kept_replies.specs.Limits.{most_replies};
+ghost use Rattle.json_pass.specs.Passing.{items_read, value_read};
+ghost use Rattle.session_file.specs.{Listed.with_one, Shown.IsRefused};
+ghost use Rattle.session_file.specs.Listed.{all_answered, answered_in, next_answered, nothing_answered, with_answer};
+ghost use Rattle.session_file.specs.Reading.{judgement_of, reply_in, text_under};
 
-use crate::reading::{FIRST_VERSION, digest_from, value_at};
-use crate::session::{LoadFault, SessionField};
+use crate::fields::{opens_list, shown_value};
+use crate::reading::digest_from;
+use crate::session::LoadFault;
 use answer_book::Judgement;
+use edge_ports::Memory;
+use json::Reader;
+use json_pass::pass_rest;
 use kept_replies::{MOST_REPLIES, Replies};
 use serde_json::Value;
 use std::alloc::Global;
+
+/// Replies, set one after another, and how many were set.
+#[derive(Debug, Drop)]
+pub(crate) struct Answered {
+    pub(crate) count: usize,
+    pub(crate) replies: Replies,
+}
 
 /// The judgement of a word.
 fn judgement_from(word: &str) -> Option<Judgement>
@@ -50,62 +63,115 @@ fn reply_from(value: &Value) -> Option<([u8; 32], Judgement)>
     }
 }
 
-/// Sets the reply that a value is.
-fn add_reply(replies: &mut Replies, value: &Value) -> Result<(), LoadFault>
-    ensures added { OnOk result (option_map (with_kept replies.old) (reply_in (view value.now)) ≡ Some replies.new) }
-    ensures refused { IfErr result (λ fault. (fault ≡ LoadFault.Memory)
-        ⊎ ((fault ≡ LoadFault.BadShape SessionField.Replies) × (reply_in (view value.now) ≡ None))) }
+/// The replies with one more set.
+fn with_reply(answered: Answered, kept: ([u8; 32], Judgement)) -> Result<Option<Answered>, Memory>
+    requires { answered.count < most_replies }
+    ensures { IfOk result (λ after. after ≡ Some (with_one answered kept)) }
 {
+    let count = answered.count + 1;
+    let mut replies = answered.replies;
+    let question = kept.0;
+    replies.set(question, kept.1)?;
+    Ok(Some(Answered { count, replies }))
+}
+
+/// These replies and one more set, of which there are at most [`MOST_REPLIES`]; none at all where the value is no
+/// reply.
+fn with_answer(answered: Answered, value: &Value) -> Result<Option<Answered>, Memory>
+    ensures { IfOk result (λ after. after ≡ with_answer answered (view value.now)) }
+{
+    if answered.count >= MOST_REPLIES {
+        return Ok(None);
+    }
     match reply_from(value) {
-        None => Err(LoadFault::BadShape(SessionField::Replies)),
-        Some(kept) => {
-            let question = kept.0;
-            match replies.set(question, kept.1) {
-                Ok(()) => Ok(()),
-                Err(_) => Err(LoadFault::Memory),
-            }
-        }
+        None => Ok(None),
+        Some(kept) => with_reply(answered, kept),
     }
 }
 
-/// The replies that these values are, set in order.
-#[tactic(auto, using(crate::proofs::RepliesInTurn::replies_in_turn))]
-fn replies_of(alloc: Global, values: &[Value]) -> Result<Replies, LoadFault>
-    ensures { (result ≡ Err LoadFault.Memory)
-        ⊎ (result ≡ ok_or (replies_in [] (items_view values.now)) (LoadFault.BadShape SessionField.Replies)) }
+/// The same, where there may be none already.
+fn next_answered(answered: Option<Answered>, value: &Value) -> Result<Option<Answered>, LoadFault>
+    ensures read { IfOk result (λ after. after ≡ next_answered answered (view value.now)) }
+    ensures memory { IfErr result (λ fault. fault ≡ LoadFault.Memory) }
 {
-    let mut replies = Replies::new(alloc);
-    'places: for place in 0..values.len() {
-        let value = value_at(values, place);
-        match add_reply(&mut replies, value) {
-            Ok(()) => {}
+    match answered {
+        None => Ok(None),
+        Some(answered) => match with_answer(answered, value) {
+            Ok(after) => Ok(after),
+            Err(_) => Err(LoadFault::Memory),
+        },
+    }
+}
+
+/// The same, with the value that stands next.
+fn answered_after(
+    alloc: Global,
+    reader: &mut Reader<'_>,
+    depth: usize,
+    answered: Option<Answered>,
+) -> Result<Option<Answered>, LoadFault>
+    requires { 0 < depth }
+    ensures read { IfOk result (λ after. (d : Data) × (value_read depth reader.old ≡ Some (d, reader.new))
+        × (after ≡ next_answered answered d)) }
+    ensures refused { IfErr result (λ fault. IsRefused fault (value_read depth reader.old)) }
+    ensures shorter { OnOk result (length reader.new < length reader.old) }
+{
+    match shown_value(alloc, reader, depth) {
+        Ok(value) => {
+            let after = next_answered(answered, &value);
+            drop(value);
+            after
+        }
+        Err(fault) => Err(fault),
+    }
+}
+
+/// The replies that the items of an array are, set in order.
+fn replies_in(
+    alloc: Global,
+    reader: &mut Reader<'_>,
+    depth: usize,
+) -> Result<Option<Answered>, LoadFault>
+    requires { 0 < depth }
+    ensures read { IfOk result (λ answered. (ds : Items) × (items_read depth reader.old ≡ Some (ds, reader.new))
+        × (answered ≡ all_answered (Some nothing_answered) ds)) }
+    ensures refused { IfErr result (λ fault. IsRefused fault (items_read depth reader.old)) }
+    ensures shorter { OnOk result (length reader.new < length reader.old) }
+{
+    let mut answered = Some(Answered {
+        count: 0,
+        replies: Replies::new(alloc),
+    });
+    'items: while !reader.take_end_array() {
+        match answered_after(alloc, reader, depth, answered) {
+            Ok(after) => answered = after,
             Err(fault) => return Err(fault),
         }
     }
-    Ok(replies)
+    Ok(answered)
 }
 
-/// The values that are to be replies, of which there are at most [`MOST_REPLIES`].
-#[tactic(auto, using(crate::proofs::EntryLists::the_values))]
-fn reply_values_from(value: &Value) -> Option<&Vec<Value>>
-    ensures { option_map (λ values. items_view values.now.items) result ≡ reply_values_at (view value.now) }
+/// The replies that a value is, if it is a list of replies.
+pub(crate) fn replies_read(
+    alloc: Global,
+    reader: &mut Reader<'_>,
+    depth: usize,
+) -> Result<Option<Answered>, LoadFault>
+    requires { 1 < depth }
+    ensures read { IfOk result (λ answered. (d : Data) × (value_read depth reader.old ≡ Some (d, reader.new))
+        × (answered ≡ answered_in (Some d))) }
+    ensures refused { IfErr result (λ fault. IsRefused fault (value_read depth reader.old)) }
+    ensures shorter { OnOk result (length reader.new < length reader.old) }
 {
-    match value.get("replies").and_then(Value::as_array) {
-        Some(values) if values.len() <= MOST_REPLIES => Some(values),
-        _ => None,
-    }
-}
-
-/// The replies of a session of this version.
-pub(crate) fn replies_from(alloc: Global, value: &Value, version: u32) -> Result<Replies, LoadFault>
-    ensures { (result ≡ Err LoadFault.Memory)
-        ⊎ (result ≡ ok_or (replies_at version (view value.now)) (LoadFault.BadShape SessionField.Replies)) }
-{
-    if u64::from(version) == FIRST_VERSION {
-        return Ok(Replies::new(alloc));
-    }
-    match reply_values_from(value) {
-        Some(values) => replies_of(alloc, values),
-        None => Err(LoadFault::BadShape(SessionField::Replies)),
+    let Some(token) = reader.next() else {
+        return Err(LoadFault::NotJson);
+    };
+    if opens_list(&token) {
+        replies_in(alloc, reader, depth - 1)
+    } else {
+        match pass_rest(reader, token, depth) {
+            Ok(()) => Ok(None),
+            Err(_) => Err(LoadFault::NotJson),
+        }
     }
 }

@@ -2,8 +2,8 @@
 use crate::sessions::sessions_held;
 use call_tree::Mark;
 use debuggee::{Debuggee, SourceFault, SourceProgram, read_source, run_program};
-use dialog_replies::{Debugged, write_named_call};
-use edge_ports::{Bytes, Memory};
+use dialog_replies::{Debugged, print_named_call};
+use edge_ports::{Memory, Page, Pieces, Printer};
 use made_program::{made_lines, make_source};
 use std::alloc::{AllocError, Global};
 use std::test::Fail;
@@ -96,23 +96,31 @@ carries
 ",
 ];
 
-/// Appends all that is said of a call, if there is one of this number.
+/// A screen in memory.
+fn screen(alloc: Global) -> Result<Pieces<Page>, Memory> {
+    Pieces::new(alloc, Page::new(alloc, 4_096, &[])?)
+}
+
+/// Prints all that is said of a call, if there is one of this number.
 fn write_texts<D: Debugged>(
     alloc: Global,
-    out: &mut Bytes,
+    out: &mut Pieces<Page>,
     run: &D,
     call: u32,
 ) -> Result<(), Memory> {
     if call < run.calls().len() {
-        write_named_call(out, run, call)?;
-        out.append(b"\n")?;
-        run.write_card(alloc, out, call)?;
-        run.write_trace(alloc, out, call)?;
-        if !run.write_state(alloc, out, call, b"x")? {
-            out.append(b"no cell x\n")?;
+        let card = run.prepare_card(alloc, call)?;
+        let trace = run.prepare_trace(alloc, call)?;
+        let opened = run.prepare_state(alloc, call)?;
+        print_named_call(out, run, call);
+        out.print(b"\n");
+        run.write_card(out, call, &card);
+        run.write_trace(out, call, &trace);
+        if !run.write_state(out, call, b"x", &opened) {
+            out.print(b"no cell x\n");
         }
         if run.carries(alloc, call, call)? {
-            out.append(b"carries\n")?;
+            out.print(b"carries\n");
         }
     }
     Ok(())
@@ -125,9 +133,10 @@ fn texts_hold<D: Debugged>(
     call: u32,
     wanted: &str,
 ) -> Result<bool, Memory> {
-    let mut text = Bytes::new(alloc);
-    write_texts(alloc, &mut text, run, call)?;
-    Ok(text.as_slice() == wanted.as_bytes())
+    let mut screen = screen(alloc)?;
+    screen.begin();
+    write_texts(alloc, &mut screen, run, call)?;
+    Ok(screen.finish().is_ok() && screen.sink().given() == wanted.as_bytes())
 }
 
 const MARKS: [Mark; 3] = [Mark::Wrong, Mark::Trusted, Mark::Unknown];
@@ -136,11 +145,12 @@ const TREE: &str = "0 four #0 wrong\n1 in 0 twice #1 trusted\n2 in 0 twice #1 un
 
 /// Whether the lines of all calls are those for the marks.
 fn tree_holds<D: Debugged>(alloc: Global, run: &D) -> Result<bool, Memory> {
-    let mut text = Bytes::new(alloc);
+    let mut screen = screen(alloc)?;
+    screen.begin();
     if run.calls().len() as usize == MARKS.len() {
-        run.write_tree(alloc, &mut text, &MARKS)?;
+        run.write_tree(&mut screen, &MARKS);
     }
-    Ok(text.as_slice() == TREE.as_bytes())
+    Ok(screen.finish().is_ok() && screen.sink().given() == TREE.as_bytes())
 }
 
 /// Whether the run is that of the source. Its tokens are 52, and `End`.

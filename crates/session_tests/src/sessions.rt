@@ -1,15 +1,16 @@
 //! A saved session that is gone on with, and the session of the moment.
 ghost use Rattle.std.specs.Prelude.{◌≡◌, None};
 ghost use Rattle.session_file.specs.Whole.{IsWhole};
-ghost use Rattle.dialog_replies.specs.{Fit.misfit, Start.IsWholeStart};
+ghost use Rattle.dialog_replies.specs.{Fit.misfit, Kept.IsDialogOf, Prepared.IsReply, Start.IsWholeStart};
+ghost use Rattle.dialog_replies.specs.Subject.{calls_recorded};
 
 use answer_book::{Entry, Judgement, What};
 use ask_session::{Ending, converse};
 use dialog_replies::{
-    Debugged, DialogCommand, Instruction, Start, answer, instruction_in, open, refusal, resume,
-    session_text_of, state_now,
+    Debugged, Dialog, DialogCommand, Instruction, Reply, Start, answer, instruction_in, open,
+    print_reply, refusal, resume, session_text_of, state_now,
 };
-use edge_ports::{Keeper, Memory, Page, Shelf, Tape};
+use edge_ports::{Keeper, Memory, Page, Pieces, Printer, Shelf, Tape};
 use kept_replies::{Notes, Replies};
 use optimal_query::SearchState;
 use session_file::{SavedEntries, Session, load};
@@ -56,6 +57,23 @@ fn begun_anew(start: &Start) -> Start
     }
 }
 
+/// Whether a reply says this.
+fn replies_so<D: Debugged>(
+    alloc: Global,
+    run: &D,
+    dialog: &Dialog,
+    reply: &Reply<D::Card, D::Opened, D::Trace>,
+    wanted: &str,
+) -> Result<bool, Memory>
+    requires dialog { IsDialogOf (D.subject run.now) dialog.now }
+    requires prepared { IsReply (D.prepared run.now) (calls_recorded (D.subject run.now)) reply.now }
+{
+    let mut screen = Pieces::new(alloc, Page::new(alloc, 4_096, &[])?)?;
+    screen.begin();
+    print_reply(&mut screen, run, dialog, reply);
+    Ok(screen.finish().is_ok() && screen.sink().given() == wanted.as_bytes())
+}
+
 /// Whether a new session opens so, and `wrong 2` is replied so.
 fn opening_holds<D: Debugged>(alloc: Global, run: &D, start: &Start) -> Result<bool, Memory>
     requires whole { IsWholeStart start.now }
@@ -63,8 +81,10 @@ fn opening_holds<D: Debugged>(alloc: Global, run: &D, start: &Start) -> Result<b
 {
     let mut dialog = resume(alloc, run, start)?;
     let opening = open(alloc, run, start, &mut dialog)?;
+    let opens = replies_so(alloc, run, &dialog, &opening, OPENING)?;
     let found = answer(alloc, run, &mut dialog, command_in(b"wrong 2"))?;
-    Ok(opening.as_slice() == OPENING.as_bytes() && found.as_slice() == FOUND.as_bytes())
+    let finds = replies_so(alloc, run, &dialog, &found, FOUND)?;
+    Ok(opens && finds)
 }
 
 /// The same, where it fits as each new one does.
@@ -132,7 +152,8 @@ fn resumed_holds<D: Debugged>(alloc: Global, run: &D, start: &Start) -> Result<b
     let saved = session_text_of(alloc, run, start, &mut dialog)?;
     let asked = state_now(run, &dialog.debug) == ASKED;
     let tree = answer(alloc, run, &mut dialog, command_in(b"tree"))?;
-    Ok(asked && saved.as_slice() == SAVED.as_bytes() && tree.as_slice() == TREE.as_bytes())
+    let told = replies_so(alloc, run, &dialog, &tree, TREE)?;
+    Ok(asked && saved.as_slice() == SAVED.as_bytes() && told)
 }
 
 /// Whether a session fits, and is gone on with.
@@ -224,9 +245,9 @@ fn session_holds<D: Debugged>(alloc: Global, run: &D, start: &Start) -> Result<b
 {
     let mut keeper = Shelf::new(alloc, &[])?;
     let mut console = Tape::new(alloc, LINES, &[])?;
-    let mut screen = Page::new(alloc, 4_096, &[])?;
+    let mut screen = Pieces::new(alloc, Page::new(alloc, 4_096, &[])?)?;
     let ending = converse(alloc, run, start, &mut keeper, &mut console, &mut screen);
-    let said = screen.given() == SCREEN.as_bytes();
+    let said = screen.sink().given() == SCREEN.as_bytes();
     let saved = file_holds(alloc, &mut keeper, "s", SAVED_AGAIN);
     Ok(said && saved && matches!(ending, Ending::Done))
 }

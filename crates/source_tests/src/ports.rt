@@ -20,12 +20,12 @@ fn next_mark(lines: &mut Lines, tape: &mut Tape) -> Option<u8> {
 }
 
 /// Gives the lines of a tape, each with its mark after it.
-fn give_lines(tape: &mut Tape, page: &mut Page, lines: &mut Lines) -> bool {
+fn give_lines(tape: &mut Tape, screen: &mut Pieces<Page>, lines: &mut Lines) -> bool {
     for _ in 0..10 {
         let Some(mark) = next_mark(lines, tape) else {
             return true;
         };
-        if write_all(page, lines.line()).is_err() || write_all(page, &[mark]).is_err() {
+        if print_all(screen, lines.line()).is_err() || print_all(screen, &[mark]).is_err() {
             return false;
         }
     }
@@ -49,9 +49,9 @@ const CONSOLES: [ConsoleRow; 7] = [
 fn is_given(alloc: Global, bytes: &[u8], row: &ConsoleRow) -> Result<bool, Memory> {
     let (_, fails, wanted) = *row;
     let mut tape = Tape::new(alloc, bytes, fails)?;
-    let mut page = Page::new(alloc, 100, &[])?;
+    let mut screen = Pieces::new(alloc, Page::new(alloc, 100, &[])?)?;
     let mut lines = Lines::new(alloc)?;
-    Ok(give_lines(&mut tape, &mut page, &mut lines) && page.given() == wanted)
+    Ok(give_lines(&mut tape, &mut screen, &mut lines) && screen.sink().given() == wanted)
 }
 
 /// The same of the row's console, put on the shelf and fetched from it.
@@ -395,7 +395,10 @@ const TAKEN: [Result<usize, Failed>; 3] = [Ok(1), Err(Failed), Ok(0)];
 const GIVEN: [Result<usize, Failed>; 5] = [Ok(1), Err(Failed), Err(Failed), Err(Failed), Ok(1)];
 
 fn is_written(alloc: Global) -> bool {
-    write_all(&mut StdSink::new(Vec::new(alloc)), b"abc") == Ok(())
+    match Pieces::new(alloc, StdSink::new(Vec::new(alloc))) {
+        Ok(mut screen) => print_all(&mut screen, b"abc") == Ok(()),
+        Err(_) => false,
+    }
 }
 
 fn faulty_stream() -> Faulty {

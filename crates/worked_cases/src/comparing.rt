@@ -5,7 +5,7 @@ use crate::escapes::unescaped;
 use crate::rows::append_difference;
 use anyhow::{Context, Result, bail};
 use debug_cli::ask_pascal;
-use edge_ports::{Bytes, FetchFault, Keeper, Page, Shelf, Tape};
+use edge_ports::{Bytes, FetchFault, Keeper, Page, Pieces, Shelf, Tape};
 use std::alloc::Global;
 use std::io::Write;
 use std::str;
@@ -15,7 +15,7 @@ use std::str;
 pub(crate) struct Ran {
     pub(crate) status: u8,
     pub(crate) keeper: Shelf,
-    pub(crate) screen: Page,
+    pub(crate) screen: Pieces<Page>,
 }
 
 /// The word that this one with escapes stands for.
@@ -72,7 +72,8 @@ pub(crate) fn run(alloc: Global, case: &Case, length: usize) -> Result<Ran> {
     let words = words_of(alloc, case.words)?;
     let mut console = console_of(alloc, case)?;
     let mut keeper = keeper_of(alloc, case, length)?;
-    let mut screen = Page::new(alloc, case.room, &calls_of(alloc, case.screen_fails)?)?;
+    let page = Page::new(alloc, case.room, &calls_of(alloc, case.screen_fails)?)?;
+    let mut screen = Pieces::new(alloc, page)?;
     let status = ask_pascal(alloc, &words, &mut keeper, &mut console, &mut screen);
     Ok(Ran {
         status,
@@ -129,7 +130,7 @@ fn compare_status(wanted: Option<u8>, ran: &Ran, differs: &mut Vec<u8>) -> Resul
                 differs,
                 "the status is to be {wanted} and is {status}, and the screen is:"
             )?;
-            Ok(differs.extend_from_slice(ran.screen.given())?)
+            Ok(differs.extend_from_slice(ran.screen.sink().given())?)
         }
         _ => Ok(()),
     }
@@ -140,7 +141,13 @@ fn compare_text(alloc: Global, text: &Text, ran: &mut Ran, differs: &mut Vec<u8>
     match text.role {
         Role::Screen(part) => {
             let wanted = text.origin.bytes(alloc)?;
-            compare_screen(text.heading, part, &wanted, ran.screen.given(), differs)
+            compare_screen(
+                text.heading,
+                part,
+                &wanted,
+                ran.screen.sink().given(),
+                differs,
+            )
         }
         Role::After(name) => {
             let wanted = text.origin.bytes(alloc)?;

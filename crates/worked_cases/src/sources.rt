@@ -148,6 +148,6 @@ fn append_screen(alloc: Global, source: &[u8], seen: &mut Vec<u8>) -> Result<()>
     })?;
     let ran = run(alloc, &case, usize::MAX)?;
     let status = ran.status;
-    seen.extend_from_slice(ran.screen.given())?;
+    seen.extend_from_slice(ran.screen.sink().given())?;
     Ok(write!(seen, "status {status}")?)
 }

@@ -11,7 +11,7 @@ lines-init g c =
     let outside : Outside = record {
       files = g.K.Keeper.files c.args.keeper.now;
       counts = g.K.Keeper.counts c.args.keeper.now;
-      streams = record { left = left; given = g.O.Sink.given c.args.screen.now };
+      streams = record { left = left; given = g.O.Printer.given c.args.screen.now };
     } in
     let lines = c.args.lines.now in
     let none : handed_lines lines ≡ [] = ap handed_lines c.requires.fresh in
@@ -30,7 +30,7 @@ pub lines-preserved : goal.lines-preserved
 lines-preserved g c =
     let s = g.D.Debugged.subject c.args.run.now in
     let left = g.I.Source.left in
-    let given = g.O.Sink.given in
+    let given = g.O.Printer.given in
     let files = g.K.Keeper.files in
     let counts = g.K.Keeper.counts in
     let before : Outside = record {
@@ -65,7 +65,7 @@ pub returns-in-Err-clause-goes : goal.returns-in-Err-clause-goes
 returns-in-Err-clause-goes g c =
     let s = g.D.Debugged.subject c.args.run.now in
     let left = g.I.Source.left in
-    let given = g.O.Sink.given in
+    let given = g.O.Printer.given in
     let files = g.K.Keeper.files in
     let counts = g.K.Keeper.counts in
     let before : Outside = record {

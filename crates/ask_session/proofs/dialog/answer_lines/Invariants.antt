@@ -8,7 +8,7 @@ use Rattle.ask_session.specs.Turned.{Answered}
 abbrev pub invariant-lines : goal.invariant-lines
 invariant-lines g l =
     let left = g.I.Source.left in
-    let given = g.O.Sink.given in
+    let given = g.O.Printer.given in
     let files = g.K.Keeper.files in
     let counts = g.K.Keeper.counts in
     record {
@@ -27,8 +27,8 @@ invariant-lines g l =
       at_end : IsTrue l.lines.ended → IsAtEnd (left l.console);
       console_faults : g.I.Source.faults l.console ≡ g.I.Source.faults l.fn.console;
       dialog : IsDialogOf (g.D.Debugged.subject l.run) l.dialog;
-      screen_faults : g.O.Sink.faults l.screen ≡ g.O.Sink.faults l.fn.screen;
-      loan : g.O.Sink.loan l.screen ≡ g.O.Sink.loan l.fn.screen;
+      screen_faults : g.O.Printer.faults l.screen ≡ g.O.Printer.faults l.fn.screen;
+      loan : g.O.Printer.loan l.screen ≡ g.O.Printer.loan l.fn.screen;
     }
 
 abbrev pub decreases-lines : goal.decreases-lines

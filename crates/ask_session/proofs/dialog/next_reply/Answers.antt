@@ -1,10 +1,10 @@
-use Rattle.std.proofs.Common.{ℕ, List, Ok, subst}
+use Rattle.std.proofs.Common.{◌∙◌, ◌≡◌, ℕ, List, Ok, ap, subst}
 use Rattle.edge_ports.specs.{Lines.handed_lines, Turns.HandedBy}
 use Rattle.edge_ports.specs.declared.lines.Turn.{Turn, TheVariants.Line, TheVariants.TooLong}
-use Rattle.dialog_replies.specs.Kept.{said_in_dialog}
-use Rattle.ask_session.proofs.LineIsAnswered.{next_of}
+use Rattle.dialog_replies.specs.{Kept.said_in_dialog, Subject.calls_recorded}
+use Rattle.ask_session.proofs.LineIsAnswered.{next_of, text_prepared, text_stays}
 use Rattle.ask_session.proofs.dialog.next_reply.Goals as goal
-use Rattle.ask_session.specs.Turned.{AnswersLine, DialogMoment}
+use Rattle.ask_session.specs.Turned.{AnswersLine, DialogMoment, with_text}
 
 pub returns-in-Ok-Line-clause-reply : goal.returns-in-Ok-Line-clause-reply
 returns-in-Ok-Line-clause-reply g c =
@@ -20,11 +20,12 @@ returns-in-Ok-Line-clause-reply g c =
     let handed : HandedBy (Ok Line) c.next.new.self.line (handed_lines c.args.lines.now) (handed_lines c.next.new.self) =
     subst (λ (turn : Turn). HandedBy (Ok turn) c.next.new.self.line (handed_lines c.args.lines.now) (handed_lines c.next.new.self)) c.in-Ok-Line.field-0-is
     c.in-Ok-Line.ensures.lines in
-    let answers : AnswersLine s c.args.start.now (record { line = c.next.new.self.line; moment = old }) c.answer_line.result new =
-    subst (λ (line : List ℕ). AnswersLine s c.args.start.now (record { line = line; moment = old }) c.answer_line.result new) c.line.ensures
+    let told = with_text s new.said c.answer_line.result in
+    let answers : AnswersLine s c.args.start.now (record { line = c.next.new.self.line; moment = old }) told new =
+    subst (λ (line : List ℕ). AnswersLine s c.args.start.now (record { line = line; moment = old }) told new) c.line.ensures
     c.answer_line.ensures.answers in
     next_of s c.args.start.now (record { moment = old; lines = c.args.lines.now }) (record { moment = new; lines = c.next.new.self }) c.next.new.self.line
-    c.answer_line.result (handed, answers)
+    told (handed, answers)
 
 pub returns-in-Ok-TooLong-clause-reply : goal.returns-in-Ok-TooLong-clause-reply
 returns-in-Ok-TooLong-clause-reply g c =
@@ -37,5 +38,13 @@ returns-in-Ok-TooLong-clause-reply g c =
     let handed : HandedBy (Ok TooLong) c.next.new.self.line (handed_lines c.args.lines.now) (handed_lines c.next.new.self) =
     subst (λ (turn : Turn). HandedBy (Ok turn) c.next.new.self.line (handed_lines c.args.lines.now) (handed_lines c.next.new.self)) c.in-Ok-TooLong.field-0-is
     c.in-Ok-TooLong.ensures.lines in
-    next_of s c.args.start.now (record { moment = old; lines = c.args.lines.now }) (record { moment = old; lines = c.next.new.self }) handed.0
-    c.too_long.result (handed.1, c.too_long.ensures.answers s c.args.start.now (record { line = handed.0; moment = old }) handed.2)
+    let same : with_text s old.said c.as_reply.result ≡ c.too_long.result =
+    ap (with_text s old.said) c.as_reply.ensures ∙ text_stays _ _ _ s old.said c.too_long.result in
+    rw same
+    (next_of s c.args.start.now (record { moment = old; lines = c.args.lines.now }) (record { moment = old; lines = c.next.new.self }) handed.0
+    c.too_long.result (handed.1, c.too_long.ensures.answers s c.args.start.now (record { line = handed.0; moment = old }) handed.2))
+
+pub returns-in-Ok-TooLong-clause-prepared : goal.returns-in-Ok-TooLong-clause-prepared
+returns-in-Ok-TooLong-clause-prepared g c =
+    rw c.as_reply.ensures
+    (text_prepared (g.D.Debugged.prepared c.args.run.now) (calls_recorded (g.D.Debugged.subject c.args.run.now)) c.too_long.result)

@@ -12,12 +12,12 @@ returns-clause-transcript g c = λ bytes told.
     let before : Outside = record {
       files = g.K.Keeper.files c.args.keeper.now;
       counts = g.K.Keeper.counts c.args.keeper.now;
-      streams = record { left = g.I.Source.left c.args.console.now; given = g.O.Sink.given c.args.screen.now };
+      streams = record { left = g.I.Source.left c.args.console.now; given = g.O.Printer.given c.args.screen.now };
     } in
     let after : Outside = record {
       files = g.K.Keeper.files c.hold_if_fit.new.keeper;
       counts = g.K.Keeper.counts c.hold_if_fit.new.keeper;
-      streams = record { left = left c.hold_if_fit.new.console; given = g.O.Sink.given c.hold_if_fit.new.screen };
+      streams = record { left = left c.hold_if_fit.new.console; given = g.O.Printer.given c.hold_if_fit.new.screen };
     } in
     let t =
     told_so s c.args.start.now (left c.args.console.now) (left c.hold_if_fit.new.console) bytes told before after c.hold_if_fit.result w w.is_heard in
@@ -29,7 +29,7 @@ returns-clause-complete g c = λ bytes told ends fits calm still.
     let left = g.I.Source.left in
     let w = c.hold_if_fit.ensures.goes in
     let closed : Closed c.hold_if_fit.result (g.I.Source.faults c.args.console.now) (g.I.Source.faults c.hold_if_fit.new.console)
-    (g.O.Sink.faults c.args.screen.now) (g.O.Sink.faults c.hold_if_fit.new.screen) = record {
+    (g.O.Printer.faults c.args.screen.now) (g.O.Printer.faults c.hold_if_fit.new.screen) = record {
       console_counted = c.hold_if_fit.ensures.console_faults;
       console_stayed = calm;
       screen_counted = c.hold_if_fit.ensures.screen_faults;
@@ -50,7 +50,7 @@ returns-clause-limit g c = λ bytes told on fits calm still.
     let left = g.I.Source.left in
     let w = c.hold_if_fit.ensures.goes in
     let closed : Closed c.hold_if_fit.result (g.I.Source.faults c.args.console.now) (g.I.Source.faults c.hold_if_fit.new.console)
-    (g.O.Sink.faults c.args.screen.now) (g.O.Sink.faults c.hold_if_fit.new.screen) = record {
+    (g.O.Printer.faults c.args.screen.now) (g.O.Printer.faults c.hold_if_fit.new.screen) = record {
       console_counted = c.hold_if_fit.ensures.console_faults;
       console_stayed = calm;
       screen_counted = c.hold_if_fit.ensures.screen_faults;
@@ -68,7 +68,7 @@ returns-clause-limit g c = λ bytes told on fits calm still.
 pub returns-clause-unfit : goal.returns-clause-unfit
 returns-clause-unfit g c = λ some still.
     let s = g.D.Debugged.subject c.args.run.now in
-    let stayed : ScreenStayed c.hold_if_fit.result (g.O.Sink.faults c.args.screen.now) (g.O.Sink.faults c.hold_if_fit.new.screen) =
+    let stayed : ScreenStayed c.hold_if_fit.result (g.O.Printer.faults c.args.screen.now) (g.O.Printer.faults c.hold_if_fit.new.screen) =
     record { counted = c.hold_if_fit.ensures.screen_faults; stayed = still } in
     refused_or_memory c.hold_if_fit.result (misfit s c.args.start.now) c.hold_if_fit.ensures.goes.refused some stayed
 

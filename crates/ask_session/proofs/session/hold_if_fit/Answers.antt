@@ -15,9 +15,9 @@ returns-in-Ok-clause-goes g c =
     let before : Outside = record {
       files = g.K.Keeper.files c.args.keeper.now;
       counts = g.K.Keeper.counts c.args.keeper.now;
-      streams = record { left = g.I.Source.left c.args.console.now; given = g.O.Sink.given c.args.screen.now };
+      streams = record { left = g.I.Source.left c.args.console.now; given = g.O.Printer.given c.args.screen.now };
     } in
-    let given' = g.O.Sink.given c.write_all.new.sink in
+    let given' = g.O.Printer.given c.print_all.new.printer in
     let why = unfit_by (misfit s c.args.start.now) c.in-Ok-Some.line (sym c.in-Ok-Some.field-0-is ∙ c.in-Ok-Some.ensures) in
     refused_so s c.args.start.now before given' why.0 why.1
     (subst (λ (x : List ℕ). GaveAll before.streams.given given' x) (c.as_slice.ensures ∙ why.2) c.in-Ok.ensures.ok)
@@ -28,13 +28,13 @@ returns-in-Ok-Some-clause-goes g c =
     let before : Outside = record {
       files = g.K.Keeper.files c.args.keeper.now;
       counts = g.K.Keeper.counts c.args.keeper.now;
-      streams = record { left = g.I.Source.left c.args.console.now; given = g.O.Sink.given c.args.screen.now };
+      streams = record { left = g.I.Source.left c.args.console.now; given = g.O.Printer.given c.args.screen.now };
     } in
-    let given' = g.O.Sink.given c.write_all.new.sink in
+    let given' = g.O.Printer.given c.print_all.new.printer in
     let why = unfit_by (misfit s c.args.start.now) c.in-Ok-Some.line (sym c.in-Ok-Some.field-0-is ∙ c.in-Ok-Some.ensures) in
     screen_at_once s c.args.start.now before given' (misfit_line why.0) []
     (printed_misfit s c.args.start.now why.0 [] (lines_in nothing) why.1 ∙ sym (append-nil (misfit_line why.0)))
-    (subst (λ (x : List ℕ). GavePrefix before.streams.given given' x) (c.as_slice.ensures ∙ why.2) c.in-Err-write_all.ensures.failed)
+    (subst (λ (x : List ℕ). GavePrefix before.streams.given given' x) (c.as_slice.ensures ∙ why.2) c.in-Err-print_all.ensures.failed)
 
 pub returns-clause-goes : goal.returns-clause-goes
 returns-clause-goes g c =
@@ -42,6 +42,6 @@ returns-clause-goes g c =
     let before : Outside = record {
       files = g.K.Keeper.files c.args.keeper.now;
       counts = g.K.Keeper.counts c.args.keeper.now;
-      streams = record { left = g.I.Source.left c.args.console.now; given = g.O.Sink.given c.args.screen.now };
+      streams = record { left = g.I.Source.left c.args.console.now; given = g.O.Printer.given c.args.screen.now };
     } in
     ended_at_once s c.args.start.now before

@@ -4,6 +4,10 @@ use Rattle.cell_names.proofs.pieces.write_items.Goals as goal
 use Rattle.cell_names.specs.Pieces.{escaped}
 
 pub items-preserved : goal.items-preserved
-items-preserved c =
-    range_written_next escaped c.args.items.now c.items.place c.args.to c.at.result c.items.out c.write_escaped.new.out _ c.at.ensures.found
-    c.items-test.true (c.in_ok-write_escaped.ensures ∙ ap (λ item. c.items.out ++ escaped item) c.from.ensures) c.items.invariant
+items-preserved g c =
+    let printout = g.P.Printer.printout in (
+      range_written_next escaped c.args.items.now c.items.place c.args.to c.at.result (printout c.items.out).text
+          (printout c.write_escaped.new.out).text _ c.at.ensures.found
+          c.items-test.true (c.write_escaped.ensures.0 ∙ ap (λ item. (printout c.items.out).text ++ escaped item) c.from.ensures) c.items.invariant.0,
+      c.write_escaped.ensures.1 ∙ c.items.invariant.1,
+    )

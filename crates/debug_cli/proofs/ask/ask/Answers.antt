@@ -24,7 +24,8 @@ returns-in-Err-clause-gone g c =
 pub returns-in-Ok-made_text-clause-gone : goal.returns-in-Ok-made_text-clause-gone
 returns-in-Ok-made_text-clause-gone g c =
     let made = c.in-Ok-made_text.ensures.text in
-    let given = subst (λ (b : List ℕ). GivesText c.give_text.result Status.Done b (g.O.Sink.given c.args.screen.now) (g.O.Sink.given c.give_text.new.screen))
+    let given = subst
+    (λ (b : List ℕ). GivesText c.give_text.result Status.Done b (g.O.Printer.given c.args.screen.now) (g.O.Printer.given c.give_text.new.screen))
     (c.as_slice.ensures ∙ made.1) c.give_text.ensures.gives in
     made_gone (c.in-Ok-Made.ensures.meant ∙ ap (λ (a : Asked). Some (meant_of a)) c.in-Ok-Made.field-0-is) (record { files = refl; left = refl }) refl
     made.0 given

@@ -41,19 +41,19 @@ returns-clause-usage g c = λ none. subst (λ (n : ℕ). (n ≡ 2) ⊎ (n ≡ 6)
 
 pub returns-clause-no_program : goal.returns-clause-no_program
 returns-clause-no_program g c = λ means told well still.
-    let screen = no_screen c.ask.result (g.O.Sink.faults c.args.screen.now) (g.O.Sink.faults c.ask.new.screen) c.ask.ensures.screen_faults still in
+    let screen = no_screen c.ask.result (g.O.Printer.faults c.args.screen.now) (g.O.Printer.faults c.ask.new.screen) c.ask.ensures.screen_faults still in
     either_code c.ask.result Status.Source Status.Memory c.code.result c.code.ensures (program_refused c.ask.ensures.gone told well means screen)
 
 pub returns-clause-no_session : goal.returns-clause-no_session
 returns-clause-no_session g c = λ means told well still.
-    let screen = no_screen c.ask.result (g.O.Sink.faults c.args.screen.now) (g.O.Sink.faults c.ask.new.screen) c.ask.ensures.screen_faults still in
+    let screen = no_screen c.ask.result (g.O.Printer.faults c.args.screen.now) (g.O.Printer.faults c.ask.new.screen) c.ask.ensures.screen_faults still in
     either_code c.ask.result Status.Session Status.Memory c.code.result c.code.ensures
     (session_refused c.ask.ensures.gone c.one_run.ensures told well means screen)
 
 pub returns-clause-without_faults : goal.returns-clause-without_faults
 returns-clause-without_faults g c = λ some none calm still.
     let console = no_console c.ask.result (g.I.Source.faults c.args.console.now) (g.I.Source.faults c.ask.new.console) c.ask.ensures.console_faults calm in
-    let screen = no_screen c.ask.result (g.O.Sink.faults c.args.screen.now) (g.O.Sink.faults c.ask.new.screen) c.ask.ensures.screen_faults still in
+    let screen = no_screen c.ask.result (g.O.Printer.faults c.args.screen.now) (g.O.Printer.faults c.ask.new.screen) c.ask.ensures.screen_faults still in
     subst (λ (n : ℕ). (n ≡ 0) ⊎ (n ≡ 3) ⊎ (n ≡ 7) ⊎ (n ≡ 8) ⊎ (n ≡ 9)) (sym c.code.ensures)
     (no_fault_status c.ask.ensures.gone some none console screen)
 
@@ -67,7 +67,7 @@ returns-clause-console_faults g c =
 
 pub returns-clause-screen_faults : goal.returns-clause-screen_faults
 returns-clause-screen_faults g c =
-    screen_counted c.ask.result c.code.result (g.O.Sink.faults c.args.screen.now) (g.O.Sink.faults c.ask.new.screen)
+    screen_counted c.ask.result c.code.result (g.O.Printer.faults c.args.screen.now) (g.O.Printer.faults c.ask.new.screen)
     c.code.ensures c.ask.ensures.screen_faults
 
 pub returns-clause-last : goal.returns-clause-last

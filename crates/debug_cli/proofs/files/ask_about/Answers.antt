@@ -18,9 +18,9 @@ converse-requires g c = record { whole = record { source = c.digest.ensures.whol
 pub returns-in-Ok-clause-gone : goal.returns-in-Ok-clause-gone
 returns-in-Ok-clause-gone g c =
     let before : Outside = outside (g.K.Keeper.files c.args.keeper.now) (g.K.Keeper.counts c.args.keeper.now) (g.I.Source.left c.args.console.now)
-    (g.O.Sink.given c.args.screen.now) in
+    (g.O.Printer.given c.args.screen.now) in
     let after : Outside = outside (g.K.Keeper.files c.converse.new.keeper) (g.K.Keeper.counts c.converse.new.keeper) (g.I.Source.left c.converse.new.console)
-    (g.O.Sink.given c.converse.new.screen) in
+    (g.O.Printer.given c.converse.new.screen) in
     let s = c.args.supplied in
     let is = c.requires.supplied in
     let r : Requested = requested_by c.args.request.now in
@@ -53,7 +53,7 @@ returns-in-Ok-clause-console_faults g c =
 
 pub returns-in-Ok-clause-screen_faults : goal.returns-in-Ok-clause-screen_faults
 returns-in-Ok-clause-screen_faults g c =
-    subst (λ (b : Bool). Counted b (g.O.Sink.faults c.args.screen.now) (g.O.Sink.faults c.converse.new.screen))
+    subst (λ (b : Bool). Counted b (g.O.Printer.faults c.args.screen.now) (g.O.Printer.faults c.converse.new.screen))
     (screen_by_end c.converse.result ∙ ap is_screen (sym c.status_of.ensures)) c.converse.ensures.screen_faults
 
 pub returns-in-Ok-clause-last : goal.returns-in-Ok-clause-last

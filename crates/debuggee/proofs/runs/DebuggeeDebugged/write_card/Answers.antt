@@ -1,4 +1,11 @@
+use Rattle.std.proofs.Common.{subst, sym}
+use Rattle.question_text.specs.{Cards.Recorded, Prepared.AreParts}
 use Rattle.debuggee.proofs.runs.DebuggeeDebugged.write_card.Goals as goal
 
 pub write_call-requires-clause-told : goal.write_call-requires-clause-told
-write_call-requires-clause-told c = c.recorded.ensures.told c.args.call
+write_call-requires-clause-told g c = c.recorded.ensures.told c.args.call
+
+-- what was prepared is of the run, as `recorded` tells it
+pub write_call-requires-clause-parts : goal.write_call-requires-clause-parts
+write_call-requires-clause-parts g c =
+    subst (λ (r : Recorded). AreParts r c.args.call c.args.card.now) (sym c.recorded.ensures.recorded) c.requires.prepared

@@ -1,8 +1,0 @@
-use Rattle.std.proofs.Common.{◌++◌, ◌≡◌, drop}
-use Rattle.question_text.proofs.trees.write_tree_lines.Given as goal
-use Rattle.question_text.specs.Trees.{tree_from}
-
-abbrev pub invariant-calls : goal.invariant-calls
-invariant-calls l =
-    l.out ++ tree_from l.program l.number (drop l.number l.calls.calls) (drop l.number l.marks)
-    ≡ l.fn.out ++ tree_from l.program 0 l.calls.calls l.marks

@@ -1,0 +1,87 @@
+-- What steps on other tokens leave of a row.
+use Rattle.std.proofs.Common.{◌&&◌, ◌∷◌, ◌≡◌, ◌⊎◌, [], ℕ, Bool, List, ap, false, inl, inr, refl, set, slice_get, suc, unwrap_or, zero}
+use Rattle.core_program.specs.declared.rows.{NameRow.NameRow, Row.Row}
+use Rattle.check_steps.specs.{Items.row_on, Known.Known, Known.row_at, Known.with_row}
+use Rattle.statement_checker.specs.{Assignments.with_value, Labels.marked_label, Labels.with_ways}
+
+-- A row without what may change from afar: the ways to a label, whether a function is assigned, where an item's list goes
+-- on; and, but where `strict`, whether a label marks a statement.
+abbrev pub face : Bool → Row → Row
+face strict (Row.Name (NameRow.Label marked value level ways)) = Row.Name (NameRow.Label (strict && marked) value level 0)
+face strict (Row.Name (NameRow.Routine assigned number region)) = Row.Name (NameRow.Routine false number region)
+face strict (Row.Item i) = Row.Nothing
+face strict r = r
+
+-- what a row says of a type or a constant
+abbrev pub said : Row → Row
+said (Row.Type t) = Row.Type t
+said (Row.Name (NameRow.Constant of' v)) = Row.Name (NameRow.Constant of' v)
+said (Row.Name (NameRow.Text token)) = Row.Name (NameRow.Text token)
+said r = Row.Nothing
+
+-- ---- changes that show nothing
+
+pub record Shows (strict : Bool) (g : Row → Row) : Type 0 where
+  pub looks : (r : Row) → face strict (g r) ≡ face strict r
+  pub says : (r : Row) → said (g r) ≡ said r
+
+ways_face : (strict : Bool) (r : Row) (n : ℕ) → face strict (with_ways r n) ≡ face strict r
+ways_face strict (Row.Name (NameRow.Label marked value level ways)) n = refl
+ways_face strict r n = refl
+
+ways_said : (r : Row) (n : ℕ) → said (with_ways r n) ≡ said r
+ways_said (Row.Name (NameRow.Label marked value level ways)) n = refl
+ways_said r n = refl
+
+pub ways_show : (strict : Bool) (f : Row → ℕ) → Shows strict (λ r. with_ways r (f r))
+ways_show strict f = record { looks = λ r. ways_face strict r (f r); says = λ r. ways_said r (f r) }
+
+on_face : (strict : Bool) (r : Row) (n : ℕ) → face strict (row_on r n) ≡ face strict r
+on_face strict (Row.Item i) n = refl
+on_face strict r n = refl
+
+on_said : (r : Row) (n : ℕ) → said (row_on r n) ≡ said r
+on_said (Row.Item i) n = refl
+on_said r n = refl
+
+pub on_show : (strict : Bool) (n : ℕ) → Shows strict (λ r. row_on r n)
+on_show strict n = record { looks = λ r. on_face strict r n; says = λ r. on_said r n }
+
+value_face : (strict : Bool) (r : Row) → face strict (with_value r) ≡ face strict r
+value_face strict (Row.Name (NameRow.Routine assigned number region)) = refl
+value_face strict r = refl
+
+value_said : (r : Row) → said (with_value r) ≡ said r
+value_said (Row.Name (NameRow.Routine assigned number region)) = refl
+value_said r = refl
+
+pub value_shows : (strict : Bool) → Shows strict with_value
+value_shows strict = record { looks = value_face strict; says = value_said }
+
+mark_face : (r : Row) → face false (marked_label r) ≡ face false r
+mark_face (Row.Name (NameRow.Label marked value level ways)) = refl
+mark_face r = refl
+
+mark_said : (r : Row) → said (marked_label r) ≡ said r
+mark_said (Row.Name (NameRow.Label marked value level ways)) = refl
+mark_said r = refl
+
+pub mark_shows : Shows false marked_label
+mark_shows = record { looks = mark_face; says = mark_said }
+
+-- ---- one row put
+
+got_either : (rows : List Row) (m n : ℕ) (r : Row)
+    → (unwrap_or (slice_get (set rows m r) n) Row.Nothing ≡ unwrap_or (slice_get rows n) Row.Nothing)
+    ⊎ ((n ≡ m) × (unwrap_or (slice_get (set rows m r) n) Row.Nothing ≡ r))
+got_either [] m n r = inl refl
+got_either (x ∷ xs) zero zero r = inr (refl, refl)
+got_either (x ∷ xs) zero (suc n) r = inl refl
+got_either (x ∷ xs) (suc m) zero r = inl refl
+got_either (x ∷ xs) (suc m) (suc n) r = elim (got_either xs m n r) [
+  | inl e ↦ inl e
+  | inr p ↦ inr (ap suc p.0, p.1)
+]
+
+pub row_either : (k : Known) (m n : ℕ) (r : Row) → (row_at (with_row k m r) n ≡ row_at k n) ⊎ ((n ≡ m) × (row_at (with_row k m r) n ≡ r))
+row_either k m n r = got_either k.program.rows m n r

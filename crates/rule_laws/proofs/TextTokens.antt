@@ -1,0 +1,70 @@
+-- The tokens of a text are counted, so none stands twice.
+use Rattle.std.proofs.Common.{◌++◌, ◌+◌, ◌<◌, ◌∷◌, ◌≡◌, ◌≤◌, [], ℕ, List, arith, inl, inr, length, refl, subst, suc, sym}
+use Rattle.std.proofs.lemmas.List.{length-append}
+use Rattle.grammar.specs.Nodes.{Item, Leaf, Node, Nothing, Pair, spell}
+use Rattle.grammar.specs.declared.terminals.Terminal.{Terminal}
+use Rattle.pas_tree.specs.Blocks.{tree_node}
+use Rattle.pas_phrases.specs.Items.{items_from, numbered}
+use Rattle.pas_parser.specs.Kinds.{terminals_of}
+use Rattle.rule_laws.specs.{TextLaws.TokensDiffer, Tokens.Has, Tokens.IsDistinct}
+
+-- their numbers count on from one
+abbrev Counted : ℕ → List Item → Type 0
+Counted n [] = Unit {0}
+Counted n (i ∷ is) = (i.number ≡ n) × Counted (n + 1) is
+
+counted : (n : ℕ) (ks : List Terminal) → Counted n (numbered n ks)
+counted n [] = tt
+counted n (k ∷ ks) = (refl, counted (n + 1) ks)
+
+all_counted : (ks : List Terminal) → Counted 0 (items_from ks 0)
+unfolding items_from
+all_counted ks = counted 0 ks
+
+on_from : (n m : ℕ) (is : List Item) → n ≡ m → Counted n is → Counted m is
+on_from n m is e c = subst (λ a. Counted a is) e c
+
+halves : (n : ℕ) (xs ys : List Item) → Counted n (xs ++ ys) → Counted n xs × Counted (n + length xs) ys
+halves n [] ys c = (tt, on_from n (n + 0) ys (omega arith) c)
+halves n (i ∷ xs) ys c =
+    let h = halves (n + 1) xs ys c.1 in
+    ((c.0, h.0), on_from (n + 1 + length xs) (n + suc (length xs)) ys (omega arith) h.1)
+
+record Between (low high m : ℕ) : Type 0 where
+  from : low ≤ m
+  before : m < high
+
+-- a token of a node that is counted from a number on
+between : (x : Node) (n m : ℕ) → Counted n (spell x) → Has x m → Between n (n + length (spell x)) m
+between (Leaf item) n m c h = let a = c.0 in record { from = omega (arith, a, h); before = omega (arith, a, h) }
+between Nothing n m c h = absurd h
+between (Pair a b) n m c (inl h) =
+    let parts = halves n (spell a) (spell b) c in
+    let i = between a n m parts.0 h in
+    let f = i.from in
+    let l = i.before in
+    let all = length-append (spell a) (spell b) in
+    record { from = f; before = omega (arith, l, all) }
+between (Pair a b) n m c (inr h) =
+    let parts = halves n (spell a) (spell b) c in
+    let i = between b (n + length (spell a)) m parts.1 h in
+    let f = i.from in
+    let l = i.before in
+    let all = length-append (spell a) (spell b) in
+    record { from = omega (arith, f); before = omega (arith, l, all) }
+
+differ : (x : Node) (n : ℕ) → Counted n (spell x) → IsDistinct x
+differ (Leaf item) n c = tt
+differ Nothing n c = tt
+differ (Pair a b) n c =
+    let parts = halves n (spell a) (spell b) c in (
+      differ a n parts.0,
+      differ b (n + length (spell a)) parts.1,
+      λ m h i.
+          let one = (between a n m parts.0 h).before in
+          let two = (between b (n + length (spell a)) m parts.1 i).from in
+          omega (arith, one, two),
+    )
+
+pub text_law : TokensDiffer
+text_law tokens t e = differ (tree_node t) 0 (subst (Counted 0) (sym e) (all_counted (terminals_of tokens)))

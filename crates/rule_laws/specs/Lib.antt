@@ -1,0 +1,10 @@
+pub mod BlockLabels
+pub mod CaseConstants
+pub mod CaseLaws
+pub mod ForwardHeadings
+pub mod LabelLaws
+pub mod Laws
+pub mod NameLaws
+pub mod RegionNames
+pub mod TextLaws
+pub mod Tokens

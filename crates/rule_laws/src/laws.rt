@@ -1,0 +1,65 @@
+//! The laws, each the contract of a call that does nothing.
+
+ghost use Rattle.rule_laws.specs.{LabelLaws.BlocksTellLabels, Laws.PartsTellRuleEight, TextLaws.TokensDiffer};
+ghost use Rattle.rule_laws.specs.CaseLaws.{CasesTellEqualConstants, VariantsTellEqualConstants};
+ghost use Rattle.rule_laws.specs.NameLaws.{BlocksTellNames, HeadingsTellFormals, LabelPartsTellLabels};
+ghost use Rattle.rule_laws.specs.NameLaws.{PartsTellSecondHeadings, ProgramsTellParameters, RecordsTellFields};
+
+/// No token stands twice in the tree of a text.
+pub fn tokens_of_a_text_differ()
+    ensures { TokensDiffer }
+{}
+
+/// Of the procedures and functions of a part, those break rule 8 that are forward and have no block later in the part.
+pub fn forward_headings_are_completed()
+    ensures { PartsTellRuleEight }
+{}
+
+/// Of the constants of a case statement, those break rule 22 that are not of the selector's host type, or are equal to
+/// one before them.
+pub fn case_constants_differ()
+    ensures { CasesTellEqualConstants }
+{}
+
+/// So of the constants of a variant part, by the host type of its tag.
+pub fn variant_constants_differ()
+    ensures { VariantsTellEqualConstants }
+{}
+
+/// Of the labels in front of the statements of a block, those break rule 15 that the block doesn't declare, or that
+/// stand before an earlier statement of it, too.
+pub fn labels_are_declared_and_differ()
+    ensures { BlocksTellLabels }
+{}
+
+/// Of the names of a block's constants, types and variables, and of the enumerations in their types, those break rule 2
+/// that are defined before them in the region.
+pub fn names_are_defined_once()
+    ensures { BlocksTellNames }
+{}
+
+/// So of the fields of a record, those of all its variants.
+pub fn fields_are_defined_once()
+    ensures { RecordsTellFields }
+{}
+
+/// So of the formal parameters of a heading.
+pub fn formals_are_defined_once()
+    ensures { HeadingsTellFormals }
+{}
+
+/// So of the program parameters, of which only `input` and `output` are defined.
+pub fn parameters_are_defined_once()
+    ensures { ProgramsTellParameters }
+{}
+
+/// Of the procedures and functions of a part, those break rule 2 whose name is defined before them in the region, but
+/// for one that has the block of the first heading of its name.
+pub fn routines_are_defined_once()
+    ensures { PartsTellSecondHeadings }
+{}
+
+/// Of the labels of a label part, those break rule 2 that are declared before them in the block.
+pub fn labels_are_declared_once()
+    ensures { LabelPartsTellLabels }
+{}
