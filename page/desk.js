@@ -3,6 +3,7 @@ import { fileOfText } from './bytes.js';
 import { Dialog } from './dialog.js';
 import { byId } from './dom.js';
 import { Engine } from './engine.js';
+import { Scroller } from './scroller.js';
 import { SourceView } from './source_view.js';
 import { TreeView } from './tree_view.js';
 
@@ -15,6 +16,7 @@ export class Desk {
     this.dialog = new Dialog(this.engine, () => this.render());
     this.source = new SourceView({ onEdit: () => acts.edited(), onLine: (line) => acts.findLine(line) });
     this.tree = new TreeView(byId('tree'), { onChoose: (call) => acts.choose(call) });
+    this.middle = new Scroller(byId('middle'));
     // The program in the editor, which may have been changed since it ran, and its input.
     this.program = { name: 'untitled.pas', file: fileOfText(''), input: fileOfText(''), example: null };
     this.chosen = -1;

@@ -87,8 +87,10 @@ export class Dialog {
 
   async turn(lines, asks) {
     this.isBusy = true;
+    // It runs while the page is painted.
+    const answer = this.engine.line(this.turnOf(lines, asks));
     this.onChange();
-    const came = await this.engine.line(this.turnOf(lines, asks));
+    const came = await answer;
     this.isBusy = false;
     return came;
   }

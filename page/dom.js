@@ -1,4 +1,5 @@
 // Elements. What comes from a program goes in as text alone, since a source or an output may hold anything.
+import { counted } from './words.js';
 
 export const byId = (id) => document.getElementById(id);
 
@@ -51,7 +52,7 @@ export function fold(what, summary, kids) {
 // A text in which `names` stand between backquotes.
 export const withCode = (text) => text.split('`').map((piece, at) => (at % 2 === 1 ? make('code', piece) : piece));
 
-export const plural = (count, one, many = `${one}s`) => `${count.toLocaleString('en')} ${count === 1 ? one : many}`;
+export const plural = (count, one, many = `${one}s`) => `${counted(count)} ${count === 1 ? one : many}`;
 
 // A clock that waits until nothing came for a while.
 export function later(ms, act) {

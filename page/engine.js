@@ -13,9 +13,10 @@ const PAUSE_MS = 150;
 const MEGABYTE = 1024 * 1024;
 // Above this one turn is computed ahead at a time.
 const LARGE = 500 * MEGABYTE;
-// A worker keeps its instance, whose memory serves the next turn. So many wait, and hold no more than that together.
+// A worker keeps its instance, whose memory serves the next turn. So many wait, and where several hold memory, they hold no more
+// together than a quarter of the machine's. Not every browser tells how many gigabytes that has.
 const SPARES = 3;
-const HELD = 3 * LARGE;
+const HELD = (globalThis.navigator?.deviceMemory ?? 8) * 256 * MEGABYTE;
 // Where another program runs, or nobody has asked for anything for a while, those that hold more are ended.
 const SMALL = 64 * MEGABYTE;
 const REST_MS = 60_000;
@@ -164,7 +165,8 @@ export class Engine {
 
   giveBack(worker, { trap }) {
     const held = this.spares.reduce((sum, { memory }) => sum + memory, 0);
-    const isKept = trap === undefined && this.spares.length < SPARES && held + worker.memory <= HELD;
+    const hasRoom = held <= SMALL || held + worker.memory <= HELD;
+    const isKept = trap === undefined && hasRoom && this.spares.length < SPARES;
     if (isKept) this.spares.push(worker);
     this.tidy(isKept ? null : worker);
   }

@@ -9,7 +9,7 @@ import { refusalOf } from './refusal.js';
 import { keptBefore } from './session.js';
 import { lineOfCall } from './trace.js';
 import { offerView, storyView, waitingView, welcomeView } from './welcome_view.js';
-import { endOf } from './words.js';
+import { counted, endOf } from './words.js';
 
 export class Painter {
   // `context` is what the parts of the middle may do, see page.js; `acts` has `open`, `run`, `pick`, `goOn` and `putBack`.
@@ -17,6 +17,7 @@ export class Painter {
     Object.assign(this, { desk, context, acts });
     this.shownTree = null;
     this.shownCard = '';
+    this.shownEntries = null;
     this.lastSaid = '';
   }
 
@@ -85,7 +86,7 @@ export class Painter {
   }
 
   paintQuestion() {
-    const { context, acts } = this;
+    const { context } = this;
     const { dialog } = this.desk;
     const progress = progressOf(dialog);
     byId('left-text').textContent = progress.text;
@@ -93,10 +94,19 @@ export class Painter {
     this.paintCard();
     const hint = dialog.questionCall >= 0 ? hintView(dialog, context) : null;
     byId('hint').replaceChildren(...(hint === null ? [] : [hint]));
+    this.paintHistory();
+    this.announce(progress.text);
+  }
+
+  // The list is made anew only where a turn brought another one, so that no click on it is lost.
+  paintHistory() {
+    const { context, acts } = this;
+    const { dialog } = this.desk;
+    if (dialog.entries === this.shownEntries) return;
+    this.shownEntries = dialog.entries;
     const before = dialog.session.lines.length === 0 ? keptBefore() : null;
     byId('history').replaceChildren(historyView(dialog.entries, dialog.tree, context),
       ...(before === null ? [] : [make('p.quiet', button('.link', { onclick: () => acts.goOn(before) }, `Back to the answers on ${before.name}`))]));
-    this.announce(progress.text);
   }
 
   // A card is made anew only where it says something new, so that what was opened in it stays open and the focus stays in it.
@@ -124,7 +134,7 @@ export class Painter {
     if (said === this.lastSaid) return;
     this.lastSaid = said;
     byId('said').textContent = said;
-    byId('middle').scrollTop = 0;
+    this.desk.middle.scrollTo(0);
   }
 
   // ---- the answers, the calls and the source
@@ -151,7 +161,7 @@ export class Painter {
       this.shownTree = dialog.tree;
       if (dialog.tree === null) tree.clear(); else tree.setTree(dialog.tree);
     }
-    byId('callCount').textContent = dialog.tree === null ? '' : dialog.tree.parent.length.toLocaleString('en');
+    byId('callCount').textContent = dialog.tree === null ? '' : counted(dialog.tree.parent.length);
     byId('right').classList.toggle('empty', dialog.tree === null);
     tree.setMarks({ asked: dialog.questionCall, accused: dialog.accused ?? -1 });
     byId('detail').replaceChildren(...(chosen >= 0 && dialog.tree !== null ? [detailView(chosen, dialog, source.outline, context)] : []));
@@ -162,10 +172,9 @@ export class Painter {
     byId('legend').textContent = '';
     const refusal = isStale ? null : this.refusalShown();
     if (refusal !== null) {
-      source.mark({ refusal });
-      source.show(refusal.line);
+      source.mark({ refusal }, refusal.line);
     } else if (isStale || dialog.shown === null) {
-      source.mark({});
+      source.unmark();
     } else {
       this.paintMarks();
     }
@@ -181,10 +190,13 @@ export class Painter {
     const parent = call > 0 && dialog.tree !== null ? dialog.traces.get(dialog.tree.parent[call]) : undefined;
     const callLine = parent === undefined ? 0 : lineOfCall(parent, call);
     const end = call >= 0 && dialog.cards.has(call) ? endOf(dialog.cards.get(call).end) : null;
-    source.mark({ routine: routine ?? null, counts, callLine, faultLine: end === null ? 0 : end.line });
-    if (routine === undefined) return;
+    const marks = { routine: routine ?? null, counts, callLine, faultLine: end === null ? 0 : end.line };
+    if (routine === undefined) {
+      source.mark(marks);
+      return;
+    }
     byId('legend').textContent = counts === null ? `the text of ${routine.name}` : `how often ${routine.name} began each line`;
-    source.show(counts === null || counts.size === 0 ? routine.from : Math.min(...counts.keys()));
+    source.mark(marks, counts === null || counts.size === 0 ? routine.from : Math.min(...counts.keys()));
   }
 
   // What was printed belongs to the program that ran, not to one that was changed since.

@@ -58,7 +58,7 @@ export class Programs {
     byId('query').value = '';
     desk.showPane('question');
     await desk.dialog.run(session);
-    byId('middle').scrollTop = 0;
+    desk.middle.scrollTo(0);
     await this.onRun();
   }
 

@@ -7,7 +7,7 @@ import { lineOfCall } from './trace.js';
 import { mostQuestions, questionOf } from './forecast.js';
 import { traceView } from './trace_view.js';
 import { verdictView } from './verdict_view.js';
-import { KEPT_SAID } from './words.js';
+import { KEPT_SAID, counted } from './words.js';
 
 const MANY = 5;
 const MOST_SHARE = 0.5;
@@ -42,7 +42,7 @@ export function hintView(dialog, context) {
   const routine = counts.indexOf(count);
   if (count < suspects.length * MOST_SHARE || count === suspects.length) return null;
   const name = dialog.tree.names[routine];
-  return make('p.hint', `${count.toLocaleString('en')} of these ${suspects.length.toLocaleString('en')} calls are of `, make('code', name), '. If you are sure of it, ',
+  return make('p.hint', `${counted(count)} of these ${counted(suspects.length)} calls are of `, make('code', name), '. If you are sure of it, ',
     button('.link', { onclick: () => context.say(`trust #${routine}`) }, `trust ${name}`), '.');
 }
 

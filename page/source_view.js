@@ -2,6 +2,7 @@
 // lie below it, and only the lines that are seen are made.
 import { byId, make } from './dom.js';
 import { outlineOf } from './pascal.js';
+import { Scroller } from './scroller.js';
 
 const INPUT_WORDS = new Set(['read', 'readln', 'eof', 'eoln', 'get']);
 const NO_MARKS = { routine: null, counts: null, refusal: null, callLine: 0, faultLine: 0 };
@@ -13,12 +14,11 @@ export class SourceView {
     this.under = byId('under');
     this.marks = NO_MARKS;
     this.area.addEventListener('input', () => { this.read(); onEdit(); });
-    this.area.addEventListener('scroll', () => this.paint());
     this.gutter.addEventListener('click', (event) => {
       const line = Number(event.target.closest('[data-line]')?.dataset.line ?? 0);
       if (line > 0) onLine(line);
     });
-    new ResizeObserver(() => this.paint()).observe(this.area);
+    this.seen = new Scroller(this.area, () => this.paint());
     this.read();
   }
 
@@ -28,7 +28,7 @@ export class SourceView {
 
   set text(text) {
     this.area.value = text;
-    this.area.scrollTop = 0;
+    this.seen.scrollTo(0);
     this.read();
   }
 
@@ -38,6 +38,7 @@ export class SourceView {
     for (let at = text.indexOf('\n'); at >= 0; at = text.indexOf('\n', at + 1)) this.starts.push(at + 1);
     this.outline = outlineOf(text);
     this.marks = NO_MARKS;
+    this.seen.shrink();
     this.paint();
   }
 
@@ -46,8 +47,16 @@ export class SourceView {
     return this.outline.tokens.some((token) => token.kind === 'word' && INPUT_WORDS.has(token.text));
   }
 
-  mark(marks) {
+  // Marks some lines, and brings one of them into sight.
+  mark(marks, line = 0) {
     this.marks = { ...NO_MARKS, ...marks };
+    if (line > 0) this.bring(line);
+    this.paint();
+  }
+
+  unmark() {
+    if (this.marks === NO_MARKS) return;
+    this.marks = NO_MARKS;
     this.paint();
   }
 
@@ -57,11 +66,15 @@ export class SourceView {
   }
 
   // Brings a line into sight, near the top.
+  bring(line) {
+    const { top, height, lineHeight } = this.seen;
+    const at = (line - 1) * lineHeight;
+    const isSeen = at >= top && at + 3 * lineHeight <= top + height;
+    if (!isSeen) this.seen.scrollTo(Math.max(0, at - 3 * lineHeight));
+  }
+
   show(line) {
-    const height = this.lineHeight();
-    const top = (line - 1) * height;
-    const isSeen = top >= this.area.scrollTop && top + 3 * height <= this.area.scrollTop + this.area.clientHeight;
-    if (!isSeen) this.area.scrollTop = Math.max(0, top - 3 * height);
+    this.bring(line);
     this.paint();
   }
 
@@ -73,15 +86,10 @@ export class SourceView {
     this.show(line);
   }
 
-  lineHeight() {
-    return parseFloat(getComputedStyle(this.area).lineHeight) || 20;
-  }
-
   paint() {
-    const height = this.lineHeight();
-    const { scrollTop, scrollLeft, clientHeight } = this.area;
-    const first = Math.max(1, Math.floor(scrollTop / height));
-    const last = Math.min(this.starts.length, Math.ceil((scrollTop + clientHeight) / height) + 1);
+    const { top, left, height, lineHeight } = this.seen;
+    const first = Math.max(1, Math.floor(top / lineHeight));
+    const last = Math.min(this.starts.length, Math.ceil((top + height) / lineHeight) + 1);
     const numbers = [];
     const lines = [];
     for (let line = first; line <= last; line += 1) {
@@ -89,11 +97,11 @@ export class SourceView {
       numbers.push(make(`div${kind}`, { 'data-line': line, title: this.titleOf(line) }, this.noteOf(line), make('span', String(line))));
       lines.push(make(`div${kind}`, this.piecesOf(line)));
     }
-    const top = (first - 1) * height - scrollTop;
+    const from = (first - 1) * lineHeight - top;
     this.gutter.firstElementChild.replaceChildren(...numbers);
-    this.gutter.firstElementChild.style.transform = `translateY(${top}px)`;
+    this.gutter.firstElementChild.style.transform = `translateY(${from}px)`;
     this.under.firstElementChild.replaceChildren(...lines);
-    this.under.firstElementChild.style.transform = `translate(${-scrollLeft}px, ${top}px)`;
+    this.under.firstElementChild.style.transform = `translate(${-left}px, ${from}px)`;
   }
 
   kindOf(line) {

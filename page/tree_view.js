@@ -2,6 +2,7 @@
 // no more work than a page of them.
 import { make } from './dom.js';
 import { MARKS, nameOf } from './call_table.js';
+import { Scroller } from './scroller.js';
 
 const SIGNS = { unjudged: '\u00b7', right: '\u2713', wrong: '\u2717', unknown: '?', trusted: '\u2605' };
 const SAID = { unjudged: '', right: 'right', wrong: 'wrong', unknown: 'could not be judged', trusted: 'trusted' };
@@ -12,10 +13,10 @@ export class TreeView {
     this.box = box;
     this.inside = box.firstElementChild;
     this.onChoose = onChoose;
-    box.addEventListener('scroll', () => this.paint());
     box.addEventListener('click', (event) => this.clicked(event));
     box.addEventListener('keydown', (event) => this.pressed(event));
-    new ResizeObserver(() => this.paint()).observe(box);
+    this.tree = null;
+    this.seen = new Scroller(box, () => this.paint());
     this.clear();
   }
 
@@ -30,15 +31,15 @@ export class TreeView {
     this.briefs = new Map();
     this.inside.replaceChildren();
     this.inside.style.height = '0';
+    this.seen.scrollTo(0);
   }
 
-  // A run's calls. Of a small one all are shown, of a large one the program's own.
+  // A run's calls, which are shown with their marks. Of a small one all are open, of a large one the program's own.
   setTree(tree) {
     this.clear();
     this.tree = tree;
     this.open = new Uint8Array(tree.parent.length).fill(tree.parent.length <= OPENED_AT_FIRST ? 1 : 0);
     if (tree.parent.length > 0) this.open[0] = 1;
-    this.arrange();
   }
 
   setMarks({ asked, accused }) {
@@ -48,37 +49,37 @@ export class TreeView {
     this.reveal(asked >= 0 ? asked : accused);
   }
 
-  // Opens all above a call and brings it into sight.
+  // Opens all above a call and brings it into sight. -1 is no call.
   reveal(call) {
-    if (this.tree === null || call < 0 || call >= this.open.length) return;
-    if (this.found === null) {
+    if (this.found === null && call >= 0) {
       for (let at = this.tree.parent[call]; at >= 0; at = this.tree.parent[at]) this.open[at] = 1;
     }
     this.arrange();
     const place = this.rows.indexOf(call);
-    if (place >= 0) this.moveTo(place);
+    if (place >= 0) this.moveTo(place); else this.paint();
   }
 
   choose(call) {
     this.chosen = call;
-    this.reveal(call);
+    if (this.tree !== null && call >= 0) this.reveal(call);
   }
 
   // Shows these calls alone, or the tree again.
   setFound(calls) {
     this.found = calls;
     this.cursor = 0;
-    this.box.scrollTop = 0;
+    this.seen.scrollTo(0);
     this.arrange();
+    this.paint();
   }
 
+  // Which calls have a row, and how much room all rows take.
   arrange() {
     if (this.tree === null) return;
     this.rows = this.found ?? this.opened();
-    this.height = this.rowHeight();
-    this.inside.style.height = `${this.rows.length * this.height}px`;
+    this.inside.style.height = `${this.rows.length * this.seen.lineHeight}px`;
+    this.seen.shrink();
     this.cursor = Math.min(this.cursor, Math.max(0, this.rows.length - 1));
-    this.paint();
   }
 
   // The calls of which all above are open, in order.
@@ -94,14 +95,11 @@ export class TreeView {
     return rows.slice(0, count);
   }
 
-  rowHeight() {
-    return parseFloat(getComputedStyle(this.box).lineHeight) || 24;
-  }
-
   paint() {
     if (this.tree === null) return;
-    const first = Math.max(0, Math.floor(this.box.scrollTop / this.height) - 5);
-    const last = Math.min(this.rows.length, Math.ceil((this.box.scrollTop + this.box.clientHeight) / this.height) + 5);
+    const { top, height, lineHeight } = this.seen;
+    const first = Math.max(0, Math.floor(top / lineHeight) - 5);
+    const last = Math.min(this.rows.length, Math.ceil((top + height) / lineHeight) + 5);
     const made = [];
     for (let place = first; place < last; place += 1) made.push(this.rowView(place));
     this.inside.replaceChildren(...made);
@@ -123,7 +121,7 @@ export class TreeView {
       id: `row-${call}`, role: 'treeitem', 'data-call': call, 'aria-level': depth + 1, 'aria-selected': call === this.chosen ? 'true' : 'false',
       'aria-expanded': showsFold ? String(isOpen) : null,
       'aria-label': `${nameOf(tree, call)}${this.briefs.get(call) ?? ''}, call ${call}${notes.length > 0 ? `, ${notes.join(', ')}` : ''}`,
-      style: `top: ${place * this.height}px; --depth: ${Math.min(depth, 24)}`,
+      style: `top: ${place * this.seen.lineHeight}px; --depth: ${Math.min(depth, 24)}`,
     }, make('span.twist', { 'aria-hidden': 'true' }, showsFold ? (isOpen ? '\u25be' : '\u25b8') : ''),
     make(`span.sign.${mark}`, { title: SAID[mark] }, SIGNS[mark]),
     make('span.name', nameOf(tree, call)), make('span.brief', this.briefs.get(call) ?? ''), make('span.space'),
@@ -144,28 +142,29 @@ export class TreeView {
   setOpen(call, isOpen) {
     this.open[call] = isOpen ? 1 : 0;
     this.arrange();
+    this.paint();
   }
 
   openAll(isOpen) {
     if (this.tree === null) return;
     this.open.fill(isOpen ? 1 : 0);
     this.open[0] = 1;
-    this.arrange();
     this.reveal(this.asked >= 0 ? this.asked : this.accused);
   }
 
   moveTo(place) {
     this.cursor = Math.max(0, Math.min(this.rows.length - 1, place));
-    const top = this.cursor * this.height;
-    if (top < this.box.scrollTop) this.box.scrollTop = top;
-    if (top + this.height > this.box.scrollTop + this.box.clientHeight) this.box.scrollTop = top + this.height - this.box.clientHeight;
+    const { top, height, lineHeight } = this.seen;
+    const at = this.cursor * lineHeight;
+    if (at < top) this.seen.scrollTo(at);
+    else if (at + lineHeight > top + height) this.seen.scrollTo(at + lineHeight - height);
     this.paint();
   }
 
   pressed(event) {
     if (this.tree === null || this.rows.length === 0 || event.ctrlKey || event.metaKey || event.altKey) return;
     const call = this.rows[this.cursor];
-    const page = Math.max(1, Math.floor(this.box.clientHeight / this.height) - 1);
+    const page = Math.max(1, Math.floor(this.seen.height / this.seen.lineHeight) - 1);
     const hasKids = this.found === null && this.tree.last[call] > call;
     const acts = {
       ArrowDown: () => this.moveTo(this.cursor + 1),

@@ -1,5 +1,9 @@
 // What the page says, in a student's words.
 
+// A number as it is read. What writes it takes a browser some milliseconds to make, so that is made once, and before anybody waits.
+const NUMBERS = new Intl.NumberFormat('en');
+export const counted = (count) => NUMBERS.format(count);
+
 const FAULTS = {
   Undefined: 'a variable without a value was used',
   Overflow: 'a number left the range of integers, \u22122147483647 to 2147483647',
@@ -86,7 +90,7 @@ const MISFITS = [
 export function statusSaid(status, screen) {
   for (const [pattern, said] of MISFITS) {
     const found = pattern.exec(screen);
-    if (found !== null) return said.replace('$1', Number(found[1]).toLocaleString('en'));
+    if (found !== null) return said.replace('$1', counted(Number(found[1])));
   }
   return STATUSES[status] ?? `The command ended with the status ${status}.`;
 }

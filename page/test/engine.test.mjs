@@ -232,7 +232,7 @@ test('the worker whose instance has most memory does the next turn', async () =>
 });
 
 test('the worker that holds most is left to a line while others compute ahead, where there is room for one more', async () => {
-  for (const [size, isLeft] of [[490, true], [740, true], [760, false]]) {
+  for (const [size, isLeft] of [[490, true], [1020, true], [1030, false]]) {
     const { engine, workers, doing, finish, thought } = tried();
     engine.line(turnOf([]));
     await finish('run', { memory: size * MEGABYTE });
@@ -248,9 +248,19 @@ test('workers that wait hold so much together; one that would hold more is ended
   const { doing, finish, thought } = tried();
   await thought([], SLOW);
   const [right, wrong] = [doing('right 2'), doing('wrong 2')];
-  await finish('right 2', { memory: 800 * MEGABYTE });
-  await finish('wrong 2', { memory: 800 * MEGABYTE });
+  await finish('right 2', { memory: 1100 * MEGABYTE });
+  await finish('wrong 2', { memory: 1100 * MEGABYTE });
   assert.deepEqual([right.isEnded, wrong.isEnded], [false, true]);
+});
+
+test('one that holds much is kept whatever it holds, since its memory serves the next turn', async () => {
+  const { engine, workers, alive, finish } = tried();
+  for (const line of ['right 1', 'right 2']) {
+    engine.line(turnOf([line]));
+    await finish(line, { memory: 3000 * MEGABYTE });
+  }
+  assert.equal(workers[0].begun, 2);
+  assert.deepEqual(alive().map((worker) => worker.begun), [2]);
 });
 
 test('an instance that failed serves no more', async () => {

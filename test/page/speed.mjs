@@ -2,23 +2,23 @@
 //
 //     node --experimental-websocket speed.mjs PAGE NATIVE [--browser chromium|firefox] [--only WORD] [--rounds N]
 //
-// The native program and the page take turns, N times, and of each the least counts. Times are the processor's, as the system
-// tells them of the native program and of all processes of the browser, so that what else the machine does doesn't count; where
-// the page's own clock tells less, it is that. Of each large program:
+// What is compared takes turns, N rounds long, and of each figure the median counts; the least and the greatest stand beside it. Times
+// are the processor's, as the system tells them of the native program and of the browser, so that what else the machine does counts
+// less; where the page's own clock tells less, it is that. Of each large program:
 //
 // - the time from Run to the first question, and the native program's for a session that ends there. Of a run of 4,000,000 steps
-//   the page's may be three times as long; a lesson's is held against 50 ms;
-// - the time of `right` and of `wrong` once both answers were computed ahead, whichever took longer. They may take 300 ms once a
-//   turn's time has passed; where an instance took 500 MB there is room for one alone, so two turns' time is waited;
+//   the page's may be three times as long; a lesson's is held against 50 ms. Of both it is the time of all processes;
+// - the time of `right` and of `wrong` once both answers were computed ahead. They may take 300 ms once a turn's time has passed;
+//   where an instance took 500 MB there is room for one alone, so two turns' time is waited;
 // - the time of an answer that was not computed ahead, `unknown`: of one that comes as soon as the question is there, and of one
-//   that comes half a turn later, while the page computes the other two. Beside each stands one turn of the function itself with the
-//   same lines, in a worker of an idle page, without anything of the page around it. The answer may take as long, and PAGE_MS for
-//   the page. Of either the processor's time is that of the page's own thread and of the worker that did it: all that whoever
-//   answers waits for;
+//   that comes half a turn later, while the page computes the other two. Soon after each comes its yardstick, one turn of the function
+//   itself with the same lines in an instance of its own, in a worker beside the idle page. Of either the processor's time is that of
+//   the page's own thread and of the worker that did it: all that whoever answers waits for. Each pair gives a ratio; and the answer may
+//   take as long as its yardstick, and PAGE_MS for the page, in the median of all pairs;
 // - the memory that one turn takes up, in Node, which has the same engine as Chromium, and the native program's. It may be 1.5
 //   times as much and 32 MB. (What an instance could take up is shown below the page; most of a small one's is never touched.)
 //
-// `over` marks what is beyond these limits. The status is 1 where something is.
+// `over` marks what is beyond these limits. The status is 1 where something is. A round has QUESTIONS pairs of either kind.
 import { spawnSync } from 'node:child_process';
 import { mkdtempSync, readdirSync, readFileSync, rmSync, writeFileSync } from 'node:fs';
 import { cpus, loadavg, tmpdir, totalmem } from 'node:os';
@@ -36,12 +36,13 @@ const MEGABYTE = 1048576, ALONE = 500;
 const PAGE_MS = 50;
 const LIMITS = { lesson: 50, question: 3, ahead: 300, memory: 1.5, moreMemory: 32 };
 const LONGEST = '4000000', SCREEN = (1 << 20) - 8;
-const LESSON_ROUNDS = 8, READING = 2000;
+const LESSON_ROUNDS = 9, QUESTIONS = 2, READING = 2000;
+const WINDOW = { width: 1400, height: 900 };
 
 const { values: options, positionals: [folder, program] } = parseArgs({
   allowPositionals: true,
   options: {
-    browser: { type: 'string', default: 'chromium' }, only: { type: 'string', default: '' }, rounds: { type: 'string', default: '3' }, memory: { type: 'string' },
+    browser: { type: 'string', default: 'chromium' }, only: { type: 'string', default: '' }, rounds: { type: 'string', default: '2' }, memory: { type: 'string' },
   },
 });
 
@@ -124,7 +125,7 @@ async function timedTurn(page, act) {
 const KEEPS_WORKERS = `(() => {
   const { terminate } = Worker.prototype;
   Worker.prototype.terminate = function () {
-    if (document.body.classList.contains('busy')) terminate.call(this);
+    if (window.isBegun || document.body.classList.contains('busy')) terminate.call(this);
     else setTimeout(() => terminate.call(this), 1000);
   };
 })()`;
@@ -132,7 +133,9 @@ const KEEPS_WORKERS = `(() => {
 // Until the page is calm again, which is waited for without taking time of its own.
 const untilCalm = (act) => `(async () => {
   const begun = performance.now();
+  window.isBegun = true;
   ${act}
+  window.isBegun = false;
   await new Promise((done) => setTimeout(done, 0));
   const isBusy = () => document.body.classList.contains('busy');
   if (isBusy()) {
@@ -165,77 +168,114 @@ async function opened(page, url, { source, budget }) {
   await pause(READING);
 }
 
-// One turn of the function with these lines, in a worker that does nothing else; of two turns the second counts, since the browser
-// compiles in the first.
+// A worker that does one turn of the function each time it is asked, in an instance of its own.
 const TURN_ALONE = `${turnIn}
+let code = null;
 self.onmessage = async ({ data: { module, given, room } }) => {
-  const packed = new Blob([Uint8Array.from(atob(module), (it) => it.charCodeAt(0))]);
-  const code = await WebAssembly.compile(await new Response(packed.stream().pipeThrough(new DecompressionStream('gzip'))).arrayBuffer());
-  turnIn(code, given, room);
-  self.postMessage('ready');
-  self.onmessage = () => self.postMessage(turnIn(code, given, room).ms);
+  if (code === null) {
+    const packed = new Blob([Uint8Array.from(atob(module), (it) => it.charCodeAt(0))]);
+    code = await WebAssembly.compile(await new Response(packed.stream().pipeThrough(new DecompressionStream('gzip'))).arrayBuffer());
+  }
+  self.postMessage(turnIn(code, given, room).ms);
 };`;
+const STANDS_ALONE = `(() => {
+  const worker = new Worker(URL.createObjectURL(new Blob([${JSON.stringify(TURN_ALONE)}])));
+  window.alone = (given) => new Promise((done) => {
+    worker.onmessage = ({ data }) => done(data);
+    worker.postMessage({ module: PASASK.module, given, room: ${SCREEN} });
+  });
+})()`;
 
-async function alone(page, url, { source, budget }, lines) {
-  await visited(page, url);
-  const given = { source, budget, console: [...lines, '@', 'quit', ''].join('\n') };
-  await page.value(`(async () => {
-    window.alone = new Worker(URL.createObjectURL(new Blob([${JSON.stringify(TURN_ALONE)}])));
-    alone.asked = (message) => new Promise((done) => { alone.onmessage = ({ data }) => done(data); alone.postMessage(message); });
-    await alone.asked({ module: PASASK.module, given: ${JSON.stringify(given)}, room: ${SCREEN} });
-  })()`);
-  await pause(READING);
-  return timedTurn(page, 'alone.asked({})');
+// The yardstick. Of two turns in a new worker the second counts, since the browser may compile in the first.
+async function alone(page, { source, budget }, lines) {
+  const act = `alone(${JSON.stringify({ source, budget, console: [...lines, '@', 'quit', ''].join('\n') })})`;
+  if (await page.value('window.alone === undefined')) {
+    await page.value(STANDS_ALONE);
+    await page.value(act);
+  }
+  return (await timedTurn(page, act)).used;
 }
 
-// One round in the page: the first question, both answers that were computed ahead, and in between two that were not.
-async function inPage(page, url, given) {
+// Figures of one kind.
+class Figures {
+  constructor() {
+    this.all = [];
+  }
+
+  add(figure) {
+    this.all.push(figure);
+  }
+
+  get isThere() {
+    return this.all.length > 0;
+  }
+
+  get median() {
+    const rising = this.all.toSorted((one, other) => one - other), half = rising.length >> 1;
+    return rising.length % 2 === 1 ? rising[half] : (rising[half - 1] + rising[half]) / 2;
+  }
+
+  // With what is least and greatest.
+  say(tell) {
+    return this.isThere ? `${tell(this.median)} (${tell(Math.min(...this.all))} to ${tell(Math.max(...this.all))})` : '–';
+  }
+}
+
+const KINDS = ['native', 'nativeTaken', 'question', 'grown', 'ahead', 'atOnce', 'atOnceTurn', 'atOnceRatio', 'atOnceMore', 'amid', 'amidTurn', 'amidRatio', 'amidMore'];
+
+// One round in the page: the first question, and at several questions both answers that were computed ahead, two that were not, and
+// the yardsticks of these.
+async function inPage(page, given, figures) {
   const question = await timed(page, untilCalm('document.querySelector("#run").click();'));
   await page.until('document.querySelector("#card h2") !== null', 120);
   const grown = Number(/([\d,]+) MB/.exec(await page.value('document.querySelector("#cost").textContent'))[1].replace(/,/g, ''));
-  const round = { question: question.used, grown };
+  figures.question.add(question.used);
+  figures.grown.add(grown);
   const thinking = () => pause(question.clock * (grown < ALONE ? 1 : 2) + 200);
-  const lines = [], said = {};
+  const lines = [];
   const answered = async (key, word, by) => {
     lines.push(`${word} ${await page.value('document.querySelector("#question").dataset.call')}`);
     return (await by(page, untilCalm(pressed(key)))).used;
   };
-  if (!(await hasQuestion(page))) return round;
-  await thinking();
-  round.ahead = await answered('r', 'right', timed);
-  for (const [what, after] of [['atOnce', 0], ['amid', question.clock / 2]]) {
-    if (!(await hasQuestion(page))) continue;
-    await pause(after);
-    round[what] = await answered('d', 'unknown', timedTurn);
-    said[what] = [...lines];
-  }
-  if (await hasQuestion(page)) {
+  if (await hasQuestion(page)) await thinking();
+  for (let i = 0; i < QUESTIONS && await hasQuestion(page); i++) {
+    const right = await answered('r', 'right', timed);
+    // Later the yardsticks come in between, and it has more time.
+    if (i === 0) figures.ahead.add(right);
+    const said = {};
+    for (const [what, after] of [['atOnce', 0], ['amid', question.clock / 2]]) {
+      if (!(await hasQuestion(page))) continue;
+      await pause(after);
+      said[what] = { used: await answered('d', 'unknown', timedTurn), lines: [...lines] };
+    }
     await thinking();
-    round.ahead = Math.max(round.ahead, await answered('w', 'wrong', timed));
+    if (i === QUESTIONS - 1 && await hasQuestion(page)) {
+      figures.ahead.add(await answered('w', 'wrong', timed));
+      if (await hasQuestion(page)) await thinking();
+    }
+    for (const [what, { used, lines: those }] of Object.entries(said)) {
+      const turn = await alone(page, given, those);
+      for (const [kind, figure] of [['', used], ['Turn', turn], ['Ratio', used / turn], ['More', used - turn]]) figures[what + kind].add(figure);
+    }
   }
-  for (const [what, lines] of Object.entries(said)) round[`${what}Turn`] = (await alone(page, url, given, lines)).used;
-  return round;
 }
 
-const least = (rounds, what) => Math.min(...rounds.map((it) => it[what] ?? Infinity));
-
 async function measured(page, url, given, module) {
-  const isLesson = given === LARGE[0], ours = [], theirs = [];
+  const isLesson = given === LARGE[0], figures = Object.fromEntries(KINDS.map((kind) => [kind, new Figures()]));
   for (let i = 0; i < (isLesson ? LESSON_ROUNDS : Number(options.rounds)); i++) {
-    theirs.push(native(given));
+    const { time, memory } = native(given);
+    figures.native.add(time);
+    figures.nativeTaken.add(memory);
     await opened(page, url, given);
-    ours.push(await inPage(page, url, given));
+    await inPage(page, given, figures);
   }
-  return {
-    isLesson, isLong: given.budget === LONGEST, question: least(ours, 'question'), ahead: least(ours, 'ahead'), grown: least(ours, 'grown'),
-    atOnce: least(ours, 'atOnce'), atOnceTurn: least(ours, 'atOnceTurn'), amid: least(ours, 'amid'), amidTurn: least(ours, 'amidTurn'),
-    native: least(theirs, 'time'), taken: memoryOfTurn(module, given.name), nativeTaken: least(theirs, 'memory'),
-  };
+  return { ...figures, isLesson, isLong: given.budget === LONGEST, taken: memoryOfTurn(module, given.name) };
 }
 
 let over = 0;
-const ms = (it) => (it === Infinity ? '–' : it < 100 ? `${it.toFixed(0)} ms` : `${(it / 1000).toFixed(2)} s`);
+const ms = (it) => (it < 100 ? `${it.toFixed(0)} ms` : `${(it / 1000).toFixed(2)} s`);
 const mb = (it) => `${it.toFixed(0)} MB`;
+const share = (it) => it.toFixed(2);
 
 function marked(text, isOver) {
   if (isOver) over++;
@@ -243,23 +283,26 @@ function marked(text, isOver) {
 }
 
 function rowOf(name, it) {
-  const isSlow = it.isLesson ? it.question > LIMITS.lesson : it.isLong && it.question > LIMITS.question * it.native;
-  const times = `${(it.question / it.native).toFixed(1)} times`;
-  const beside = (used, turn) => (used === Infinity ? '–' : marked(`${ms(used)} of ${ms(turn)}`, used > turn + PAGE_MS));
-  const isLarge = it.taken > LIMITS.memory * it.nativeTaken + LIMITS.moreMemory;
-  return `| ${name} | ${marked(ms(it.question), isSlow)} | ${ms(it.native)} | ${times} | ${marked(ms(it.ahead), it.ahead !== Infinity && it.ahead > LIMITS.ahead)} | `
-    + `${beside(it.atOnce, it.atOnceTurn)} | ${beside(it.amid, it.amidTurn)} | ${marked(mb(it.taken), isLarge)} | ${mb(it.nativeTaken)} | ${mb(it.grown)} |`;
+  const [question, native] = [it.question.median, it.native.median];
+  const isSlow = it.isLesson ? question > LIMITS.lesson : it.isLong && question > LIMITS.question * native;
+  const isLate = it.ahead.isThere && it.ahead.median > LIMITS.ahead;
+  const beside = (what) => (it[what].isThere
+    ? marked(`${ms(it[what].median)} of ${ms(it[`${what}Turn`].median)}: ${it[`${what}Ratio`].say(share)}`, it[`${what}More`].median > PAGE_MS) : '–');
+  const isLarge = it.taken > LIMITS.memory * it.nativeTaken.median + LIMITS.moreMemory;
+  return `| ${name} | ${marked(it.question.say(ms), isSlow)} | ${it.native.say(ms)} | ${(question / native).toFixed(1)} times | ${marked(it.ahead.say(ms), isLate)} | `
+    + `${beside('atOnce')} | ${beside('amid')} | ${marked(mb(it.taken), isLarge)} | ${mb(it.nativeTaken.median)} | ${mb(it.grown.median)} |`;
 }
 
 async function main() {
   const browser = { chromium, firefox }[options.browser];
   const page = new Browser(await browser.start());
+  await page.resize(WINDOW);
   const url = pathToFileURL(join(resolve(folder), 'index.html')).href;
   const work = mkdtempSync(join(tmpdir(), 'page-speed-')), module = join(work, 'page.wasm');
   writeFileSync(module, builtPage(folder).module);
   const load = () => loadavg()[0].toFixed(1);
   const [{ model }, begun] = [cpus()[0], load()];
-  console.log(`| program (${browser.name}) | first question | native | ratio | answer computed ahead | another one at once, of one turn | another one amid, of one turn | taken up | native | could take up |`);
+  console.log(`| program (${browser.name}) | first question | native | ratio | answer computed ahead | at once, of one turn | amid, of one turn | taken up | native | could take up |`);
   console.log('|---|---|---|---|---|---|---|---|---|---|');
   for (const it of LARGE.filter(({ name }) => name.includes(options.only))) console.log(rowOf(it.name, await measured(page, url, it, module)));
   console.log(`\nOn ${cpus().length} processors (${model.trim()}), ${(totalmem() / 2 ** 30).toFixed(0)} GB; load ${begun} at the beginning and ${load()} at the end. `
