@@ -3,6 +3,7 @@ import { briefOf } from './card_view.js';
 import { byId } from './dom.js';
 import { RANK } from './engine.js';
 import { Looking } from './look_view.js';
+import { lastOnOutput } from './session.js';
 
 export class Answers {
   // `onTurn` is called once an answer has shown what comes next.
@@ -11,18 +12,34 @@ export class Answers {
     this.onTurn = onTurn;
   }
 
-  // Says a line of the dialog, such as `right 7`.
-  async say(line) {
+  async turn(act) {
     const { desk } = this;
     if (desk.dialog.isBusy || desk.dialog.shown === null || desk.isEdited) return;
-    await desk.dialog.say(line);
+    await act(desk.dialog);
     this.onTurn();
+  }
+
+  // Says a line of the dialog, such as `right 7`.
+  say(line) {
+    return this.turn((dialog) => dialog.say(line));
+  }
+
+  // Says that something that a call left is wrong. The card with its button is gone then; the keys go on from the next one.
+  async sayWrong(call, name) {
+    await this.say(`slice ${call} ${name}`);
+    if (document.activeElement === document.body) byId('card').querySelector('h2')?.focus({ preventScroll: true });
+  }
+
+  // Takes back the answer of this number, with all that it left out.
+  takeBack(number) {
+    return this.turn((dialog) => dialog.takeBack(number));
   }
 
   // An answer to the question: `right`, `wrong`, `unknown`, `trust`, or `back`.
   answer(word) {
-    if (word === 'back') return this.say('back');
     const { dialog } = this.desk;
+    const onOutput = lastOnOutput(dialog.entries);
+    if (word === 'back') return onOutput === null ? this.say('back') : this.takeBack(onOutput);
     const call = dialog.questionCall;
     if (call < 0) return undefined;
     return this.say(word === 'trust' ? `trust #${dialog.tree.routine[call]}` : `${word} ${call}`);

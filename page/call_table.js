@@ -97,15 +97,19 @@ function nesting(parent) {
 
 export const nameOf = (tree, call) => tree.names[tree.routine[call]] ?? '';
 
-// The marks by the entries that stand: the last judgement on a call counts, and counts more than trust.
+// The marks by the entries that stand: the last judgement on a call counts, and counts more than trust. `leftOut` are the calls
+// that count as right since they had no part in a wrong output.
 export function markBy(tree, entries) {
   const { mark, routine } = tree;
   mark.fill(UNJUDGED);
   const standing = entries.filter((entry) => entry.standing);
   const trusted = new Set(standing.filter((entry) => entry.kind === 'trust').map((entry) => entry.routine));
   if (trusted.size > 0) for (let call = 0; call < mark.length; call += 1) if (trusted.has(routine[call])) mark[call] = TRUSTED;
-  for (const entry of standing) {
-    if (entry.kind !== 'trust' && entry.call < mark.length) mark[entry.call] = MARKS.indexOf(entry.kind);
+  tree.leftOut = new Set();
+  for (const { kind, call, leftOutBy } of standing) {
+    if (kind === 'trust' || !(call < mark.length)) continue;
+    mark[call] = MARKS.indexOf(kind);
+    if (leftOutBy === undefined) tree.leftOut.delete(call); else tree.leftOut.add(call);
   }
 }
 

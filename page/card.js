@@ -1,5 +1,5 @@
 // A card taken apart, line by line. What is no line of a card stays as it is, in `odd`; no text makes this throw.
-import { nameAt } from './names.js';
+import { isHeap, nameAt, pointerOf } from './names.js';
 
 // `NAME = VALUE` from a place on.
 function nameAndValue(line, at) {
@@ -60,6 +60,23 @@ export function cardOf(text) {
     else if (line !== '') card.odd.push(line);
   }
   return card;
+}
+
+const boxOf = (name) => { const root = nameAt(name)?.root ?? ''; return isHeap(root) ? Number(root.slice(1, -1)) : null; };
+
+// Whether a call made variables by `new`: it left one, or disposed of it, that was neither looked at nor pointed at before.
+function isMaker({ given, met, left }) {
+  const before = [...given, ...met].flatMap(({ name, value }) => [boxOf(name), pointerOf(value), value?.startsWith('at ') ? boxOf(value.slice(3)) : null]);
+  const there = new Set(before);
+  return left.some(({ name }) => boxOf(name) !== null && !there.has(boxOf(name)));
+}
+
+// The words for what went wrong that is no variable, as `slice K NAME` has them, in the order of a card. A changed variable of the
+// same name goes first there, so that such a word cannot be said.
+export function wordsOf(card) {
+  const changed = new Set(card.left.map(({ name }) => name));
+  const is = { takes: card.takes !== null, makes: isMaker(card), gives: card.gives !== null, result: card.result !== null, way: !['', 'returned'].includes(card.end) };
+  return Object.keys(is).filter((word) => is[word] && !changed.has(word));
 }
 
 const SHORT = { '\\n': 10, '\\"': 34, '\\\\': 92 };

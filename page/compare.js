@@ -55,14 +55,14 @@ function promiseOf(tree, cards, asked, judged) {
 }
 
 // Another call of the routine that is asked about which is judged right or wrong, `{ judged, asked, mark }`, or null. Of several
-// the one whose card is most alike, and of these the one that was judged last.
+// the one whose card is most alike, and of these the one that was judged last. What was left out was not judged.
 export function offerOf({ knowsCarry, tree, cards, entries, questionCall: asked }) {
   if (!knowsCarry || tree === null || !cards.has(asked)) return null;
   let offer = null;
   let most = NOTHING;
   for (let at = entries.length - 1; at >= 0 && most < MOST; at -= 1) {
-    const { kind, call, standing } = entries[at];
-    const isJudged = standing && (kind === 'right' || kind === 'wrong') && MARKS[tree.mark[call]] === kind;
+    const { kind, call, standing, leftOutBy } = entries[at];
+    const isJudged = standing && leftOutBy === undefined && (kind === 'right' || kind === 'wrong') && MARKS[tree.mark[call]] === kind;
     if (isJudged && call !== asked && tree.routine[call] === tree.routine[asked]) {
       const promise = promiseOf(tree, cards, asked, call);
       if (promise > most) [offer, most] = [{ judged: call, asked, mark: kind }, promise];

@@ -3,11 +3,17 @@
 import { accusedOf, markBy, suspectsOf } from './call_table.js';
 import { cardOf, stateOf } from './card.js';
 import { RANK } from './engine.js';
-import { entriesOf, keep, setAside } from './session.js';
+import { callsIn, entriesOf, keep, leavesOut, linesBack, setAside } from './session.js';
 
-// No variable has this name, and no call this number; the replies tell whether the command knows the lines `state` and `carry`.
-const PROBES = [{ kind: 'state', call: 0, name: '.' }, { kind: 'carry', call: 999_999_999, onto: 0 }];
+// No variable has this name, and no call this number; the replies tell whether the command knows the lines `state`, `carry` and
+// `slice`.
+const PROBES = [{ kind: 'state', call: 0, name: '.' }, { kind: 'carry', call: 999_999_999, onto: 0 }, { kind: 'slice', call: 999_999_999, name: '.' }];
 const isKnown = (answer) => answer.kind === 'refused' && answer.text !== 'not understood';
+const TAKEN = /^(entry \d+|entries \d+ to \d+|back \d+|noted \d+)$/;
+const SAVED = 'page.session';
+// An answer that made more entries than these, and was the last one, is forgotten where it is taken back: each line for an entry
+// would be said anew in each turn.
+const MOST_BACK = 1000;
 // A turn that takes no longer is asked for more than what must be.
 const QUICK_MS = 2500;
 
@@ -28,8 +34,11 @@ export class Dialog {
     this.note = '';
     this.isBusy = false;
     this.isKept = true;
+    // Whether there was an answer a turn ago.
+    this.isBegun = false;
     this.knowsState = false;
     this.knowsCarry = false;
+    this.knowsSlice = false;
     this.cost = { time: 0, memory: 0 };
     this.cards = new Map();
     this.traces = new Map();
@@ -40,6 +49,11 @@ export class Dialog {
 
   get report() {
     return this.shown === null ? null : this.shown.report;
+  }
+
+  // The calls that count as right since they had no part in a wrong output.
+  get leftOut() {
+    return this.tree?.leftOut ?? new Set();
   }
 
   // Whether there is anything that a session on a corrected program could use.
@@ -57,38 +71,55 @@ export class Dialog {
     if (this.session !== null && this.session.lines.length > 0) setAside();
     this.clear();
     this.session = session;
-    const came = await this.turn(session.lines, [{ kind: 'tree' }, ...PROBES]);
+    const came = await this.turn(session.lines, [{ kind: 'tree' }, ...PROBES], session.lines.some(leavesOut));
     if (this.session !== session) return;
     if (!this.failed(came)) {
-      const [tree, state, carry] = came.answers;
+      const [tree, state, carry, slice] = came.answers;
       this.tree = tree.kind === 'tree' ? tree.tree : null;
       this.knowsState = isKnown(state);
       this.knowsCarry = isKnown(carry);
+      this.knowsSlice = isKnown(slice);
       this.took(came);
     }
     this.onChange();
   }
 
-  // Says a line, and keeps it unless the command could not answer.
-  async say(line) {
+  // Says a line, or several at once, and keeps them unless the command could not answer.
+  async say(said) {
     if (this.isBusy || this.shown === null) return;
     const { session } = this;
-    const came = await this.turn([...session.lines, line], []);
+    const lines = [said].flat();
+    const came = await this.turn([...session.lines, ...lines], [], lines.some(leavesOut));
     if (this.session !== session) return;
     if (!this.failed(came)) {
-      const reply = came.replies[session.lines.length] ?? '';
-      const isTaken = /^(entry|back|noted) \d+$/.test(reply);
-      if (isTaken) session.lines.push(line);
-      this.note = isTaken ? '' : reply;
-      if (isTaken) this.took(came);
+      const refused = lines.map((line, at) => came.replies[session.lines.length + at] ?? '').find((reply) => !TAKEN.test(reply));
+      if (refused === undefined) session.lines = session.lines.concat(lines);
+      this.note = refused ?? '';
+      if (refused === undefined) this.took(came);
     }
     this.onChange();
   }
 
-  async turn(lines, asks) {
+  // Takes back the answer of this number, with all that it left out.
+  async takeBack(number) {
+    const { session } = this;
+    const lines = linesBack(this.entries, number);
+    if (lines.length <= MOST_BACK || !leavesOut(session.lines.at(-1))) return this.say(lines);
+    const came = await this.turn(session.lines.slice(0, -1), [], false);
+    if (this.session !== session) return undefined;
+    if (!this.failed(came)) {
+      session.lines = session.lines.slice(0, -1);
+      this.note = '';
+      this.took(came);
+    }
+    return this.onChange();
+  }
+
+  // One turn; with `isNews`, the session is saved as well, since that tells which calls a line left out.
+  async turn(lines, asks, isNews) {
     this.isBusy = true;
     // It runs while the page is painted.
-    const answer = this.engine.line(this.turnOf(lines, asks));
+    const answer = this.engine.line(this.turnOf(lines, asks, isNews ? SAVED : null));
     this.onChange();
     const came = await answer;
     this.isBusy = false;
@@ -111,11 +142,16 @@ export class Dialog {
   took(came) {
     this.shown = came;
     this.cost = { time: came.time, memory: came.memory };
+    if (came.saved) this.session.calls = callsIn(came.saved);
     this.entries = entriesOf(this.session, came.replies, came.isRepliesOnly);
+    // A variable may be called like a word for something else.
+    const isChanged = ({ call, output }) => this.cards.get(call)?.left.some(({ name }) => name === output) ?? false;
+    for (const entry of this.entries) if (entry.output !== undefined) entry.isVariable = isChanged(entry);
     if (this.tree !== null) markBy(this.tree, this.entries);
     this.accused = this.tree === null ? -1 : accusedOf(this.tree);
     this.suspects = this.tree === null ? [] : suspectsOf(this.tree);
-    if (this.session.lines.length > 0) this.isKept = keep(this.session);
+    if (this.session.lines.length > 0 || this.isBegun) this.isKept = keep(this.session);
+    this.isBegun = this.session.lines.length > 0;
     const { card } = came.report ?? {};
     if (card) this.cards.set(came.report.call, cardOf(card));
     if (came.program !== '') this.cards.set(0, cardOf(came.program));
@@ -190,8 +226,14 @@ export class Dialog {
   }
 
   // The session as the command saves it.
-  async saved() {
-    const came = await this.engine.ask(this.turnOf(this.session.lines, [], 'page.session'), RANK.asked);
+  async saved(lines = this.session.lines) {
+    const came = await this.engine.ask(this.turnOf(lines, [], SAVED), RANK.asked);
     return came.saved ?? null;
+  }
+
+  // The same for a corrected program. A call that was left out counts as right, but nobody judged it: it is asked about there.
+  savedForAnother() {
+    const leftOut = this.entries.filter((entry) => entry.standing && entry.leftOutBy !== undefined);
+    return this.saved([...this.session.lines, ...leftOut.map((entry) => `back ${entry.number}`)]);
   }
 }

@@ -45,14 +45,14 @@ export function seenView({ name, cells, reply }, rowsView) {
   return [make('p', 'All of ', make('code', name), isChange ? ', before the call \u2192 after it:' : ', before the call and after it:'), rowsView(rowsOfCells(seen), isChange)];
 }
 
-// A row with its button, and a row below it for what came.
-export function lookedRow(cells, row, looking, rowsView) {
+// The button beside a row, and a row below it for what came.
+export function lookOf(row, looking, rowsView) {
   const place = `row ${row.label}`;
   const said = make('div', { role: 'status' });
   const below = make('tr.looked', { hidden: true }, make('td', { colspan: 3 }, said));
   const show = (seen) => { below.hidden = false; said.replaceChildren(...[seenView(seen, rowsView)].flat(2).filter((it) => it !== null)); };
   if (looking.shown.has(place)) show(looking.shown.get(place));
-  if (!looking.hasButtons) return [make('tr', cells), below];
+  if (!looking.hasButtons) return { act: null, below };
   const act = button('.glass', { 'aria-label': `Look at ${row.name}`, title: `Look at ${row.name}: ${WHY}`, 'aria-expanded': String(!below.hidden), 'data-look': row.name }, glass());
   const open = (isOpen) => { below.hidden = !isOpen; act.setAttribute('aria-expanded', String(isOpen)); };
   act.addEventListener('click', async () => {
@@ -68,7 +68,7 @@ export function lookedRow(cells, row, looking, rowsView) {
     if (below.hidden) looking.shown.delete(place); else show(seen);
     return undefined;
   });
-  return [make('tr', cells, make('td.act', act)), below];
+  return { act, below };
 }
 
 // What was looked at from a place of this kind, one below the other.

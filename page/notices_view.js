@@ -1,6 +1,9 @@
 // What the page has to tell beside the question: refusals, failures, and that the program was changed.
+import { nameOf } from './call_table.js';
 import { button, make, withCode } from './dom.js';
-import { replySaid, statusSaid } from './words.js';
+import { wrongView } from './history_view.js';
+import { leavesOut, leftOutBy } from './session.js';
+import { leftOutSaid, replySaid, statusSaid } from './words.js';
 
 const CONTEXT_CHARACTERS = 60;
 
@@ -37,6 +40,15 @@ function staleNotice(session, { putBack }) {
   return view;
 }
 
+// What the last answer left out, if it was one on a wrong output; or null.
+function leftOutNotice({ session, entries, tree }, { takeBack }) {
+  if (tree === null || !leavesOut(session.lines.at(-1) ?? '')) return null;
+  const answer = entries.filter((entry) => entry.output !== undefined).at(-1);
+  const { number, call } = answer;
+  return notice('', `Call ${call} of `, make('code', nameOf(tree, call)), ' is wrong: ', wrongView(answer), '. ',
+    leftOutSaid(leftOutBy(entries, number).length, tree.last[call] > call), ' ', button('.small', { onclick: () => takeBack(number) }, 'Take this back'));
+}
+
 // `isStale`: the editor holds another text than the session.
 export function noticesOf(dialog, isStale, refusal, acts) {
   const { problem, note, session, isBusy } = dialog;
@@ -47,6 +59,8 @@ export function noticesOf(dialog, isStale, refusal, acts) {
     notices.push(notice('', 'These answers were given on another text of the program. Where a question reads as it did, its answer is offered.'));
   }
   if (note !== '') notices.push(notice('', replySaid(note)));
+  const leftOut = isBusy || dialog.shown === null ? null : leftOutNotice(dialog, acts);
+  if (leftOut !== null) notices.push(leftOut);
   if (isStale && dialog.shown !== null) notices.push(staleNotice(session, acts));
   if (!dialog.isKept) notices.push(notice('', 'This browser cannot keep your answers: save them before you close the page.'));
   return notices;

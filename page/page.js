@@ -24,19 +24,20 @@ const programs = new Programs(desk, { onRun: afterTurn });
 // What a part of the page may do that shows a card.
 const context = {
   choose: (call) => answers.choose(call),
-  cardContext: (call) => ({ ...context, looking: answers.looking(call) }),
+  cardContext: (call) => ({ ...context, looking: answers.looking(call), sayWrong: desk.dialog.knowsSlice ? (name) => answers.sayWrong(call, name) : null }),
   say: (line) => answers.say(line),
+  takeBack: (number) => answers.takeBack(number),
   close: () => answers.choose(-1),
   showLine: (line) => { desk.showPane('source'); desk.source.show(line); },
   lineText: (line) => desk.source.lineText(line),
   get records() { return desk.source.outline.records; },
 };
 
-const onPaper = { ...context, cardContext: (call) => ({ ...context, looking: answers.looking(call, false) }) };
+const onPaper = { ...context, cardContext: (call) => ({ ...context, looking: answers.looking(call, false), sayWrong: null }) };
 
 const painter = new Painter(desk, context, {
   open: () => byId('file').click(), run: () => programs.runEdited(), pick: (at) => programs.pickExample(at),
-  goOn: (kept) => programs.goOnWith(kept), putBack: () => programs.putBack(),
+  goOn: (kept) => programs.goOnWith(kept), putBack: () => programs.putBack(), takeBack: (number) => answers.takeBack(number),
 });
 
 // What follows a question: both answers are computed ahead; then come the line of its call, and for the tree of a small run what each

@@ -12,7 +12,7 @@ import { offerView, storyView, waitingView, welcomeView } from './welcome_view.j
 import { counted, endOf } from './words.js';
 
 export class Painter {
-  // `context` is what the parts of the middle may do, see page.js; `acts` has `open`, `run`, `pick`, `goOn` and `putBack`.
+  // `context` is what the parts of the middle may do, see page.js; `acts` has `open`, `run`, `pick`, `goOn`, `putBack` and `takeBack`.
   constructor(desk, context, acts) {
     Object.assign(this, { desk, context, acts });
     this.shownTree = null;
@@ -48,7 +48,7 @@ export class Painter {
     const close = () => { desk.offer = null; this.paint(); };
     const showLine = (line) => { desk.showPane('source'); desk.source.focus(line); };
     byId('notices').replaceChildren(...(kept === null ? [] : [offerView(kept, { goOn: () => acts.goOn(kept), close })]),
-      ...noticesOf(desk.dialog, isStale, this.refusalShown(), { putBack: acts.putBack, showLine }));
+      ...noticesOf(desk.dialog, isStale, this.refusalShown(), { putBack: acts.putBack, takeBack: acts.takeBack, showLine }));
   }
 
   // Where and why the program of this session is refused, or null.

@@ -52,7 +52,7 @@ export class Programs {
     const { desk } = this;
     if (desk.dialog.isBusy) return;
     const session = this.sessionOfPage(saved);
-    session.lines.push(...lines);
+    session.lines = lines;
     desk.chosen = -1;
     desk.offer = null;
     byId('query').value = '';
@@ -66,7 +66,7 @@ export class Programs {
   async runEdited() {
     const { dialog, isEdited } = this.desk;
     if (dialog.isBusy) return;
-    await this.run(isEdited && dialog.hasAnswers ? await dialog.saved() : null);
+    await this.run(isEdited && dialog.hasAnswers ? await dialog.savedForAnother() : null);
   }
 
   pickExample(at) {

@@ -9,6 +9,9 @@ import { traceView } from './trace_view.js';
 import { verdictView } from './verdict_view.js';
 import { KEPT_SAID, counted } from './words.js';
 
+const JUDGE = 'Judge what this call did with what it got, and with all the calls that it made. How it is written does not matter yet.';
+const JUDGE_ONE = ' If you see which value is wrong, press \u201cwrong\u201d beside it: then less is asked.';
+
 const MANY = 5;
 const MOST_SHARE = 0.5;
 
@@ -68,7 +71,7 @@ export const routineOf = (dialog, outline, call) => (dialog.tree === null ? unde
 // The answer that was given to this question before the program was changed. It is given again only on a press.
 function keptView(report, context) {
   if (!report.kept) return null;
-  return make('p.kept', `Before the program was changed you answered \u201c${KEPT_SAID[report.kept]}\u201d to this question. `,
+  return make('p.kept', `Before the program was changed, the answer to this question was \u201c${KEPT_SAID[report.kept]}\u201d. `,
     button('.small', { id: 'same', onclick: () => context.say(`${report.kept} ${report.call}`) }, 'The same again'));
 }
 
@@ -79,14 +82,14 @@ export function questionView(dialog, outline, context) {
     make('p.eyebrow', `Question ${dialog.shown.questions.length}`),
     make('h2', { tabindex: -1 }, 'Did ', make('code', card.name), ' do what it should?'),
     whereView(card, dialog, context),
-    dialog.shown.questions.length === 1 ? make('p.judge', 'Judge what this call did with what it got, and with all the calls that it made. How it is written does not matter yet.') : null,
+    dialog.shown.questions.length === 1 ? make('p.judge', `${JUDGE}${dialog.knowsSlice ? JUDGE_ONE : ''}`) : null,
     commentView(routine),
     keptView(dialog.report, context),
     compareView(dialog, context),
     cardParts(card, context.cardContext(card.call)));
 }
 
-export const resultView = (dialog, context) => verdictView(dialog.report, dialog.cards.get(dialog.report.call), context);
+export const resultView = (dialog, context) => verdictView(dialog.report, dialog.cards.get(dialog.report.call), dialog.leftOut, context);
 
 // A call that was chosen in the tree.
 export function detailView(call, dialog, outline, context) {

@@ -1,8 +1,10 @@
-// Rows of a card for the eye: values, texts, lists and tables, each with a button that looks at the whole variable.
+// Rows of a card for the eye: values, texts, lists and tables, each with a button that looks at the whole variable, and where it was
+// changed with one that says that it is wrong.
 import { fold, make, plural } from './dom.js';
 import { ABSENT, differs, GONE, NO_VALUE, THERE } from './fold_card.js';
-import { lookedRow } from './look_view.js';
+import { lookOf } from './look_view.js';
 import { nameAt, variableSaid } from './names.js';
+import { wrongOf } from './wrong_view.js';
 
 const MOST_ROWS = 12;
 const MOST_PARTS = 2000;
@@ -67,16 +69,20 @@ function allOf(row, isChange) {
     row.cells.length > MOST_PARTS ? make('p.quiet', `and ${row.cells.length - MOST_PARTS} more: see the card as printed`) : null);
 }
 
-function rowView(row, isChange, looking) {
+function rowView(row, isChange, looking, sayWrong) {
   const content = row.shape === 'list' ? listView(row, isChange) : row.shape === 'table' ? tableView(row, isChange) : changeView(row, isChange);
   if (row.leftOut > 0) content.append(fold('.more', `${plural(row.leftOut, 'more part')}`, () => allOf(row.whole, isChange)));
   const cells = [make('th', { scope: 'row' }, labelView(row.label)), content];
-  return looking === null || row.name === null ? make('tr', cells) : lookedRow(cells, row, looking, rowsView);
+  const wrong = wrongOf(row.label, (row.whole ?? row).cells, sayWrong);
+  const look = looking === null || row.name === null ? { act: null, below: null } : lookOf(row, looking, rowsView);
+  const acts = [look.act, wrong?.act].filter((act) => act);
+  return [make('tr', cells, acts.length === 0 ? null : make('td.act', make('div.acts', acts))), look.below,
+    wrong === null || wrong.below === null ? null : make('tr', make('td', { colspan: 3 }, wrong.below))];
 }
 
-// `looking` is what can be looked at beside the rows, see look_view.js, or null.
-export function rowsView(rows, isChange, looking = null) {
-  const table = (some) => make('table.cells', make('tbody', some.map((row) => rowView(row, isChange, looking))));
+// `looking` is what can be looked at beside the rows, see look_view.js, and `sayWrong(name)` says that one of them is wrong; or null.
+export function rowsView(rows, isChange, looking = null, sayWrong = null) {
+  const table = (some) => make('table.cells', make('tbody', some.map((row) => rowView(row, isChange, looking, sayWrong))));
   const rest = rows.slice(MOST_ROWS, MOST_ROWS + MOST_PARTS);
   return [table(rows.slice(0, MOST_ROWS)), rest.length > 0 ? fold('.more', `${plural(rows.length - MOST_ROWS, 'more variable')}`, () => table(rest)) : null];
 }

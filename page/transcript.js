@@ -85,7 +85,9 @@ function finished(bytes, report) {
   return { ...rest, text, doubts: doubtsOf(bytes, block) };
 }
 
-// The main part: up to the first mark.
+const isBack = (reply = '') => reply.startsWith('back ');
+
+// The main part: up to the first mark. Where answers are taken back one after the other, the last question that comes of it counts.
 function dialogOf(bytes, to) {
   const dialog = { program: '', isRepliesOnly: false, replies: [], questions: [], report: null };
   let isCardOfQuestion = false;
@@ -93,6 +95,8 @@ function dialogOf(bytes, to) {
     const report = reportOf(bytes, block);
     const isCard = /^call \d+ /.test(block.head);
     if (report !== null) {
+      const isAgain = dialog.report?.kind === 'ask' && isBack(dialog.replies.at(-1)) && isBack(dialog.replies.at(-2));
+      if (isAgain) dialog.questions.pop();
       dialog.report = report;
       if (report.kind === 'ask') dialog.questions.push({ call: report.call, suspects: report.suspects, left: report.left });
     } else if (isCard && isCardOfQuestion) {
@@ -162,8 +166,9 @@ function carryOf(text, { call, onto }) {
 
 export const commandOf = (ask) => {
   if (ask.kind === 'tree') return 'tree';
+  if (ask.kind === 'save') return `save ${ask.file}`;
   if (ask.kind === 'carry') return `carry ${ask.call} ${ask.onto}`;
-  return ask.kind === 'state' ? `state ${ask.call} ${ask.name}` : `${ask.kind} ${ask.call}`;
+  return ask.name === undefined ? `${ask.kind} ${ask.call}` : `${ask.kind} ${ask.call} ${ask.name}`;
 };
 
 // The bytes for the console: the lines so far, what is asked for, each between marks, and the end.

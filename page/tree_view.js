@@ -4,8 +4,8 @@ import { make } from './dom.js';
 import { MARKS, nameOf } from './call_table.js';
 import { Scroller } from './scroller.js';
 
-const SIGNS = { unjudged: '\u00b7', right: '\u2713', wrong: '\u2717', unknown: '?', trusted: '\u2605' };
-const SAID = { unjudged: '', right: 'right', wrong: 'wrong', unknown: 'could not be judged', trusted: 'trusted' };
+const SIGNS = { unjudged: '\u00b7', right: '\u2713', wrong: '\u2717', unknown: '?', trusted: '\u2605', leftOut: '\u2013' };
+const SAID = { unjudged: '', right: 'right', wrong: 'wrong', unknown: 'could not be judged', trusted: 'trusted', leftOut: 'left out: it had no part in what was wrong' };
 const OPENED_AT_FIRST = 60;
 
 export class TreeView {
@@ -111,7 +111,7 @@ export class TreeView {
     const { tree } = this;
     const hasKids = tree.last[call] > call;
     const isOpen = this.open[call] === 1;
-    const mark = MARKS[tree.mark[call]];
+    const mark = tree.leftOut?.has(call) ? 'leftOut' : MARKS[tree.mark[call]];
     const depth = this.found === null ? tree.depth[call] : 0;
     const classes = [call === this.asked ? 'asked' : '', call === this.accused ? 'accused' : '', call === this.chosen ? 'chosen' : '',
       place === this.cursor ? 'cursor' : ''].filter((it) => it !== '').map((it) => `.${it}`).join('');

@@ -9,15 +9,21 @@ function doubtsView(doubts, context) {
 
 const printed = (report) => fold('.raw', 'The verdict as it is printed', () => make('pre', report.text));
 
-function foundView(report, card, context) {
+// What can be said of the calls that a call at fault made.
+function callsSaid({ trace }, leftOut) {
+  if (trace.calls.length === 0) return 'and it made no other call';
+  return trace.calls.some((call) => leftOut.has(call)) ? 'although each call that it made is right, or had no part in what was wrong' : 'although each call that it made is right';
+}
+
+function foundView(report, card, leftOut, context) {
   return make('article.card.verdict', { id: 'verdict', 'data-name': report.name },
     make('p.eyebrow', 'Found'),
     make('h2', { tabindex: -1 }, 'The mistake is in the body of ', make('code', report.name)),
-    make('p', `Call ${report.call} is wrong, ${report.trace.calls.length === 0 ? 'and it made no other call' : 'although each call that it made is right'}. `
+    make('p', `Call ${report.call} is wrong, ${callsSaid(report, leftOut)}. `
       + `So look at these lines of ${report.name}, one by one: which of them did the wrong thing, or which one is missing? `
       + 'Then mend the program, and run it again.'),
     traceView(report.trace, context), printed(report),
-    card === undefined ? null : make('section.part.judged', make('h3', `Call ${report.call}, as you judged it`), cardParts(card, context.cardContext(report.call))));
+    card === undefined ? null : make('section.part.judged', make('h3', `Call ${report.call}, as you judged it`), cardParts(card, { ...context.cardContext(report.call), sayWrong: null })));
 }
 
 const SAID = {
@@ -35,9 +41,9 @@ const SAID = {
   }),
 };
 
-// `card` is that of the call that was found.
-export function verdictView(report, card, context) {
-  if (report.kind === 'found') return foundView(report, card, context);
+// `card` is that of the call that was found, and `leftOut` the calls that were left out.
+export function verdictView(report, card, leftOut, context) {
+  if (report.kind === 'found') return foundView(report, card, leftOut, context);
   const { title, text } = SAID[report.kind](report);
   return make(`article.card.verdict${report.kind === 'nothing' ? '.calm' : ''}`, { id: 'verdict', 'data-name': report.name ?? '' },
     make('p.eyebrow', report.kind === 'narrowed' ? 'Narrowed down' : 'The end'),

@@ -50,6 +50,8 @@ export function helpView(isProved, close) {
       + 'A call that got nonsense and made nonsense of it is right, if it did what it was written for. A call that was given good values and left bad ones is wrong.'),
     make('p', 'Do not judge its text. That is what your answers find out: in the end, one call is wrong although all that it called is right, and the mistake is in the body of that routine.'),
     make('p', 'A card tells what a call looked at. What it should have looked at and did not is not there.'),
+    make('p', 'Of all that a call left, you may see that one value is wrong. Press \u201cwrong\u201d beside it: the call counts as wrong, and the calls below it that had no part in that value are left out, so that less is asked. '
+      + 'Press it only beside what is there and wrong. Where something is missing, press Wrong below the card: the call that forgot it had no part in what is there, and would be left out.'),
     make('h3', 'Keys'),
     make('table.keys', make('tbody', KEYS.map(([key, said]) => make('tr', make('th', { scope: 'row' }, make('kbd', key)), make('td', said))))),
     trustedView(isProved),

@@ -49,6 +49,15 @@ export function stateSaid({ before, after }) {
   return before === after ? `held ${was} before the call and after it.` : `held ${was} before the call and ${is} after it.`;
 }
 
+// What may be wrong of a call besides a variable, by the command's words.
+export const OUTPUT_SAID = { takes: 'how much it read', makes: 'what it made by new', gives: 'what it printed', result: 'its result', way: 'how it ended' };
+
+// How many calls an answer on a wrong output left out; `hasCalls`: whether the call made any.
+export function leftOutSaid(count, hasCalls) {
+  if (!hasCalls) return 'It made no other call, so there is nothing to leave out.';
+  return count === 0 ? 'No call could be left out.' : `${counted(count)} ${count === 1 ? 'call' : 'calls'} below had no part in that, and ${count === 1 ? 'is' : 'are'} left out.`;
+}
+
 export const KEPT_SAID = { right: 'Right', wrong: 'Wrong', unknown: 'Don\u2019t know' };
 export const SAID_OF = { right: 'is right', wrong: 'is wrong', unknown: 'could not be judged', trust: 'is trusted' };
 
@@ -99,6 +108,9 @@ const REPLIES = [
   [/^no question/, 'No call is asked about any more.'],
   [/^no call/, 'There is no such call.'],
   [/^no cell/, 'There is no variable of this name, neither before the call nor after it. Names are written as the card has them.'],
+  [/^no output (takes|makes|gives|result|way)$/, 'This call has nothing of that kind.'],
+  [/^no output/, 'This call changed no variable of this name. Names are written as the card has them.'],
+  [/^too many to compare/, 'This call did too much to go over it for one value. Answer Right or Wrong for the call as a whole.'],
   [/^not understood/, 'A note has 1 to 100 letters, digits and signs, without accents.'],
   [/^nothing stands/, 'There is no answer to take back.'],
   [/^entry (\d+) does not stand/, 'This answer was taken back before.'],

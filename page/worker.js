@@ -11,7 +11,7 @@ let instances = null;
 
 function turnOf({ lines, asks, save, ...given }) {
   const start = performance.now();
-  const text = consoleOf(save ? [...lines, `save ${save}`] : lines, asks);
+  const text = consoleOf(lines, save ? [...asks, { kind: 'save', file: save }] : asks);
   const isLong = asks.length > MANY || asks.some((ask) => ask.kind === 'tree');
   const came = instances.turn({ ...given, text, isLong });
   const shown = came.status === NORMAL ? digest(came.screen, asks) : { raw: latin(came.screen.subarray(0, 100_000)) };

@@ -9,7 +9,7 @@ $0 == "" { next }
 /^(show|trace) [0-9]+$/ { found = 1; exit }
 /^(trust|save) [^ ]+$/ { found = 1; exit }
 /^(same|tree|quit)$/ { found = 1; exit }
-/^(note|state) [0-9]+ / { found = 1; exit }
+/^(note|slice|state) [0-9]+ / { found = 1; exit }
 /^carry [0-9]+ [0-9]+$/ { found = 1; exit }
 
 { strange++ }

@@ -92,8 +92,8 @@ test('whether a call carries to another', () => {
 });
 
 test('what is typed', () => {
-  assert.equal(consoleOf(['right 1'], [TREE, { kind: 'show', call: 7 }, { kind: 'state', call: 2, name: 'a[1]' }, { kind: 'carry', call: 3, onto: 8 }]),
-    'right 1\n@\ntree\n@\nshow 7\n@\nstate 2 a[1]\n@\ncarry 3 8\n@\nquit\n');
+  assert.equal(consoleOf(['right 1'], [TREE, { kind: 'show', call: 7 }, { kind: 'state', call: 2, name: 'a[1]' }, { kind: 'carry', call: 3, onto: 8 }, { kind: 'slice', call: 1, name: 'x' },
+    { kind: 'save', file: 'page.session' }]), 'right 1\n@\ntree\n@\nshow 7\n@\nstate 2 a[1]\n@\ncarry 3 8\n@\nslice 1 x\n@\nsave page.session\n@\nquit\n');
 });
 
 // A small generator, so that a failure comes again.

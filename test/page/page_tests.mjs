@@ -66,6 +66,37 @@ begin
 end.
 `;
 
+// Of what `m` changed b had no part in x, and a and c had none in y.
+const PARTS = `program parts;
+var x, y: integer;
+procedure a;
+begin x := 1 end;
+procedure b;
+begin y := 2 end;
+procedure c;
+begin x := x + 1 end;
+procedure m;
+begin a; b; c end;
+begin m end.
+`;
+
+// What goes wrong in `work`: a part of an array, variables made by new, the input, the output, a result, and how it ends.
+const WRONGS = `program wrongs(input, output);
+type link = ^item; item = record key: integer; next: link end;
+var a: array [1..3] of integer; n: integer; first: link;
+procedure fill;
+begin a[1] := 1; a[2] := 2 end;
+procedure take;
+begin read(n) end;
+procedure make;
+begin new(first); first^.key := n; first^.next := nil end;
+procedure tell;
+begin write(n: 1) end;
+function work: integer;
+begin fill; take; make; tell; work := n; a[3] := n div a[3] end;
+begin a[3] := 0; n := work end.
+`;
+
 const FILLING = `program filling(output);
 var a: array [1..60000] of integer;
 procedure fill;
@@ -312,7 +343,7 @@ export const TESTS = {
   },
 
   async 'a card is folded'(t) {
-    await opened(t, 'marks');
+    await opened(t, 'best');
     // fill makes all three records, of which the card has each cell.
     const card = await t.page.value('document.querySelector("#question .raw pre")?.textContent ?? ""');
     t.equal('the raw card is not made before it is asked for', card, '');
@@ -414,14 +445,141 @@ export const TESTS = {
     await t.page.resize(DESK);
   },
 
+  async 'one wrong value'(t) {
+    const wrongs = (within = '#question') => t.page.value(`[...document.querySelectorAll('${within} [data-wrong]')].filter((it) => it.checkVisibility()).map((it) => it.dataset.wrong)`);
+    const sign = (call) => t.page.value(`(() => { const it = document.querySelector('#tree .row[data-call="${call}"] .sign'); return [it.textContent, it.title]; })()`);
+    const answers = () => t.page.value('[...document.querySelectorAll(".history > li")].map((it) => it.className)');
+    await t.fresh();
+    await ran(t, 'parts.pas', PARTS);
+    t.equal('each changed variable can be said to be wrong', [await asked(t), await wrongs()], ['m', ['x', 'y']]);
+    t.holds('the first question says so', /press .wrong. beside it/.test((await t.page.text('#question .judge'))[0] ?? ''));
+    await t.picture('9-wrong');
+    await accessible(t, 'values that may be wrong');
+    await t.page.click('#question [data-wrong="x"]');
+    await calm(t, 1);
+    t.equal('what had a part is asked about', [await asked(t), (await t.page.text('#left-text'))[0].split(' \u00b7 ')[0]], ['a', '2 calls may be to blame']);
+    t.equal('it says how many calls were left out', await seen(t, '.notice'), ['Call 1 of m is wrong: x. 1 call below had no part in that, and is left out. Take this back']);
+    t.equal('and the tree which', [await sign(3), await sign(4)], [['\u2013', 'left out: it had no part in what was wrong'], ['\u00b7', '']]);
+    t.equal('the answers have one more', (await seen(t, '.history > li')).length, 2);
+    t.holds('with what is wrong', /^m call 1 is wrong: x ?take back ?1 call left out/.test((await seen(t, '.history > li:nth-child(2)'))[0]));
+    t.holds('the keys go on from the next question', await t.page.value('document.activeElement.matches("#card h2")'));
+    await t.picture('9-wrong-left-out');
+    await accessible(t, 'calls that were left out');
+    const saved = await t.download('#save');
+    t.equal('all is saved', JSON.parse(saved.bytes).entries.map((it) => `${it.kind} ${it.call}`), ['wrong 0', 'wrong 1', 'right 3']);
+    const raw = await t.page.value('document.querySelector("#raw").textContent');
+    const native = await t.native({ source: PARTS, console: 'slice 1 x\nsave page.session\nquit\n' });
+    if (native !== null) t.equal('as the native program saves it', saved.bytes, native.saved.toString());
+    if (native !== null) t.holds('and it prints the same', raw === native.screen.toString('latin1').replace(/saved .*\n$/, ''));
+    await t.reload();
+    await t.page.click('#notices button.main');
+    await calm(t, 1);
+    t.equal('after a reload as before', [await asked(t), await sign(3), (await seen(t, '.notice')).length], ['a', ['\u2013', 'left out: it had no part in what was wrong'], 1]);
+    await t.page.press('b');
+    await calm(t, 3);
+    t.equal('taken back at once', [await asked(t), await sign(3), await answers(), await seen(t, '.notice')], ['m', ['\u00b7', ''], ['', 'gone'], []]);
+    await t.page.press('q');
+    await tabTo(t, '#question [data-wrong="y"]');
+    t.equal('its button says what it does', await t.page.value('document.activeElement.getAttribute("aria-label")'), 'y is wrong');
+    await t.picture('9-wrong-focus');
+    await t.page.press('Enter');
+    await calm(t, 4);
+    t.equal('by keys', [await asked(t), (await sign(2))[0], (await sign(3))[0], (await sign(4))[0]], ['b', '\u2013', '\u00b7', '\u2013']);
+    await t.page.click('.history > li:nth-child(3) .noting summary');
+    await t.page.until('document.querySelector(".leftOut") !== null');
+    t.equal('the calls that were left out', await seen(t, '.leftOut li'), ['a call 2 ask about it', 'c call 4 ask about it']);
+    await t.picture('9-wrong-list');
+    await accessible(t, 'a list of those left out');
+    await t.page.click('.leftOut button[aria-label="Ask about it after all: c, call 4"]');
+    await calm(t, 5);
+    t.equal('one of them after all', (await sign(4))[0], '\u00b7');
+    await t.page.click('#question [data-wrong="y"]');
+    await calm(t, 6);
+    t.equal('of a call that made none nothing is left out', [await verdict(t), (await seen(t, '.notice'))[0].replace(' Take this back', '')],
+      ['b', 'Call 3 of b is wrong: y. It made no other call, so there is nothing to leave out.']);
+    t.equal('a verdict has nothing to be pressed', await wrongs('#verdict'), []);
+    await t.page.click('.notice button.small');
+    await calm(t, 7);
+    t.equal('which the notice takes back, too', await asked(t), 'b');
+  },
+
+  async 'each kind of wrong value'(t) {
+    await t.fresh();
+    await t.page.drop('#source', 'wrongs.pas', WRONGS);
+    await t.page.until(`document.querySelector('#source').value === ${JSON.stringify(WRONGS)}`);
+    await t.page.value('(() => { const field = document.querySelector("#input"); field.value = "7"; field.dispatchEvent(new Event("input", { bubbles: true })); })()');
+    await t.page.click('#run');
+    await calm(t, 0);
+    const shown = () => t.page.value('[...document.querySelectorAll("#question .part [data-wrong], #question .end [data-wrong]")].filter((it) => it.checkVisibility()).map((it) => it.dataset.wrong)');
+    t.equal('the buttons', [await asked(t), await shown()], ['work', ['takes', 'a', 'n', 'first', 'the variables made by new', 'gives', 'way']]);
+    await t.page.click('#question [data-wrong="a"]');
+    t.equal('of several parts one is chosen', await seen(t, '#question .choices:not([hidden]) button'), ['a[1] = 1', 'a[2] = 2']);
+    await t.page.click('#question [data-wrong="the variables made by new"]');
+    t.equal('and of what was made', await seen(t, '#question .part > .choices:not([hidden]) button'), ['^1^.key = 7', '^1^.next = nil', 'what it made by new']);
+    await t.picture('9-wrong-choices');
+    await accessible(t, 'a choice of what is wrong');
+    await t.page.resize(PHONE);
+    await t.picture('9-wrong-phone');
+    await accessible(t, 'a choice on a phone');
+    await t.page.resize({ width: 320, height: 640 });
+    await accessible(t, 'a choice in a narrow window');
+    await t.page.resize(DESK);
+    t.equal('each one says which value it is', await t.page.value('[...document.querySelectorAll("#question [data-wrong]")].filter((it) => !/ is wrong$|^Something is wrong in /.test(it.getAttribute("aria-label"))).length'), 0);
+    let turns = 0;
+    const asksOf = { takes: 'take', n: 'take', first: 'take', gives: 'take', way: 'take' };
+    for (const [name, next] of Object.entries(asksOf)) {
+      await t.page.click(`#question [data-wrong="${name}"]`);
+      await calm(t, turns += 1);
+      t.equal(`${name} is wrong`, [await asked(t), (await seen(t, '.notice')).length], [next, 1]);
+      const left = await t.page.value('document.querySelectorAll("#tree .row .sign.leftOut").length');
+      await t.page.press('b');
+      await calm(t, turns += left + 1);
+      t.equal(`${name} is taken back`, await asked(t), 'work');
+    }
+    await t.page.click('#question [data-wrong="a"]');
+    await t.page.click('#question [data-wrong="a[2]"]');
+    await calm(t, turns += 1);
+    t.equal('a part of an array', await asked(t), 'fill');
+    await opened(t, 'marks');
+    await t.page.click('#tree .row[data-call="1"]');
+    await t.page.until('document.querySelector("#detail [data-wrong=cleo]") !== null');
+    await t.page.click('#detail [data-wrong="cleo"]');
+    await calm(t, 1);
+    t.equal('from a call of the tree', [await t.page.value('document.querySelector("#question").dataset.call'), (await t.page.value('document.querySelectorAll("#tree .row .sign.leftOut").length'))], ['11', 2]);
+    await t.page.press('w');
+    await calm(t, 2);
+    await t.page.press('r');
+    await calm(t, 3);
+    t.equal('two questions are enough', await verdict(t), 'reward');
+    await t.picture('9-wrong-verdict');
+    // The body at fault is put right: of what was left out no answer is offered.
+    await t.page.value('(() => { const it = document.querySelector("#source"); it.value = it.value.replace("total > 10", "total >= 10"); it.dispatchEvent(new Event("input")); })()');
+    await t.page.click('#run');
+    await t.page.until(`${isCalm} && document.querySelectorAll(".history > li").length === 1 && document.querySelector("#question") !== null`);
+    t.equal('the program that was put right asks about the first pupil, whom nobody judged', [await asked(t), await t.page.text('#same')], ['pupil', []]);
+  },
+
   // Its card is longer than the room that an answer gets at first.
   async 'a card of 60,000 lines'(t) {
     await t.fresh();
     await ran(t, 'filling.pas', FILLING);
     t.equal('it is asked about', await asked(t), 'fill');
     t.holds('and shows a part of it', /59,960 more parts/.test((await t.page.text('#question'))[0]));
-    await t.page.press('r');
+    await t.page.click('#question [data-wrong="a"]');
+    t.equal('a few of its values can be pressed', [await t.page.value('document.querySelectorAll(".choices .row button").length'), (await seen(t, '.choices label'))[0]], [60, 'or one of 59,940 more, by its name']);
+    const name = (text) => t.page.value(`(() => { const it = document.querySelector('.choices input'); it.value = ${JSON.stringify(text)}; it.focus(); })()`);
+    await name('a[60001]');
+    await t.page.press('Enter');
+    await t.page.until(`${isCalm} && document.querySelector('.notice') !== null`);
+    t.holds('a name that nothing has is told', /changed no variable of this name/.test(await notices(t)));
+    await name('a[59999]');
+    await t.page.press('Enter');
     await calm(t, 1);
+    t.equal('and each other one can be named', [await verdict(t), (await seen(t, '.history > li:nth-child(2)'))[0].includes('is wrong: a[59999]')], ['fill', true]);
+    await t.page.press('b');
+    await calm(t, 2);
+    await t.page.press('r');
+    await calm(t, 3);
     t.equal('an answer comes', await asked(t), 'show');
     await t.page.click('#question button[data-look="a"]');
     await t.page.until('document.querySelector("#question .looked:not([hidden]) table") !== null');
@@ -673,6 +831,11 @@ export const TESTS = {
     await t.page.until('document.querySelectorAll("#question .seen, #question .looked:not([hidden])").length === 2', 20);
     await t.picture('16-dark-look');
     await accessible(t, 'dark, looks');
+    await opened(t, 'marks');
+    await t.page.click('#question [data-wrong="ann"]');
+    await calm(t, 1);
+    await t.picture('16-dark-wrong');
+    await accessible(t, 'dark, a wrong value');
     await opened(t, 'change', ['wrong', 'right', 'wrong']);
     await t.picture('16-dark-verdict');
     await accessible(t, 'dark, a verdict');

@@ -172,7 +172,7 @@ pub text_stays : (C O T : Type 0) (s : Subject) (said : Said) (r : Result (List 
 text_stays C O T s said (Ok text) = refl
 text_stays C O T s said (Err e) = refl
 
-pub text_prepared : {C O T : Type 0} (p : Prepared C O T) (calls : ℕ) (r : Result (List ℕ) Ending) → IfOk (reply_of_text r) (IsReply p calls)
+pub text_prepared : {C O T S : Type 0} (p : Prepared C O T S) (calls : ℕ) (r : Result (List ℕ) Ending) → IfOk (reply_of_text r) (IsReply p calls)
 text_prepared p calls (Ok text) = tt
 text_prepared p calls (Err e) = tt
 

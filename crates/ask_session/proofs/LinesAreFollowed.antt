@@ -1,27 +1,44 @@
 -- The entries after lines are those that the acts of the lines make.
-use Rattle.std.proofs.Common.{if◌then◌else◌, ◌∙◌, ◌∷◌, ◌≡◌, [], ℕ, Bool, Err, List, None, Ok, Option, Result, Some, ap, false, option_map, refl, subst, true}
+use Rattle.std.proofs.Common.{if◌then◌else◌, ◌++◌, ◌+◌, ◌∙◌, ◌∷◌, ◌≡◌, [], ℕ, Bool, Err, List, None, Ok, Option, Result, Some, ap, false, length, nat_le}
+use Rattle.std.proofs.Common.{nat_lt, option_map, refl, subst, true}
 use Rattle.std.specs.List.{filter_map}
 use Rattle.answer_book.specs.Answers.{judge_answer, take_back_answer, take_back_last_answer, trust_answer}
-use Rattle.answer_book.specs.Entries.{said_by, standing_answers}
+use Rattle.answer_book.specs.Entries.{entries_with, said_by, standing_answers}
 use Rattle.answer_book.specs.declared.entries.{BookFault.BookFault, Entry.Entry, Judgement.Judgement}
+use Rattle.answer_book.specs.declared.entries.BookFault.TheVariants as faults
 use Rattle.answer_book.specs.declared.entries.What.{What, TheVariants.Judged, TheVariants.Trusted}
 use Rattle.optimal_query.proofs.GivenEntriesStand.{follow_given}
-use Rattle.optimal_query.proofs.StandUnlessTakenBack.{Follow, follow_command, said_alike}
+use Rattle.optimal_query.proofs.StandUnlessTakenBack.{Follow, as_many, follow_command, follow_made, said_alike}
 use Rattle.optimal_query.specs.{Laws.state_in, Search.Search, Search.search_with, Search.search_without, declared.state.SearchState.SearchState}
-use Rattle.optimal_query.specs.Accepted.{CommandAct, acts_giving, and_then, is_taken_back, standing_after}
+use Rattle.optimal_query.specs.Accepted.{CommandAct, Made, acts_giving, and_then, is_taken_back, number_made, standing_after}
 use Rattle.optimal_query.specs.Standing.{Command, Judge, TakeBack, TakeBackLast, Trust, after_command, if_accepted, search_taken_back}
 use Rattle.optimal_query.specs.declared.state.SearchState.TheVariants.{Ask, Found, Narrowed, NothingWrong, Unclear}
-use Rattle.dialog_replies.specs.{Instructions.instruction_of, Replies.takes_back_last, Replies.trust_outcome, Replies.trusts_named, Said.KeptReplies, Said.Said}
-use Rattle.dialog_replies.specs.{Said.kept_on, Subject.Subject, Subject.book_of, Subject.routine_named, Subject.state_after}
-use Rattle.dialog_replies.specs.Replies.{LineOutcome, adds, command_outcome, is_made, judges_as_kept, judges_asked, judges_same, outcome, takes_back}
-use Rattle.dialog_replies.specs.declared.instructions.{DialogCommand.DialogCommand, Instruction.Instruction}
+use Rattle.dialog_replies.specs.{Instructions.instruction_of, Said.KeptReplies, Said.Said, Said.kept_on}
+use Rattle.dialog_replies.specs.Replies.{LineOutcome, adds, adds_all, command_outcome, is_made, judges_as_kept, judges_asked, judges_same, outcome, says_all}
+use Rattle.dialog_replies.specs.Replies.{slices_by, slices_output, takes_back, takes_back_last, trust_outcome, trusts_named}
+use Rattle.dialog_replies.specs.Slices.{all_answer, entries_with_all, slice_answers}
+use Rattle.dialog_replies.specs.Subject.{Subject, book_of, calls_recorded, routine_named, state_after}
+use Rattle.dialog_replies.specs.declared.{instructions.DialogCommand.DialogCommand, instructions.Instruction.Instruction, slices.SliceOf.SliceOf}
+use Rattle.dialog_replies.specs.declared.slices.SliceOf.TheVariants as slices
 use Rattle.ask_session.specs.{Dialog.is_too_long, Dialog.said_after_line, Turned.said_through}
-use Rattle.ask_session.specs.LineActs.{EntriesFollowLines, act_by, acts_after_line, acts_after_lines, command_in, judgement_kept, judgement_on}
+use Rattle.ask_session.specs.LineActs.{EntriesFollowLines, act_by, acts_after_instruction, acts_after_line, acts_after_lines, acts_by_slice, acts_if_room}
+use Rattle.ask_session.specs.LineActs.{acts_making, acts_of_slice, judgement_kept, judgement_on}
 
 -- the answers that stand, by the acts
 pub said_after : {acts : List CommandAct} {entries : List Entry} → Follow acts entries → standing_answers entries ≡ standing_after acts
 said_after {acts = acts} before =
     ap (λ (l : List Entry). filter_map said_by l) before.entries_are ∙ said_alike (is_taken_back acts) acts
+
+-- as many entries were made as there are
+as_made : {acts : List CommandAct} {entries : List Entry} → Follow acts entries → length entries ≡ number_made acts
+as_made {acts = acts} before = ap (λ (l : List Entry). length l) before.entries_are ∙ as_many (is_taken_back acts) acts
+
+-- an entry more for each of these
+makes_all : (acts : List CommandAct) (entries : List Entry) → Follow acts entries → (whats : List What)
+    → Follow (acts_making acts whats) (entries_with_all entries whats)
+makes_all acts entries before [] = before
+makes_all acts entries before (what ∷ whats) =
+    makes_all (acts ++ Made (number_made acts + 1) what ∷ []) (entries_with entries what) (follow_made acts entries what before) whats
 
 module _ (s : Subject) where
   -- a search with these entries
@@ -96,7 +113,38 @@ module _ (s : Subject) where
     either true x y f g = f
     either false x y f g = g
 
-    by_dialog : (c : DialogCommand) → FollowBy (command_in s said.replies acts (Instruction.Command c)) (command_outcome s said c).said.entries
+    -- ---- a line that slices
+
+    both_ways : (b : Bool) (some none : List CommandAct) (x y : LineOutcome) → Follow some x.said.entries → Follow none y.said.entries
+        → Follow (if b then some else none) (if b then x else y).said.entries
+    both_ways true some none x y f g = f
+    both_ways false some none x y f g = g
+
+    made_or_not : (b : Bool) (numbers : ℕ × ℕ) (whats : List What)
+        → Follow (if b then acts_making acts whats else acts) (adds_all s said whats (if b then Ok numbers else Err faults.Full)).said.entries
+    made_or_not true numbers whats = makes_all acts said.entries before whats
+    made_or_not false numbers whats = before
+
+    said_all : (whats : List What) → Follow (acts_if_room acts whats) (says_all s said whats).said.entries
+    said_all whats =
+        subst (λ (n : ℕ). Follow (if nat_le (n + length whats) 100000 then acts_making acts whats else acts) (says_all s said whats).said.entries)
+        (as_made before)
+        (made_or_not (nat_le (length said.entries + length whats) 100000) (length said.entries + 1, length said.entries + length whats) whats)
+
+    sliced_by : (call : ℕ) (name : List ℕ) (told : SliceOf (ℕ → Bool)) → Follow (acts_by_slice s acts call told) (slices_by s said call name told).said.entries
+    sliced_by call name (slices.Slice has) =
+        subst (λ (answers : List What). Follow (acts_if_room acts (slice_answers s answers has call))
+        (says_all s said (slice_answers s (standing_answers said.entries) has call)).said.entries) (said_after before)
+        (said_all (slice_answers s (standing_answers said.entries) has call))
+    sliced_by call name slices.NoOutput = before
+    sliced_by call name slices.TooMany = before
+
+    sliced : (call : ℕ) (name : List ℕ) → Follow (acts_of_slice s acts call name) (slices_output s said call name).said.entries
+    sliced call name =
+        both_ways (nat_lt call (calls_recorded s)) (acts_by_slice s acts call (s.slice call name)) acts _ _
+        (sliced_by call name (s.slice call name)) before
+
+    by_dialog : (c : DialogCommand) → Follow (acts_after_instruction s said.replies acts (Instruction.Command c)) (command_outcome s said c).said.entries
     unfolding command_outcome
     by_dialog DialogCommand.Nothing = before
     by_dialog (DialogCommand.Judge judgement None) =
@@ -119,11 +167,12 @@ module _ (s : Subject) where
     by_dialog (DialogCommand.Show call) = before
     by_dialog (DialogCommand.State call name) = before
     by_dialog (DialogCommand.Trace call) = before
+    by_dialog (DialogCommand.Slice call name) = sliced call name
     by_dialog (DialogCommand.Carry call onto) = before
     by_dialog DialogCommand.Tree = before
     by_dialog DialogCommand.Other = before
 
-    pub by_instruction : (i : Instruction) → FollowBy (command_in s said.replies acts i) (outcome s said i).said.entries
+    pub by_instruction : (i : Instruction) → Follow (acts_after_instruction s said.replies acts i) (outcome s said i).said.entries
     by_instruction (Instruction.Command command) = by_dialog command
     by_instruction (Instruction.Save file) = before
     by_instruction Instruction.Quit = before
@@ -131,8 +180,7 @@ module _ (s : Subject) where
   -- ---- one line, and those after it
 
   by_line : (acts : List CommandAct) (said : Said) (i : Instruction) (long : Bool) → Follow acts said.entries
-      → Follow (and_then acts (act_by s acts (if long then None else command_in s said.replies acts i)))
-      (if long then said else (outcome s said i).said).entries
+      → Follow (if long then acts else acts_after_instruction s said.replies acts i) (if long then said else (outcome s said i).said).entries
   by_line acts said i true before = before
   by_line acts said i false before = by_instruction acts said before i
 
@@ -176,6 +224,16 @@ module _ (s : Subject) where
   either_keeps said true x y e f = e
   either_keeps said false x y e f = f
 
+  all_keeps : (said : Said) (whats : List What) (answer : Result (ℕ × ℕ) BookFault) → (adds_all s said whats answer).said.replies ≡ said.replies
+  all_keeps said whats (Ok numbers) = refl
+  all_keeps said whats (Err fault) = refl
+
+  slice_keeps : (said : Said) (call : ℕ) (name : List ℕ) (told : SliceOf (ℕ → Bool)) → (slices_by s said call name told).said.replies ≡ said.replies
+  slice_keeps said call name (slices.Slice has) = all_keeps said (slice_answers s (standing_answers said.entries) has call)
+      (all_answer said.entries (slice_answers s (standing_answers said.entries) has call))
+  slice_keeps said call name slices.NoOutput = refl
+  slice_keeps said call name slices.TooMany = refl
+
   command_keeps : (said : Said) (c : DialogCommand) → (command_outcome s said c).said.replies ≡ said.replies
   unfolding command_outcome
   command_keeps said DialogCommand.Nothing = refl
@@ -190,6 +248,8 @@ module _ (s : Subject) where
   command_keeps said (DialogCommand.Show call) = refl
   command_keeps said (DialogCommand.State call name) = refl
   command_keeps said (DialogCommand.Trace call) = refl
+  command_keeps said (DialogCommand.Slice call name) =
+      either_keeps said (nat_lt call (calls_recorded s)) _ _ (slice_keeps said call name (s.slice call name)) refl
   command_keeps said (DialogCommand.Carry call onto) = refl
   command_keeps said DialogCommand.Tree = refl
   command_keeps said DialogCommand.Other = refl

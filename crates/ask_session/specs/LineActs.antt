@@ -1,14 +1,17 @@
 -- What the lines of a console do to the entries, read as acts: an entry stands if one of these made it and none took it
 -- back. No list of entries with flags is kept here, as a book keeps one.
-use Rattle.std.specs.Prelude.{if◌then◌else◌, ◌∷◌, ◌≡◌, [], ℕ, List, None, Option, Some, length, option_map}
-use Rattle.answer_book.specs.declared.entries.Judgement.{Judgement}
-use Rattle.optimal_query.specs.Accepted.{CommandAct, act_of, acts_giving, and_then, entries_after, standing_after}
-use Rattle.optimal_query.specs.Laws.{state_in}
+use Rattle.std.specs.Prelude.{if◌then◌else◌, ◌++◌, ◌+◌, ◌∷◌, ◌≡◌, [], ℕ, Bool, List, None, Option, Some, length, nat_le}
+use Rattle.std.specs.Prelude.{nat_lt, option_map}
+use Rattle.answer_book.specs.declared.entries.{Judgement.Judgement, What.What}
+use Rattle.optimal_query.specs.{Accepted.standing_after, Laws.state_in}
+use Rattle.optimal_query.specs.Accepted.{CommandAct, Made, act_of, acts_giving, and_then, entries_after, number_made}
 use Rattle.optimal_query.specs.Standing.{Command, Judge, TakeBack, TakeBackLast, Trust}
 use Rattle.optimal_query.specs.declared.state.SearchState.{SearchState, TheVariants.Ask}
-use Rattle.dialog_replies.specs.{Instructions.instruction_of, Subject.Subject, Subject.routine_named}
+use Rattle.dialog_replies.specs.{Instructions.instruction_of, Slices.slice_answers, declared.slices.SliceOf.SliceOf}
 use Rattle.dialog_replies.specs.Said.{KeptReplies, Said, kept_on}
+use Rattle.dialog_replies.specs.Subject.{Subject, calls_recorded, routine_named}
 use Rattle.dialog_replies.specs.declared.instructions.{DialogCommand.DialogCommand, Instruction.Instruction}
+use Rattle.dialog_replies.specs.declared.slices.SliceOf.TheVariants as slices
 use Rattle.ask_session.specs.{Dialog.is_too_long, Turned.said_through}
 
 -- a judgement on the call that is asked about, if one is
@@ -39,10 +42,34 @@ abbrev pub act_by : Subject → List CommandAct → Option Command → Option Co
 act_by s acts None = None
 act_by s acts (Some command) = act_of (length s.tree.routine) s.routines acts command
 
--- these acts and that of a line
+-- ---- a line that slices makes an entry for each call that it speaks of, if there is room for all of them
+
+abbrev pub acts_making : List CommandAct → List What → List CommandAct
+acts_making acts [] = acts
+acts_making acts (what ∷ whats) = acts_making (acts ++ Made (number_made acts + 1) what ∷ []) whats
+
+abbrev pub acts_if_room : List CommandAct → List What → List CommandAct
+acts_if_room acts whats = if nat_le (number_made acts + length whats) 100000 then acts_making acts whats else acts
+
+abbrev pub acts_by_slice : Subject → List CommandAct → (call : ℕ) → SliceOf (ℕ → Bool) → List CommandAct
+acts_by_slice s acts call (slices.Slice has) = acts_if_room acts (slice_answers s (standing_after acts) has call)
+acts_by_slice s acts call slices.NoOutput = acts
+acts_by_slice s acts call slices.TooMany = acts
+
+abbrev pub acts_of_slice : Subject → List CommandAct → (call : ℕ) → (name : List ℕ) → List CommandAct
+acts_of_slice s acts call name =
+    if nat_lt call (calls_recorded s) then acts_by_slice s acts call (s.slice call name) else acts
+
+-- these acts and those of an instruction
+abbrev pub acts_after_instruction : Subject → KeptReplies → List CommandAct → Instruction → List CommandAct
+acts_after_instruction s kept acts (Instruction.Command (DialogCommand.Slice call name)) =
+    acts_of_slice s acts call name
+acts_after_instruction s kept acts instruction = and_then acts (act_by s acts (command_in s kept acts instruction))
+
+-- these acts and those of a line
 abbrev pub acts_after_line : Subject → KeptReplies → List CommandAct → (line : List ℕ) → List CommandAct
 acts_after_line s kept acts line =
-    and_then acts (act_by s acts (if is_too_long line then None else command_in s kept acts (instruction_of line)))
+    if is_too_long line then acts else acts_after_instruction s kept acts (instruction_of line)
 
 abbrev pub acts_after_lines : Subject → KeptReplies → List CommandAct → (lines : List (List ℕ)) → List CommandAct
 acts_after_lines s kept acts [] = acts

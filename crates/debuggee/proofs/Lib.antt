@@ -9,3 +9,5 @@ pub mod HeapCellsHaveBlocks
 pub mod CellsHaveNames
 pub mod CardsLeaveOut
 pub mod TracesHaveLines
+pub mod SlicesOfRuns
+pub mod SlicesTold

@@ -6,7 +6,7 @@ use Rattle.body_replay.specs.{Agreement.carries, Replays.kept_event, Replays.wor
 use Rattle.question_text.specs.{States.has_cell, States.state_text, Traces.trace_text, Trees.tree_text}
 use Rattle.question_text.specs.Cards.{Recorded, card, question}
 use Rattle.dialog_replies.specs.Subject.{Subject}
-use Rattle.debuggee.specs.Execution.{Execution}
+use Rattle.debuggee.specs.{Execution.Execution, Slicing.slice_named}
 
 -- the trace of a call that did this work: what happened in it, and how it ended
 abbrev pub trace_of_work : Recorded → (k : ℕ) → Replayed → List ℕ
@@ -21,8 +21,8 @@ trace h k =
     trace_of_work h.recorded k (work_of p (run p h.supply.input h.supply.budget) k)
 
 -- the columns of its calls, the routines of its program by number and name, the cards, questions and traces of its
--- calls, the lines on the cells before and after each, whether one may stand where another was entered, and the lines
--- of all calls with what is said of each
+-- calls, the lines on the cells before and after each, which calls had a part in an output of each, whether one may
+-- stand where another was entered, and the lines of all calls with what is said of each
 abbrev pub subject_of : Execution → Subject
 subject_of h = record {
   tree = record {
@@ -37,6 +37,7 @@ subject_of h = record {
   trace = trace h;
   has_cell = has_cell h.recorded;
   state = state_text h.recorded;
+  slice = slice_named h;
   carries = carries (run h.recorded.program h.supply.input h.supply.budget);
   marked = tree_text h.recorded.program h.recorded.calls;
 }

@@ -5,9 +5,10 @@
 mod laws;
 mod refusal;
 mod runs;
+mod slicing;
 mod source;
 
-pub use laws::only_links_are_left_out;
+pub use laws::{only_links_are_left_out, slices_tell_their_calls};
 pub use refusal::SourceRefusal;
 pub use runs::Debuggee;
 pub use source::{INPUT_BYTES, SourceFault, SourceProgram, read_source, run_program};

@@ -1,25 +1,29 @@
 //! A source that was run, and what a dialog needs of it.
-ghost use Rattle.std.proofs.Props.{props};
-ghost use Rattle.std.specs.{Prelude.◌<◌, Prelude.◌≡◌, Prelude.◌≤◌, Prelude.length, Coded.Coded-set};
+ghost use Rattle.std.specs.Prelude.{◌<◌, ◌≡◌, ◌≤◌, IfOk, length};
+ghost use Rattle.std.{proofs.Props.props, specs.Coded.Coded-set};
 ghost use Rattle.cell_names.specs.Finding.{finding_in, finding_of};
 ghost use Rattle.question_text.specs.Cards.{recorded_in};
 ghost use Rattle.debuggee.specs.Limits.{input_bytes, most_steps};
 ghost use Rattle.debuggee.specs.Told.{AreTold, counts_once, history_of};
 
+use crate::slicing::output_of_word;
+use answer_book::BookFault;
 use body_replay::{Trace, carries, replay};
 use call_tree::{Calls, Mark};
 use cell_names::{NameFinder, PlacedParts};
 use cell_value::Steps;
 use core_program::Program;
-use dialog_replies::Debugged;
+use dialog_replies::{Debugged, SliceOf};
 use edge_ports::{Memory, Printer};
+use optimal_query::Debug;
+use output_slice::{Output, SliceFault, Slicing, has_output, leave_out, slice};
 use pas_lexer::Tokens;
 use program_run::History;
 use question_text::{
-    CardParts, Recorded, card_parts, opened_calls, write_call, write_question, write_state,
-    write_trace, write_tree,
+    CardParts, Recorded, card_parts, cell_named, opened_calls, write_call, write_question,
+    write_state, write_trace, write_tree,
 };
-use std::alloc::Global;
+use std::alloc::{AllocError, Global};
 
 /// A source that was run: its tokens, the program that they are, and its run.
 #[derive(Drop)]
@@ -46,7 +50,9 @@ pub struct Debuggee<'a> {
 }
 
 impl<'a> Debuggee<'a> {
-    ghost use Rattle.debuggee.specs.Execution.{execution};
+    ghost use Rattle.core_program.specs.Run.{run};
+    ghost use Rattle.dialog_replies.specs.Prepared.{IsSliceOf};
+    ghost use Rattle.debuggee.specs.{Execution.execution, Prepared.prepared_of, Slicing.output_named, Slicing.slice_in};
 
     /// The run, as the texts on its calls tell of it.
     fn recorded(&self) -> Recorded<'_>
@@ -64,6 +70,41 @@ impl<'a> Debuggee<'a> {
             items: &self.history.input,
         }
     }
+
+    /// The output of a call that a name names.
+    fn output_named(&self, alloc: Global, call: u32, name: &[u8]) -> Result<Option<Output>, Memory>
+        requires { call < length self.now.history.calls.calls }
+        ensures { IfOk result (λ output. output ≡ output_named (execution self.now).recorded call name.now) }
+    {
+        let recorded = self.recorded();
+        let parts = card_parts(alloc, &recorded, call)?;
+        match cell_named(alloc, &recorded, call, &parts, name)? {
+            Some(address) => Ok(Some(Output::Cell(address))),
+            None => Ok(output_of_word(name)),
+        }
+    }
+
+    /// The slice of an output of a call, if it has that.
+    fn slice_of(&self, alloc: Global, call: u32, output: Output) -> Result<SliceOf<Slicing>, Memory>
+        requires { call < length self.now.history.calls.calls }
+        ensures { IfOk result (IsSliceOf (prepared_of (execution self.now)) call
+            (slice_in self.now.history.calls.calls
+            (run self.now.program self.now.input.now self.now.history.budget) call output)) }
+    {
+        // What is kept is that of the run of whole tables. That there is no such output is told first, before that
+        // there is too much to go over.
+        self.program.is_whole();
+        let has = has_output(alloc, &self.program, &self.history, call, output)?;
+        if !has {
+            return Ok(SliceOf::NoOutput);
+        }
+        match slice(alloc, &self.program, &self.history, call, output) {
+            Ok(slicing) => Ok(SliceOf::Slice(slicing)),
+            Err(SliceFault::NoOutput) => Ok(SliceOf::NoOutput),
+            Err(SliceFault::TooMany(_)) => Ok(SliceOf::TooMany),
+            Err(SliceFault::Memory) => Err(AllocError),
+        }
+    }
 }
 
 impl<'a> Debugged for Debuggee<'a> {
@@ -74,6 +115,8 @@ impl<'a> Debugged for Debuggee<'a> {
     type Opened = PlacedParts;
 
     type Trace = Trace;
+
+    type Slice = Slicing;
 
     ghost subject = { λ debuggee. subject_of (execution debuggee) };
 
@@ -99,6 +142,28 @@ impl<'a> Debugged for Debuggee<'a> {
         let mut steps: Steps<()> = Steps::new();
         let trace = replay(alloc, &self.program, &self.history, call, &mut steps)?;
         Ok(trace)
+    }
+
+    fn prepare_slice(
+        &self,
+        alloc: Global,
+        call: u32,
+        name: &[u8],
+    ) -> Result<SliceOf<Slicing>, Memory> {
+        match self.output_named(alloc, call, name)? {
+            Some(output) => self.slice_of(alloc, call, output),
+            None => Ok(SliceOf::NoOutput),
+        }
+    }
+
+    fn leave_out(
+        &self,
+        debug: &mut Debug,
+        _call: u32,
+        slice: &Slicing,
+    ) -> Result<(u32, u32), BookFault> {
+        let mut steps: Steps<()> = Steps::new();
+        leave_out(debug, &self.history.calls, slice, &mut steps)
     }
 
     fn write_card<P: Printer>(&self, out: &mut P, call: u32, card: &CardParts) {

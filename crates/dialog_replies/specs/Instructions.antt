@@ -51,6 +51,8 @@ instruction_by key.Back (entry ∷ []) rest =
 instruction_by key.Show (call ∷ []) rest = with_number (number_of call) (λ number. ask.Command (commands.Show number))
 instruction_by key.State (call ∷ name ∷ names) rest =
     with_number (number_of call) (λ number. ask.Command (commands.State number (rest_in rest)))
+instruction_by key.Slice (call ∷ name ∷ names) rest =
+    with_number (number_of call) (λ number. ask.Command (commands.Slice number (rest_in rest)))
 instruction_by key.Trace (call ∷ []) rest = with_number (number_of call) (λ number. ask.Command (commands.Trace number))
 instruction_by key.Carry (call ∷ onto ∷ []) rest = carry_in call onto
 instruction_by key.Tree [] rest = ask.Command commands.Tree

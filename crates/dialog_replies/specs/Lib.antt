@@ -6,6 +6,7 @@ pub mod Lines
 pub mod Numbers
 pub mod Replies
 pub mod Said
+pub mod Slices
 pub mod Start
 pub mod Subject
 pub mod Texts

@@ -2,15 +2,17 @@
 use Rattle.std.specs.Prelude.{if◌then◌else◌, ◌&&◌, ◌++◌, [], ℕ, Bool, Err, List, None, Ok, Option, Result, Some, codes}
 use Rattle.std.specs.Prelude.{decimal, length, nat_le, nat_lt}
 use Rattle.answer_book.specs.Answers.{judge_answer, take_back_answer, take_back_last_answer, trust_answer}
-use Rattle.answer_book.specs.Entries.{entries_with, entries_without}
+use Rattle.answer_book.specs.Entries.{entries_with, entries_without, standing_answers}
 use Rattle.answer_book.specs.declared.entries.{BookFault.BookFault, Entry.Entry, Judgement.Judgement}
 use Rattle.answer_book.specs.declared.entries.What.{What, TheVariants.Judged, TheVariants.Trusted}
 use Rattle.optimal_query.specs.declared.state.SearchState.{SearchState, TheVariants.Ask}
 use Rattle.kept_replies.specs.Notes.{with_note}
-use Rattle.dialog_replies.specs.{Said.Said, Said.kept_on, Texts.report, Texts.tree_text, declared.start.Start.Start}
-use Rattle.dialog_replies.specs.Start.{gives_replies_alone, said_at_start}
+use Rattle.dialog_replies.specs.{Said.Said, Said.kept_on, Start.gives_replies_alone, Start.said_at_start, Texts.report}
+use Rattle.dialog_replies.specs.{Texts.tree_text, declared.slices.SliceOf.SliceOf, declared.start.Start.Start}
+use Rattle.dialog_replies.specs.Slices.{all_answer, entries_with_all, slice_answers}
 use Rattle.dialog_replies.specs.Subject.{Subject, book_of, calls_recorded, routine_named, state_after}
 use Rattle.dialog_replies.specs.declared.instructions.{DialogCommand.DialogCommand, Instruction.Instruction}
+use Rattle.dialog_replies.specs.declared.slices.SliceOf.TheVariants as slices
 
 -- what was said after a line, and its reply
 pub record LineOutcome : Type 0 where
@@ -132,6 +134,39 @@ carry_or_none s call onto =
     (if nat_lt onto (calls_recorded s) then carry_text (s.carries call onto) call onto else no_call onto)
     else no_call call
 
+-- ---- the search is narrowed to the slice of a wrong output
+
+abbrev pub entries_line : (first last : ℕ) → List ℕ
+entries_line first last = codes "entries " ++ decimal first ++ codes " to " ++ decimal last ++ codes "\n"
+
+abbrev pub entries_text : Subject → Said → (numbers : ℕ × ℕ) → List ℕ
+entries_text s said numbers = entries_line numbers.0 numbers.1 ++ report s said
+
+-- all of these are said, if there is room for them
+abbrev pub adds_all : Subject → Said → List What → Result (ℕ × ℕ) BookFault → LineOutcome
+adds_all s said whats (Ok numbers) =
+    replied (with_entries_now said (entries_with_all said.entries whats))
+    (entries_text s (with_entries_now said (entries_with_all said.entries whats)) numbers)
+adds_all s said whats (Err why) = replied said (book_fault_text why)
+
+abbrev pub says_all : Subject → Said → List What → LineOutcome
+says_all s said whats = adds_all s said whats (all_answer said.entries whats)
+
+abbrev pub no_output : (name : List ℕ) → List ℕ
+no_output name = codes "no output " ++ name ++ codes "\n"
+
+abbrev pub slices_by : Subject → Said → (call : ℕ) → (name : List ℕ) → SliceOf (ℕ → Bool) → LineOutcome
+slices_by s said call name (slices.Slice has) =
+    says_all s said (slice_answers s (standing_answers said.entries) has call)
+slices_by s said call name slices.NoOutput = replied said (no_output name)
+slices_by s said call name slices.TooMany = replied said (codes "too many to compare\n")
+
+-- the call is wrong, and so is its output of this name
+abbrev pub slices_output : Subject → Said → (call : ℕ) → (name : List ℕ) → LineOutcome
+slices_output s said call name =
+    if nat_lt call (calls_recorded s) then slices_by s said call name (s.slice call name)
+    else replied said (no_call call)
+
 unfoldable pub command_outcome : Subject → Said → DialogCommand → LineOutcome
 command_outcome s said DialogCommand.Nothing = replied said []
 command_outcome s said (DialogCommand.Judge judgement None) = judges_asked s said judgement (state_after s said.entries)
@@ -147,6 +182,7 @@ command_outcome s said (DialogCommand.Note entry note) = notes_entry said entry 
 command_outcome s said (DialogCommand.Show call) = replied said (card_or_none s call)
 command_outcome s said (DialogCommand.State call name) = replied said (state_or_none s call name)
 command_outcome s said (DialogCommand.Trace call) = replied said (trace_or_none s call)
+command_outcome s said (DialogCommand.Slice call name) = slices_output s said call name
 command_outcome s said (DialogCommand.Carry call onto) = replied said (carry_or_none s call onto)
 command_outcome s said DialogCommand.Tree = replied said (tree_text s said.entries)
 command_outcome s said DialogCommand.Other = replied said (codes "not understood\n")

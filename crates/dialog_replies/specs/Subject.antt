@@ -6,10 +6,12 @@ use Rattle.call_tree.specs.declared.records.Mark.{Mark}
 use Rattle.answer_book.specs.{Answers.Answers, Entries.standing_answers, Marks.marks_of, Numbers.numbers_below}
 use Rattle.answer_book.specs.declared.entries.Entry.{Entry}
 use Rattle.optimal_query.specs.{Laws.CallTree, Laws.doubts_in, Laws.state_in, declared.state.SearchState.SearchState}
+use Rattle.dialog_replies.specs.declared.slices.SliceOf.{SliceOf}
 
 -- the columns of the calls of a run, how many routines the program has, and the name of each; the texts on each call:
 -- its card, the question about it, which says neither its number nor the call that made it, the lines of its trace,
 -- whether a cell has a name before or after it, and the lines on the cells of a name;
+-- of which calls an output had a part in an output of a call, which has a name;
 -- whether the record of a call may be put in place of its run where another call was entered; and the lines of all
 -- calls, with a mark for each
 pub record Subject : Type 0 where
@@ -21,6 +23,7 @@ pub record Subject : Type 0 where
   pub trace : ℕ → List ℕ
   pub has_cell : (call : ℕ) → (name : List ℕ) → Bool
   pub state : (call : ℕ) → (name : List ℕ) → List ℕ
+  pub slice : (call : ℕ) → (name : List ℕ) → SliceOf (ℕ → Bool)
   pub carries : (call onto : ℕ) → Bool
   pub marked : List Mark → List ℕ
 

@@ -1,10 +1,12 @@
 //! The replies to changes of the book.
-ghost use Rattle.std.specs.Prelude.{◌++◌, ◌≡◌, IfOk, decimal};
+ghost use Rattle.std.specs.Prelude.{◌++◌, ◌<◌, ◌≡◌, IfOk, decimal};
 ghost use Rattle.answer_book.specs.Answers.{take_back_answer, take_back_last_answer};
-ghost use Rattle.dialog_replies.specs.{Kept.IsDialogOf, Kept.said_in_dialog, Subject.book_of, Subject.calls_recorded};
+ghost use Rattle.optimal_query.specs.Search.{answers_in};
+ghost use Rattle.dialog_replies.specs.{Kept.IsDialogOf, Kept.said_in_dialog, Replies.trust_outcome};
+ghost use Rattle.dialog_replies.specs.{Slices.slice_answers, Subject.book_of, Subject.calls_recorded};
 ghost use Rattle.dialog_replies.specs.Prepared.{IsReply, IsText, outcome_with, text_of_reply};
-ghost use Rattle.dialog_replies.specs.Replies.{back_text, book_fault_text, entry_text, judges, notes_entry, takes_back};
-ghost use Rattle.dialog_replies.specs.Replies.{takes_back_last, trust_outcome};
+ghost use Rattle.dialog_replies.specs.Replies.{back_text, book_fault_text, entries_line, entries_text, entry_text};
+ghost use Rattle.dialog_replies.specs.Replies.{judges, notes_entry, says_all, takes_back, takes_back_last};
 
 use crate::calls::write_number;
 use crate::debugged::Debugged;
@@ -185,6 +187,58 @@ pub fn take_back_last<D: Debugged>(
     let mut steps: Steps<Uncounted> = Steps::new();
     match dialog.debug.take_back_last(&mut steps) {
         Ok(number) => taken_back(alloc, run, dialog, number),
+        Err(fault) => refused(alloc, fault),
+    }
+}
+
+/// The line on new entries, of which these numbers are the first and the last.
+fn entries_line(alloc: Global, first: u32, last: u32) -> Result<Bytes, Memory>
+    ensures { IfOk result (λ text. text ≡ entries_line first last) }
+{
+    let mut text = numbered_text(alloc, b"entries ", first, b" to ")?;
+    write_number(&mut text, last)?;
+    text.append(b"\n")?;
+    Ok(text)
+}
+
+/// The reply to new entries, of which these numbers are the first and the last: the numbers, and a report.
+fn entries_made<D: Debugged>(
+    alloc: Global,
+    run: &D,
+    dialog: &mut Dialog,
+    numbers: (u32, u32),
+) -> Result<Reply<D::Card, D::Opened, D::Trace>, Memory>
+    requires dialog { IsDialogOf (D.subject run.now) dialog.old }
+    ensures text { IfOk result (λ reply. text_of_reply (D.subject run.now) (said_in_dialog dialog.old) reply
+        ≡ entries_text (D.subject run.now) (said_in_dialog dialog.old) numbers) }
+    ensures said { said_in_dialog dialog.new ≡ said_in_dialog dialog.old }
+    ensures prepared { IfOk result (IsReply (D.prepared run.now) (calls_recorded (D.subject run.now))) }
+    ensures dialog { IsDialogOf (D.subject run.now) dialog.new }
+{
+    let text = entries_line(alloc, numbers.0, numbers.1)?;
+    let report = report_now(alloc, run, dialog)?;
+    Ok(Reply::Reported(text, report))
+}
+
+/// Judges a call wrong by the output that is sliced, and those right that had no part in it.
+pub fn leave_out<D: Debugged>(
+    alloc: Global,
+    run: &D,
+    dialog: &mut Dialog,
+    call: u32,
+    slice: &D::Slice,
+) -> Result<Reply<D::Card, D::Opened, D::Trace>, Memory>
+    requires dialog { IsDialogOf (D.subject run.now) dialog.old }
+    requires a_call { call < calls_recorded (D.subject run.now) }
+    requires prepared { (D.prepared run.now).slice call slice.now }
+    ensures said { IfOk result (λ reply. outcome_with (D.subject run.now) (said_in_dialog dialog.new) reply
+        ≡ says_all (D.subject run.now) (said_in_dialog dialog.old) (slice_answers (D.subject run.now)
+        (answers_in dialog.old.debug) ((D.prepared run.now).in_slice slice.now) call)) }
+    ensures prepared { IfOk result (IsReply (D.prepared run.now) (calls_recorded (D.subject run.now))) }
+    ensures dialog { IsDialogOf (D.subject run.now) dialog.new }
+{
+    match run.leave_out(&mut dialog.debug, call, slice) {
+        Ok(numbers) => entries_made(alloc, run, dialog, numbers),
         Err(fault) => refused(alloc, fault),
     }
 }

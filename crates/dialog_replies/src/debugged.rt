@@ -1,10 +1,16 @@
 //! What the dialog needs of a run.
 ghost use Rattle.std.specs.Prelude.{◌<◌, ◌≡◌, [], IfOk, false, length};
 ghost use Rattle.edge_ports.specs.Printouts.{Prints};
-ghost use Rattle.dialog_replies.specs.{Kept.AreCallsOf, Prepared.Prepared, Subject.Subject, Subject.calls_recorded};
+ghost use Rattle.optimal_query.specs.Search.{answers_in};
+ghost use Rattle.dialog_replies.specs.{Kept.AreCallsOf, Kept.IsSearchOf, Prepared.IsSliceOf, Prepared.Prepared};
+ghost use Rattle.dialog_replies.specs.Slices.{all_answer, entries_after_all, slice_answers};
+ghost use Rattle.dialog_replies.specs.Subject.{Subject, calls_recorded};
 
+use crate::slices::SliceOf;
+use answer_book::BookFault;
 use call_tree::{Calls, Mark};
 use edge_ports::{Memory, Printer};
+use optimal_query::Debug;
 use std::alloc::Global;
 
 /// A run that is debugged: its calls, the routines of its program, and the texts on its calls. What takes memory for a
@@ -19,11 +25,14 @@ pub trait Debugged {
     /// What the trace of a call is printed from.
     type Trace: Drop;
 
+    /// The slice of an output of a call: which outputs of the calls below had a part in it.
+    type Slice: Drop;
+
     /// The columns, names and texts.
     ghost subject: { Self → Subject };
 
     /// Of which calls what was prepared is.
-    ghost prepared: { Self → Prepared Self.Card Self.Opened Self.Trace };
+    ghost prepared: { Self → Prepared Self.Card Self.Opened Self.Trace Self.Slice };
 
     /// The calls of the run, of which there is one at least; all were left.
     fn calls(&self) -> &Calls
@@ -47,6 +56,36 @@ pub trait Debugged {
     fn prepare_trace(&self, alloc: Global, call: u32) -> Result<Self::Trace, Memory>
         requires { call < calls_recorded (subject self.now) }
         ensures { IfOk result ((prepared self.now).trace call) };
+
+    /// Prepares the slice of the output of a call that has this name.
+    fn prepare_slice(
+        &self,
+        alloc: Global,
+        call: u32,
+        name: &[u8],
+    ) -> Result<SliceOf<Self::Slice>, Memory>
+        requires { call < calls_recorded (subject self.now) }
+        ensures { IfOk result (IsSliceOf (prepared self.now) call ((subject self.now).slice call name.now)) };
+
+    /// Judges a call wrong, and then each call right, by rising number, that had no part in the output that is sliced:
+    /// it stands below that call, nothing is said of it, and the slice has no output of it, but one of the call that
+    /// made it. Answers the first entry and the last one. `Full` where there is no room for all of them, and then
+    /// nothing is changed. It takes no memory.
+    fn leave_out(
+        &self,
+        debug: &mut Debug,
+        call: u32,
+        slice: &Self::Slice,
+    ) -> Result<(u32, u32), BookFault>
+        requires a_call { call < calls_recorded (subject self.now) }
+        requires search { IsSearchOf (subject self.now) debug.old }
+        requires prepared { (prepared self.now).slice call slice.now }
+        ensures answer { result ≡ all_answer debug.old.book.entries
+            (slice_answers (subject self.now) (answers_in debug.old) ((prepared self.now).in_slice slice.now) call) }
+        ensures entries { debug.new.book.entries ≡ entries_after_all debug.old.book.entries
+            (slice_answers (subject self.now) (answers_in debug.old) ((prepared self.now).in_slice slice.now) call)
+            result }
+        ensures search { IsSearchOf (subject self.now) debug.new };
 
     /// Prints the card of a call.
     fn write_card<P: Printer>(&self, out: &mut P, call: u32, card: &Self::Card)

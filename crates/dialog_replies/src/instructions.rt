@@ -15,7 +15,7 @@ use answer_book::Judgement;
 use kept_replies::note_in;
 use std::marker::Model;
 
-/// The name of a routine or of cells, as it was typed. Clauses see its bytes.
+/// The name of a routine, of cells or of an output, as it was typed. Clauses see its bytes.
 #[derive(Drop)]
 pub struct Name<'a> {
     bytes: &'a [u8],
@@ -123,6 +123,9 @@ pub enum DialogCommand<'a> {
     State(u32, Name<'a>),
     /// `trace K`: the trace of the call of this number.
     Trace(u32),
+    /// `slice K NAME`: the call of this number went wrong by the output of this name, and each call below it that had
+    /// no part in that is left out of the search.
+    Slice(u32, Name<'a>),
     /// `carry K J`: whether the record of the call of the first number may be put in place of its run where the call of
     /// the second number was entered.
     Carry(u32, u32),
@@ -146,6 +149,7 @@ fn alone<'a>(keyword: Keyword) -> Instruction<'a>
         | Keyword::Show
         | Keyword::State
         | Keyword::Trace
+        | Keyword::Slice
         | Keyword::Carry
         | Keyword::Save
         | Keyword::Note
@@ -197,6 +201,7 @@ fn with_operand<'a>(keyword: Keyword, operand: &'a [u8]) -> Instruction<'a>
         },
         Keyword::Save => save(operand),
         Keyword::State
+        | Keyword::Slice
         | Keyword::Carry
         | Keyword::Tree
         | Keyword::Same
@@ -213,6 +218,22 @@ fn state<'a>(call: &'a [u8], rest: &'a [u8]) -> Instruction<'a>
 {
     match number_in(call) {
         Some(number) => Instruction::Command(DialogCommand::State(
+            number,
+            Name {
+                bytes: before_blanks(after_blanks(rest)),
+            },
+        )),
+        None => Instruction::Command(DialogCommand::Other),
+    }
+}
+
+/// What `slice` asks for with this word after it, and this after the word.
+fn slice<'a>(call: &'a [u8], rest: &'a [u8]) -> Instruction<'a>
+    ensures { result ≡ with_number (number_of call.now)
+        (λ number. ask.Command (commands.Slice number (rest_in rest.now))) }
+{
+    match number_in(call) {
+        Some(number) => Instruction::Command(DialogCommand::Slice(
             number,
             Name {
                 bytes: before_blanks(after_blanks(rest)),
@@ -275,6 +296,7 @@ fn with_more<'a>(
 {
     match keyword {
         Keyword::State => state(operand, rest),
+        Keyword::Slice => slice(operand, rest),
         Keyword::Note => note(operand, rest),
         Keyword::Carry => carry_alone(operand, second, after),
         Keyword::Judge(_)

@@ -19,6 +19,8 @@ pub enum Keyword {
     State,
     /// `trace`.
     Trace,
+    /// `slice`.
+    Slice,
     /// `carry`.
     Carry,
     /// `tree`.
@@ -55,6 +57,8 @@ pub fn keyword_in(word: &[u8]) -> Keyword
         Keyword::State
     } else if word == b"trace".as_slice() {
         Keyword::Trace
+    } else if word == b"slice".as_slice() {
+        Keyword::Slice
     } else if word == b"carry".as_slice() {
         Keyword::Carry
     } else if word == b"tree".as_slice() {

@@ -21,6 +21,7 @@ mod reports;
 mod resuming;
 mod saving;
 mod searches;
+mod slices;
 mod start;
 mod words;
 
@@ -35,4 +36,5 @@ pub use reports::state_now;
 pub use resuming::resume;
 pub use saving::session_text_of;
 pub use searches::begin;
+pub use slices::SliceOf;
 pub use start::Start;

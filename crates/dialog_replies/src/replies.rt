@@ -1,15 +1,17 @@
 //! The reply to each line.
 ghost use Rattle.std.specs.Prelude.{if◌then◌else◌, ◌++◌, ◌<◌, ◌≡◌, [], IfOk, codes, nat_lt};
-ghost use Rattle.dialog_replies.specs.{Kept.IsDialogOf, Kept.IsSearchOf, Kept.said_in_dialog, Said.Said, Said.kept_on};
-ghost use Rattle.dialog_replies.specs.{Start.gives_replies_alone, Start.said_at_start, Texts.tree_text};
-ghost use Rattle.dialog_replies.specs.Prepared.{IsReply, outcome_with, text_of_reply};
+ghost use Rattle.dialog_replies.specs.{Kept.IsDialogOf, Kept.IsSearchOf, Kept.said_in_dialog, Prepared.IsReply};
+ghost use Rattle.dialog_replies.specs.{Prepared.outcome_with, Prepared.text_of_reply, Replies.trusts_named, Said.Said};
+ghost use Rattle.dialog_replies.specs.{Said.kept_on, Start.gives_replies_alone, Start.said_at_start, Texts.tree_text};
 ghost use Rattle.dialog_replies.specs.Replies.{card_or_none, carry_line, carry_or_none, carry_text, command_outcome};
-ghost use Rattle.dialog_replies.specs.Replies.{judges_as_kept, judges_asked, judges_same, no_call, opening_of};
-ghost use Rattle.dialog_replies.specs.Replies.{state_or_none, trace_or_none, trusts_named};
+ghost use Rattle.dialog_replies.specs.Replies.{judges_as_kept, judges_asked, judges_same, no_call, no_output};
+ghost use Rattle.dialog_replies.specs.Replies.{opening_of, slices_by, slices_output, state_or_none, trace_or_none};
 ghost use Rattle.dialog_replies.specs.Subject.{calls_recorded, routine_named, state_after};
 
 use crate::calls::{routine_named, write_number};
-use crate::changes::{judge, note, refused, take_back, take_back_last, text_of, text_reply, trust};
+use crate::changes::{
+    judge, leave_out, note, refused, take_back, take_back_last, text_of, text_reply, trust,
+};
 use crate::debugged::Debugged;
 use crate::dialogs::Dialog;
 use crate::fit::gives_replies_alone;
@@ -18,6 +20,7 @@ use crate::marks::marks_now;
 use crate::questions::kept_reply;
 use crate::reply::Reply;
 use crate::reports::{report_now, state_now};
+use crate::slices::SliceOf;
 use crate::start::Start;
 use answer_book::{BookFault, Judgement};
 use edge_ports::{Bytes, Memory};
@@ -208,6 +211,61 @@ fn state_of<D: Debugged>(
     }
 }
 
+/// The reply where a name is that of no output of a call.
+fn no_output(alloc: Global, name: &[u8]) -> Result<Bytes, Memory>
+    ensures { IfOk result (λ text. text ≡ no_output name.now) }
+{
+    let mut text = Bytes::new(alloc);
+    text.append(b"no output ")?;
+    text.append(name)?;
+    text.append(b"\n")?;
+    Ok(text)
+}
+
+/// Judges a call wrong by its output of this name, and leaves out of the search what had no part in that.
+fn slice_in<D: Debugged>(
+    alloc: Global,
+    run: &D,
+    dialog: &mut Dialog,
+    call: u32,
+    name: &[u8],
+) -> Result<Reply<D::Card, D::Opened, D::Trace>, Memory>
+    requires call { call < calls_recorded (D.subject run.now) }
+    requires dialog { IsDialogOf (D.subject run.now) dialog.old }
+    ensures sliced { IfOk result (λ reply. outcome_with (D.subject run.now) (said_in_dialog dialog.new) reply
+        ≡ slices_by (D.subject run.now) (said_in_dialog dialog.old) call name.now
+        ((D.subject run.now).slice call name.now)) }
+    ensures prepared { IfOk result (IsReply (D.prepared run.now) (calls_recorded (D.subject run.now))) }
+    ensures dialog { IsDialogOf (D.subject run.now) dialog.new }
+{
+    match run.prepare_slice(alloc, call, name)? {
+        SliceOf::Slice(slice) => leave_out(alloc, run, dialog, call, &slice),
+        SliceOf::NoOutput => Ok(Reply::Text(no_output(alloc, name)?)),
+        SliceOf::TooMany => text_reply(alloc, b"too many to compare\n"),
+    }
+}
+
+/// The same, where there is a call of this number.
+fn slice_of<D: Debugged>(
+    alloc: Global,
+    run: &D,
+    dialog: &mut Dialog,
+    call: u32,
+    name: &[u8],
+) -> Result<Reply<D::Card, D::Opened, D::Trace>, Memory>
+    requires dialog { IsDialogOf (D.subject run.now) dialog.old }
+    ensures sliced { IfOk result (λ reply. outcome_with (D.subject run.now) (said_in_dialog dialog.new) reply
+        ≡ slices_output (D.subject run.now) (said_in_dialog dialog.old) call name.now) }
+    ensures prepared { IfOk result (IsReply (D.prepared run.now) (calls_recorded (D.subject run.now))) }
+    ensures dialog { IsDialogOf (D.subject run.now) dialog.new }
+{
+    if call < run.calls().len() {
+        slice_in(alloc, run, dialog, call, name)
+    } else {
+        refused(alloc, BookFault::NoCall(call))
+    }
+}
+
 /// A line of a call, these words and another call.
 fn carry_line(alloc: Global, words: &[u8], call: u32, onto: u32) -> Result<Bytes, Memory>
     ensures { IfOk result (λ text. text ≡ carry_line words.now call onto) }
@@ -313,6 +371,7 @@ pub fn answer<D: Debugged>(
         DialogCommand::Show(call) => card_of(alloc, run, call),
         DialogCommand::State(call, name) => state_of(alloc, run, call, name.bytes()),
         DialogCommand::Trace(call) => trace_of(alloc, run, call),
+        DialogCommand::Slice(call, name) => slice_of(alloc, run, dialog, call, name.bytes()),
         DialogCommand::Carry(call, onto) => carry_of(alloc, run, call, onto),
         DialogCommand::Tree => tree_of(alloc, run, &dialog.debug),
         DialogCommand::Other => text_reply(alloc, b"not understood\n"),

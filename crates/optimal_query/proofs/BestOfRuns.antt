@@ -1,8 +1,9 @@
 -- The best of one run, and of one run after another.
-use Rattle.std.proofs.Common.{◌+◌, ◌-◌, ◌<◌, ◌∙◌, ◌≡◌, ◌≢◌, ◌≤◌, ◌⊎◌, ℕ, All, Bool, List, None, Option, Some, ap, arith, cond, drop, false, inl, inr, length}
-use Rattle.std.proofs.Common.{length-drop, max, nat_lt, refl, slice_index, subst, sym, take, true}
-use Rattle.std.proofs.lemmas.{Bool.cases_order, Bool.ltb-false, Bool.ltb-true, List.get_or-drop, List.get_or-take, List.length-take-le}
-use Rattle.weight_lanes.specs.{Places.IsSet, Places.left_at, declared.choice.Choice.Choice}
+use Rattle.std.proofs.Common.{◌+◌, ◌-◌, ◌<◌, ◌∙◌, ◌≡◌, ◌≢◌, ◌≤◌, ◌⊎◌, ℕ, All, Bool, List, None, Option, Some, ap, arith, cond, drop, eq-eqb, eqb, false, inl}
+use Rattle.std.proofs.Common.{inr, length, length-drop, max, nat_lt, refl, slice_index, subst, sym, take, true}
+use Rattle.std.proofs.lemmas.Bool.{cases_eq, cases_order, eqb-true, ltb-false, ltb-true}
+use Rattle.std.proofs.lemmas.List.{get_or-drop, get_or-take, length-take-le}
+use Rattle.weight_lanes.specs.{Places.IsSet, Places.IsWeightlessParent, Places.left_at, declared.choice.Choice.Choice}
 use Rattle.optimal_query.specs.Runs.{Field, IsBestAmong, IsBestFrom, IsField, MayBeAsked, better_of}
 
 pub cases_lt : (k b : ℕ) → (k < b) ⊎ (b ≤ k)
@@ -114,85 +115,155 @@ seen_none field is = record {
   best_is = λ k h i p. let l : ⊥ = omega arith in l;
 }
 
--- a run of calls that weigh something
+-- a run of calls, of which none that weighs nothing has calls below it
 pub record IsRun (field : Field) (from to : ℕ) : Type 0 where
   pub order : from ≤ to
   pub inside : to ≤ field.end
-  pub run : (call : ℕ) → from ≤ call → call < to → slice_index field.weights call ≢ 0
+  pub run : (call : ℕ) → from ≤ call → call < to → slice_index field.weights call ≡ 0 → slice_index field.last call ≡ call
 
 -- in a run what nothing is said of is open
-open_in_run : (field : Field) (from to call : ℕ) (best : Option Choice) → Seen field from best → IsRun field from to → from ≤ call → call < to
-    → slice_index field.askable call ≢ 0 → MayBeAsked field call
-open_in_run field from to call best seen run h i unsaid = record {
+open_in_run : (field : Field) (from to call : ℕ) (best : Option Choice) → IsField field → Seen field from best → IsRun field from to → from ≤ call
+    → call < to → slice_index field.askable call ≢ 0 → MayBeAsked field call
+open_in_run field from to call best is seen run h i unsaid = record {
   unsaid = unsaid;
   free = λ above s below zero. elim (cases_lt above from) [
     | inl before ↦ let l : slice_index field.last above < from = seen.ended above s before zero in omega arith
-    | inr after ↦ absurd (run.run above after (omega arith) zero)
+    | inr after ↦ elim (cases_lt above call) [
+      | inl earlier ↦ let itself : slice_index field.last above ≡ above = run.run above after (omega arith) zero in omega arith
+      | inr here ↦
+          let same : above ≡ call = omega arith in
+          let weighs : 1 ≤ slice_index field.weights above =
+          is.weigh above s (omega (arith, run.inside)) (λ e. unsaid (ap (slice_index field.askable) (sym same) ∙ e)) in
+          absurd (let l : ⊥ = omega arith in l)
+    ]
   ];
 }
 
-pub run_at_least_one : (field : Field) (from to : ℕ) → IsRun field from to → (call : ℕ) → from ≤ call → call < to
-    → slice_index field.askable call ≢ 0 → 1 ≤ slice_index field.weights call
-run_at_least_one field from to run call h i unsaid = let n : slice_index field.weights call ≢ 0 = run.run call h i in omega arith
+pub run_at_least_one : (field : Field) (from to : ℕ) (best : Option Choice) → IsField field → Seen field from best → IsRun field from to
+    → (call : ℕ) → from ≤ call → call < to → slice_index field.askable call ≢ 0 → 1 ≤ slice_index field.weights call
+run_at_least_one field from to best is seen run call h i unsaid =
+    let start : field.start ≤ from = seen.start in
+    let end : to ≤ field.end = run.inside in
+    is.weigh call (omega arith) (omega arith) unsaid
 
 pub run_at_most_total : (field : Field) (from to : ℕ) (best : Option Choice) → IsField field → Seen field from best → IsRun field from to
     → (call : ℕ) → from ≤ call → call < to → slice_index field.askable call ≢ 0 → slice_index field.weights call ≤ field.total
 run_at_most_total field from to best is seen run call h i unsaid =
     let start : field.start ≤ from = seen.start in
     let end : to ≤ field.end = run.inside in
-    is.few call (omega arith) (omega arith) (open_in_run field from to call best seen run h i unsaid)
+    is.few call (omega arith) (omega arith) (open_in_run field from to call best is seen run h i unsaid)
 
-run_seen : (field : Field) (from to : ℕ) (best next : Option Choice) → Seen field from best → IsRun field from to
+-- with one run more
+pub seen_run : (field : Field) (from to : ℕ) (best next : Option Choice) → IsField field → Seen field from best → IsRun field from to
     → IsBestAmong (λ call. slice_index field.askable call ≢ 0) (left_at field.weights field.total) from to next
-    → IsBestAmong (MayBeAsked field) (left_at field.weights field.total) field.start to (better_of best next)
-run_seen field from to best next seen run is =
-    joined (MayBeAsked field) (left_at field.weights field.total) field.start from to best next seen.start run.order seen.best_is
-    (alike (λ call. slice_index field.askable call ≢ 0) (MayBeAsked field) (left_at field.weights field.total) from to next
-    (λ k h i unsaid. open_in_run field from to k best seen run h i unsaid) (λ k h i free. free.unsaid) is)
-
--- the run goes on to the end
-pub seen_to_end : (field : Field) (from to : ℕ) (best next : Option Choice) → IsField field → Seen field from best → IsRun field from to → field.end ≤ to
-    → IsBestAmong (λ call. slice_index field.askable call ≢ 0) (left_at field.weights field.total) from to next
-    → Seen field field.end (better_of best next)
-seen_to_end field from to best next is seen run over among =
-    let inside : to ≤ field.end = run.inside in
-    let same : to ≡ field.end = omega arith in
-    let P : ℕ → Type 0 = λ n. IsBestAmong (MayBeAsked field) (left_at field.weights field.total) field.start n (better_of best next) in
-    record {
-      start = is.order;
-      end = omega arith;
-      ended = λ above s h zero. is.within above s h;
-      best_is = subst P same (run_seen field from to best next seen run among);
-    }
-
--- or up to a call that weighs nothing, whose subtree is left out
-pub seen_past : (field : Field) (from to : ℕ) (best next : Option Choice) → IsField field → Seen field from best → IsRun field from to → to < field.end
-    → slice_index field.weights to ≡ 0
-    → IsBestAmong (λ call. slice_index field.askable call ≢ 0) (left_at field.weights field.total) from to next
-    → Seen field (slice_index field.last to + 1) (better_of best next)
-seen_past field from to best next is seen run inside zero among =
+    → Seen field to (better_of best next)
+seen_run field from to best next is seen run among =
     let start : field.start ≤ from = seen.start in
     let order : from ≤ to = run.order in
+    record {
+      start = omega arith;
+      end = run.inside;
+      ended = λ above s h zero. elim (cases_lt above from) [
+        | inl before ↦ let l : slice_index field.last above < from = seen.ended above s before zero in omega arith
+        | inr after ↦ let itself : slice_index field.last above ≡ above = run.run above after h zero in omega arith
+      ];
+      best_is =
+          joined (MayBeAsked field) (left_at field.weights field.total) field.start from to best next start order seen.best_is
+          (alike (λ call. slice_index field.askable call ≢ 0) (MayBeAsked field) (left_at field.weights field.total) from to next
+          (λ k h i unsaid. open_in_run field from to k best is seen run h i unsaid) (λ k h i free. free.unsaid) among);
+    }
+
+-- the subtree of a call that weighs nothing is left out
+seen_past : (field : Field) (from : ℕ) (best : Option Choice) → IsField field → Seen field from best → from < field.end
+    → slice_index field.weights from ≡ 0 → Seen field (slice_index field.last from + 1) best
+seen_past field from best is seen inside zero =
+    let start : field.start ≤ from = seen.start in
     let end : field.end ≤ length field.last = is.inside in
-    let itself : to ≤ slice_index field.last to = is.from_itself to (omega arith) in
-    let within : slice_index field.last to < field.end = is.within to (omega arith) inside in
+    let itself : from ≤ slice_index field.last from = is.from_itself from (omega arith) in
+    let within : slice_index field.last from < field.end = is.within from start inside in
     record {
       start = omega arith;
       end = omega arith;
       ended = λ above s h nothing. elim (cases_lt above from) [
         | inl before ↦ let l : slice_index field.last above < from = seen.ended above s before nothing in omega arith
-        | inr after ↦ elim (cases_lt above to) [
-          | inl in_run ↦ absurd (run.run above after in_run nothing)
-          | inr past ↦ let l : slice_index field.last above ≤ slice_index field.last to = is.nested to above past (omega arith) in omega arith
-        ]
+        | inr after ↦ let l : slice_index field.last above ≤ slice_index field.last from = is.nested from above after (omega arith) in omega arith
       ];
       best_is =
-          let none : IsBestAmong (MayBeAsked field) (left_at field.weights field.total) to (slice_index field.last to + 1) None =
-          λ k h i free. let l : slice_index field.last to < k = free.free to (omega arith) h zero in omega arith in
-          let all = joined (MayBeAsked field) (left_at field.weights field.total) field.start to (slice_index field.last to + 1) (better_of best next) None
-          (omega arith) (omega arith) (run_seen field from to best next seen run among) none in
-          kept (MayBeAsked field) (left_at field.weights field.total) field.start (slice_index field.last to + 1) (better_of best next) all;
+          let none : IsBestAmong (MayBeAsked field) (left_at field.weights field.total) from (slice_index field.last from + 1) None =
+          λ k h i free. let l : slice_index field.last from < k = free.free from start h zero in omega arith in
+          let all = joined (MayBeAsked field) (left_at field.weights field.total) field.start from (slice_index field.last from + 1) best None
+          start (omega arith) seen.best_is none in
+          kept (MayBeAsked field) (left_at field.weights field.total) field.start (slice_index field.last from + 1) best all;
     }
+
+-- a call alone is a run, if it weighs something
+pub run_of_one : (field : Field) (from : ℕ) → from < field.end → slice_index field.weights from ≢ 0 → IsRun field from (from + 1)
+run_of_one field from inside weighs = record {
+  order = omega arith;
+  inside = omega arith;
+  run = λ call h i zero. let same : from ≡ call = omega arith in absurd (weighs (ap (slice_index field.weights) same ∙ zero));
+}
+
+weightless_is_no_choice : (field : Field) (from : ℕ) (next : Option Choice) → IsField field → field.start ≤ from → from < field.end
+    → slice_index field.weights from ≡ 0
+    → IsBestAmong (λ call. slice_index field.askable call ≢ 0) (left_at field.weights field.total) from (from + 1) next → next ≡ None
+weightless_is_no_choice field from None is start inside zero among = refl
+weightless_is_no_choice field from (Some choice) is start inside zero among =
+    let low : from ≤ choice.at = among.from_here in
+    let high : choice.at < from + 1 = among.inside in
+    let same : from ≡ choice.at = omega arith in
+    let weighs : 1 ≤ slice_index field.weights choice.at = is.weigh choice.at (omega arith) (omega arith) among.holds in
+    absurd (let l : ⊥ = omega (arith, ap (slice_index field.weights) same) in l)
+
+left_as_it_is : (best next : Option Choice) → next ≡ None → better_of best next ≡ best
+left_as_it_is None next e = e
+left_as_it_is (Some x) next e = ap (better_of (Some x)) e
+
+-- with one call more, or where it weighs nothing one subtree
+pub seen_one : (field : Field) (from : ℕ) (best next : Option Choice) → IsField field → Seen field from best → from < field.end
+    → IsBestAmong (λ call. slice_index field.askable call ≢ 0) (left_at field.weights field.total) from (from + 1) next
+    → (nothing : Bool) → eqb (slice_index field.weights from) 0 ≡ nothing
+    → Seen field (cond nothing (slice_index field.last from + 1) (from + 1)) (better_of best next)
+seen_one field from best next is seen inside among true e =
+    let zero = eqb-true (slice_index field.weights from) 0 e in
+    let none = weightless_is_no_choice field from next is seen.start inside zero among in
+    subst (Seen field (slice_index field.last from + 1)) (sym (left_as_it_is best next none)) (seen_past field from best is seen inside zero)
+seen_one field from best next is seen inside among false e =
+    seen_run field from (from + 1) best next is seen
+    (run_of_one field from inside (λ zero. let t : eqb (slice_index field.weights from) 0 ≡ true = eq-eqb (slice_index field.weights from) 0 zero in cc)) among
+
+-- a call at which the search stands, and that nothing is said of, is a run alone
+pub run_of_unsaid : (field : Field) (from : ℕ) (best : Option Choice) → IsField field → Seen field from best → from < field.end
+    → slice_index field.askable from ≢ 0 → IsRun field from (from + 1)
+run_of_unsaid field from best is seen inside unsaid =
+    run_of_one field from inside (λ zero. let weighs = is.weigh from seen.start inside unsaid in let l : ⊥ = omega arith in l)
+
+-- one call is the best of itself alone
+pub best_alone : (weights askable : List ℕ) (total call left : ℕ) → slice_index askable call ≢ 0 → left ≡ left_at weights total call
+    → IsBestFrom (λ other. slice_index askable other ≢ 0) (left_at weights total) call (call + 1) (record { left = left; at = call })
+best_alone weights askable total call left unsaid is = record {
+  from_here = omega arith;
+  inside = omega arith;
+  holds = unsaid;
+  left_is = is;
+  least = λ k h i p. let same : call ≡ k = omega arith in omega (arith, is, ap (left_at weights total) same);
+  first = λ k h i p. absurd (let l : ⊥ = omega arith in l);
+}
+
+pub none_alone : (askable : List ℕ) (call : ℕ) → slice_index askable call ≡ 0 → (k : ℕ) → call ≤ k → k < call + 1 → ¬ (slice_index askable k ≢ 0)
+none_alone askable call zero k h i unsaid = let same : k ≡ call = omega arith in unsaid (ap (slice_index askable) same ∙ zero)
+
+-- where no call is found from `from` on that weighs nothing and has calls below it
+pub none_below : (weights last : List ℕ) (end call : ℕ) → call < end → end ≤ length weights
+    → ¬ IsWeightlessParent (take end weights) (take end last) call → slice_index weights call ≡ 0 → slice_index last call ≡ call
+none_below weights last end call before inside absent zero = elim (cases_eq (slice_index last call) call) [
+  | inl same ↦ same
+  | inr differs ↦ absurd (absent (record {
+    inside = omega (arith, length-take-le end weights inside);
+    weightless = get_or-take end weights call 0 before ∙ zero;
+    parent = λ e. differs (sym (get_or-take end last call 0 before) ∙ e);
+  }))
+]
 
 -- a column from one place to another
 abbrev pub part_of : List ℕ → ℕ → ℕ → List ℕ
@@ -263,14 +334,3 @@ pub none_in_part : (weights askable : List ℕ) (from to : ℕ) → Between weig
 none_in_part weights askable from to between none call h i unsaid =
     let set = set_at weights askable from to call between h i unsaid in
     set.nonzero (none (call - from) 0 set.inside)
-
--- where the next run begins
-pub next_seen : (field : Field) (from to : ℕ) (best next : Option Choice) → IsField field → Seen field from best → IsRun field from to
-    → (to < field.end → slice_index field.weights to ≡ 0)
-    → IsBestAmong (λ call. slice_index field.askable call ≢ 0) (left_at field.weights field.total) from to next
-    → (before : Bool) → nat_lt to field.end ≡ before → Seen field (cond before (slice_index field.last to + 1) field.end) (better_of best next)
-next_seen field from to best next is seen run zero among true before =
-    let inside = ltb-true to field.end before in
-    seen_past field from to best next is seen run inside (zero inside) among
-next_seen field from to best next is seen run zero among false before =
-    seen_to_end field from to best next is seen run (ltb-false to field.end before) among

@@ -110,7 +110,7 @@ made_within number from (Made m what ∷ acts) h is = elim (cases_eq m number) [
       omega arith
 ]
 
-as_many : (t : ℕ → Bool) (acts : List CommandAct) → length (entries_by t acts) ≡ number_made acts
+pub as_many : (t : ℕ → Bool) (acts : List CommandAct) → length (entries_by t acts) ≡ number_made acts
 as_many t [] = refl
 as_many t (Made m what ∷ acts) = ap (λ (n : ℕ). suc n) (as_many t acts)
 as_many t (TookBack m ∷ acts) = as_many t acts
@@ -182,7 +182,7 @@ pub record Follow (acts : List CommandAct) (entries : List Entry) : Type 0 where
   pub numbered : AreNumbered 1 acts
   pub none_later : (number : ℕ) → number_made acts < number → is_taken_back acts number ≡ false
 
-follow_made : (acts : List CommandAct) (entries : List Entry) (what : What) → Follow acts entries
+pub follow_made : (acts : List CommandAct) (entries : List Entry) (what : What) → Follow acts entries
     → Follow (acts ++ Made (number_made acts + 1) what ∷ []) (entries_with entries what)
 follow_made acts entries what before =
     let number : ℕ = number_made acts + 1 in

@@ -33,6 +33,13 @@ clear_weighs_nothing Wrong under h = absurd (let l : ⊥ = cc in l)
 clear_weighs_nothing Unknown under h = absurd (let l : ⊥ = cc in l)
 clear_weighs_nothing Trusted under h = refl
 
+unjudged_weighs : (mark : Mark) (under : ℕ) → is_unjudged mark ≡ true → 1 ≤ weight_by mark under
+unjudged_weighs Unjudged under h = omega arith
+unjudged_weighs Right under h = absurd (let l : ⊥ = cc in l)
+unjudged_weighs Wrong under h = absurd (let l : ⊥ = cc in l)
+unjudged_weighs Unknown under h = absurd (let l : ⊥ = cc in l)
+unjudged_weighs Trusted under h = absurd (let l : ⊥ = cc in l)
+
 counted : (last : List ℕ) (marks : List Mark) (top : Option ℕ)
     → suspects_below last marks top ≡ length (filter (is_marked is_unjudged last marks top) (numbers_below (length last)))
 unfolding suspects_below
@@ -175,6 +182,10 @@ is_field parent last marks accused total m is =
       from_itself = nested.intervals.from_itself;
       within = λ call from to. ends_inside last accused call nested (omega arith) from to;
       nested = nested.nested;
+      weigh = λ call from to unsaid.
+          let inside : call < length last = omega arith in
+          let unjudged = unjudged_of_flag (mark_at marks call) (λ e. unsaid (flag_at marks call (omega (arith, m.each)) ∙ e)) in
+          omega (arith, weight_at last marks call inside, unjudged_weighs (mark_at marks call) (under_of last marks call) unjudged);
       few = λ call from to free.
           let inside : call < length last = omega arith in
           omega (arith, d.weight_is call inside (d.suspected call from to free), at_most_all last (suspects_of last marks accused) call, d.total_is);

@@ -1,5 +1,6 @@
 -- The calls that may be asked about, from one number up to another, and the best of them. Runs of such calls stand
--- between the subtrees in which no suspect stands, which are those of the calls that weigh nothing.
+-- between the subtrees in which no suspect stands, which are those of the calls that weigh nothing and have calls below
+-- them.
 use Rattle.std.specs.Prelude.{if◌then◌else◌, ◌<◌, ◌≡◌, ◌≢◌, ◌≤◌, ℕ, List, None, Option, Some, length, nat_lt}
 use Rattle.std.specs.Prelude.{slice_index}
 use Rattle.weight_lanes.specs.declared.choice.Choice.{Choice}
@@ -24,8 +25,8 @@ pub record MayBeAsked (field : Field) (call : ℕ) : Type 0 where
   pub free : (above : ℕ) → field.start ≤ above → above ≤ call → slice_index field.weights above ≡ 0
       → slice_index field.last above < call
 
--- the subtrees from the start to the end are intervals there, one within another or apart, and none of the calls that
--- are open weighs more than all suspects
+-- the subtrees from the start to the end are intervals there, one within another or apart; a call that nothing is said
+-- of weighs something, and none that is open weighs more than all suspects
 pub record IsField (field : Field) : Type 0 where
   pub weighed : length field.weights ≡ length field.last
   pub flagged : length field.askable ≡ length field.last
@@ -35,6 +36,8 @@ pub record IsField (field : Field) : Type 0 where
   pub within : (call : ℕ) → field.start ≤ call → call < field.end → slice_index field.last call < field.end
   pub nested : (above call : ℕ) → above ≤ call → call ≤ slice_index field.last above
       → slice_index field.last call ≤ slice_index field.last above
+  pub weigh : (call : ℕ) → field.start ≤ call → call < field.end → slice_index field.askable call ≢ 0
+      → 1 ≤ slice_index field.weights call
   pub few : (call : ℕ) → field.start ≤ call → call < field.end → MayBeAsked field call
       → slice_index field.weights call ≤ field.total
 

@@ -1,10 +1,14 @@
-//! The question, found run by run: the kernel `best` looks at each run of calls between the subtrees
-//! in which no suspect stands.
-ghost use Rattle.std.specs.Prelude.{if◌then◌else◌, ◌+◌, ◌<◌, ◌≡◌, ◌≢◌, ◌≤◌, ℕ, length, nat_lt, slice_index};
+//! The question, found run by run: the kernel `best` looks at each long run of calls between the
+//! subtrees in which no suspect stands. Where runs are short, the calls are looked at one by one, which
+//! is then as fast.
+ghost use Rattle.std.specs.Prelude.{if◌then◌else◌, ◌+◌, ◌<◌, ◌==◌, ◌≡◌, ◌≢◌, ◌≤◌, ℕ, length, slice_index};
 ghost use Rattle.weight_lanes.specs.Places.{left_at};
 ghost use Rattle.optimal_query.specs.Runs.{IsBestAmong, IsField, MayBeAsked, better_of, field_of};
 
-use weight_lanes::{Choice, best, next_of};
+use weight_lanes::{Choice, best, left_after, next_weightless_parent};
+
+/// From how many calls on a run is worth the kernels.
+const LONG: usize = 64;
 
 /// The choice that leaves fewer; of equals the one that came first.
 fn better(best: Option<Choice>, next: Option<Choice>) -> Option<Choice>
@@ -44,31 +48,52 @@ fn best_between(
     }
 }
 
-/// Where the run ends that begins at `from`: at the next call that weighs nothing, or at the end.
-fn run_end(weights: &[u32], from: usize, end: usize) -> usize
+/// The call as a choice, where nothing is said of it.
+fn choice_at(weights: &[u32], askable: &[u8], total: u32, call: usize) -> Option<Choice>
+    requires a_call { call < length weights.now }
+    requires same_length { length askable.now ≡ length weights.now }
+    requires at_least_one { slice_index askable.now call ≢ 0 → 1 ≤ slice_index weights.now call }
+    requires at_most_total { slice_index askable.now call ≢ 0 → slice_index weights.now call ≤ total }
+    ensures { IsBestAmong (λ other. slice_index askable.now other ≢ 0) (left_at weights.now total)
+        call (call + 1) result }
+{
+    if askable[call] == 0 {
+        return None;
+    }
+    let left = left_after(weights[call], total);
+    Some(Choice { left, at: call })
+}
+
+/// Where the run ends that begins at `from`: at the next call that weighs nothing and has calls below
+/// it, or at the end.
+fn run_end(last: &[u32], weights: &[u32], from: usize, end: usize) -> usize
     requires order { from ≤ end }
     requires inside { end ≤ length weights.now }
+    requires same_length { length weights.now ≡ length last.now }
     ensures order { from ≤ result }
     ensures inside { result ≤ end }
-    ensures run { (call : ℕ) → from ≤ call → call < result → slice_index weights.now call ≢ 0 }
-    ensures ends { result < end → slice_index weights.now result ≡ 0 }
+    ensures run { (call : ℕ) → from ≤ call → call < result → slice_index weights.now call ≡ 0 →
+        slice_index last.now call ≡ call }
 {
-    match next_of(weights, from, 0) {
-        Some(call) if call < end => call,
-        _ => end,
+    match next_weightless_parent(&weights[..end], &last[..end], from) {
+        Some(call) => call,
+        None => end,
     }
 }
 
-/// The call after the subtree of a call, or the end.
-fn after_subtree(last: &[u32], call: usize, end: usize) -> usize
-    requires inside { end ≤ length last.now }
-    requires within { call < end → slice_index last.now call < end }
-    ensures { result ≡ (if nat_lt call end then slice_index last.now call + 1 else end) }
+/// The next call, or where this one weighs nothing the one after its subtree.
+fn next_place(last: &[u32], weights: &[u32], call: usize) -> usize
+    requires a_call { call < length last.now }
+    requires same_length { length weights.now ≡ length last.now }
+    requires from_itself { call ≤ slice_index last.now call }
+    ensures place { result ≡
+        (if slice_index weights.now call == 0 then slice_index last.now call + 1 else call + 1) }
+    ensures later { call < result }
 {
-    if call < end {
+    if weights[call] == 0 {
         last[call] as usize + 1
     } else {
-        end
+        call + 1
     }
 }
 
@@ -88,10 +113,20 @@ pub(crate) fn best_of_runs(
 {
     let mut best = None;
     let mut from = start;
-    'runs: while from < end {
-        let to = run_end(weights, from, end);
-        best = better(best, best_between(weights, askable, total, from, to));
-        from = after_subtree(last, to, end);
+    // Up to here the calls are looked at one by one, since the last run was short.
+    let mut alone = start;
+    'calls: while from < end {
+        if alone <= from {
+            let to = run_end(last, weights, from, end);
+            if LONG <= to - from {
+                best = better(best, best_between(weights, askable, total, from, to));
+                from = to;
+                continue 'calls;
+            }
+            alone = from + LONG;
+        }
+        best = better(best, choice_at(weights, askable, total, from));
+        from = next_place(last, weights, from);
     }
     best
 }

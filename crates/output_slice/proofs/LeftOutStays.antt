@@ -296,11 +296,15 @@ sliced_is (x ∷ xs) y e = ap (λ (y : ℕ × Output). y.0) (some_same e)
 -- all of them were judged
 pub all_judged : (old now : Search) (rows : List Row) (pairs : List (ℕ × Output)) (call m first last : ℕ) → sliced_call pairs ≡ call
     → m ≡ slice_index (lasts_of rows) call - call → first ≡ length old.book.entries + 1 → WereJudged old now (parents_of rows) pairs call m last
+    → length old.book.entries + 1 + length (left_out_below old rows pairs call) ≤ 100000
     → AnswersLeftOut old (sliced_call pairs) (left_out_below old rows pairs (sliced_call pairs)) now (Ok (first, last))
-all_judged old now rows pairs call m first last s e f w =
+all_judged old now rows pairs call m first last s e f w room =
     subst (λ n. AnswersLeftOut old n (left_out_below old rows pairs n) now (Ok (first, last))) (sym s)
-    (subst (λ m. AnswersLeftOut old call (left_out old (parents_of rows) pairs call m) now (Ok (first, last))) e
-    (w.search, λ i. (f i, w.number i)))
+    (subst (λ m. AnswersLeftOut old call (left_out old (parents_of rows) pairs call m) now (Ok (first, last))) e (
+      w.search,
+      (λ i. (f i, w.number i)),
+      subst (λ n. length old.book.entries + 1 + length (left_out old (parents_of rows) pairs call n) ≤ 100000) (sym e) room,
+    ))
 
 pub all_steps : (old : Search) (rows : List Row) (pairs : List (ℕ × Output)) (call m before after : ℕ) → sliced_call pairs ≡ call
     → m ≡ slice_index (lasts_of rows) call - call → after ≤ before + steps_on old call + steps_on_all old (left_out old (parents_of rows) pairs call m)

@@ -1,5 +1,5 @@
 -- Which calls are judged right since a wrong output does not come from them, and that a buggy call is left after that.
-use Rattle.std.specs.Prelude.{◌&&◌, ◌+◌, ◌-◌, ◌<◌, ◌∷◌, ◌≡◌, [], ℕ, Bool, Err, List, Ok, Option, Result as Outcome}
+use Rattle.std.specs.Prelude.{◌&&◌, ◌+◌, ◌-◌, ◌<◌, ◌∷◌, ◌≡◌, ◌≤◌, [], ℕ, Bool, Err, List, Ok, Option, Result as Outcome}
 use Rattle.std.specs.Prelude.{Some, false, length, not, slice_index, sum_by}
 use Rattle.std.specs.List.{filter, range_with_len, slice_get}
 use Rattle.core_program.specs.{ProgramRows.ProgramRows, Run.Call, Run.Result, Run.run, State.State}
@@ -48,6 +48,7 @@ judged_right search (call ∷ calls) = judged_right (search_with search (Judged 
 abbrev pub AnswersLeftOut : Search → (call : ℕ) → List ℕ → Search → Outcome (ℕ × ℕ) BookFault → Type 0
 AnswersLeftOut old call calls new (Ok numbers) = (new ≡ judged_right (search_with old (Judged call Wrong)) calls)
     × (numbers ≡ (length old.book.entries + 1, length old.book.entries + 1 + length calls))
+    × (length old.book.entries + 1 + length calls ≤ 100000)
 AnswersLeftOut old call calls new (Err Full) = (100000 < length old.book.entries + 1 + length calls) × (new ≡ old)
 AnswersLeftOut old call calls new (Err fault) = ⊥
 

@@ -17,5 +17,5 @@ mod used;
 pub use laws::{outputs_are_kept, slices_are_lists, wrong_outputs_narrow};
 pub use left_out::leave_out;
 pub use outputs::Output;
-pub use slices::{SliceFault, slice};
+pub use slices::{SliceFault, has_output, slice};
 pub use slicing::Slicing;

@@ -76,6 +76,30 @@ fn has_it(alloc: Global, run: &History, call: u32, output: Output) -> Result<boo
     Ok(is_among(row, &effect, output))
 }
 
+/// Whether a call of the run has an output. The run is that of the program with an input of at most 4,194,304 bytes and
+/// a budget of at most 4,000,000 steps.
+pub fn has_output(
+    alloc: Global,
+    program: &Program,
+    run: &History,
+    call: u32,
+    output: Output,
+) -> Result<bool, Memory>
+    requires run { (input : List ℕ) × (length input ≤ most_bytes)
+        × IsOfRun program.now input run.now.budget run.now }
+    requires budget { run.now.budget ≤ 4000000 }
+    requires a_call { call < length run.now.calls.calls }
+    ensures { IfOk result (λ has. (input : List ℕ) → length input ≤ most_bytes
+        → IsOfRun program.now input run.now.budget run.now
+        → (r : meaning.Result State meaning.Call) → meaning.run program.now input run.now.budget ≡ Some r
+        → (e : Marked meaning.Call) → slice_get r.events call ≡ Some e → has ≡ has_output e.event output) }
+{
+    // What is kept of a run is that of one.
+    program.is_whole();
+    let has = has_it(alloc, run, call, output)?;
+    Ok(has)
+}
+
 /// The touches of a call and of each call below it, taken together.
 fn touches_of_all(run: &History, call: u32) -> u64
     requires kept { IsKept run.now }

@@ -1,5 +1,7 @@
 mod CardsWhole
 mod CellsInTurn
+mod FoundInOrder
 mod FramesOutward
 mod LinesInTurn
+mod NamesWhole
 mod StatesWhole

@@ -2,9 +2,10 @@
 use Rattle.std.proofs.Common.{◌++◌, ◌∙◌, ◌≡◌, ◌≤◌, [], ℕ, Bool, List, None, Option, Some, ap, false, length, refl, slice_get, sym}
 use Rattle.std.proofs.lemmas.Option.{slice_get_past}
 use Rattle.call_tree.specs.{Recording.routines_of, declared.records.Call.Call}
-use Rattle.cell_names.specs.{Finding.Finding, Finding.finding_of, Names.Scene, Places.finds, declared.places.PlacedPart.PlacedPart}
+use Rattle.cell_names.specs.{Finding.Finding, Finding.finding_of, Names.Scene, Names.root_at, Names.root_text, Places.finds}
+use Rattle.cell_names.specs.declared.{names.Root.Root, places.PlacedPart.PlacedPart}
 use Rattle.question_text.proofs.{CardsWhole.scene_by, CellsInTurn.no_cell_no_lines, CellsInTurn.none_of_two}
-use Rattle.question_text.specs.{Cards.Recorded, Cards.scene_of, Frames.opened_from}
+use Rattle.question_text.specs.{Cards.Recorded, Cards.scene_of, CellNames.cell_name, CellNames.name_in, Frames.opened_from}
 use Rattle.question_text.specs.States.{has_cell, has_cell_by, is_between, lines_between, lines_by, state_text}
 
 pub no_state : (r : Recorded) (k : ℕ) (name : List ℕ) → length r.calls ≤ k → state_text r k name ≡ []
@@ -30,6 +31,13 @@ module _ (r : Recorded) (k : ℕ) (finding : Finding) (routines : List ℕ) (ope
   unfolding state_text
   state_is call name out new g found written =
       written ∙ ap (λ s. out ++ lines_by s name (Some call)) (scene_is g) ∙ ap (λ c. out ++ lines_by (scene_of r k) name c) (sym found)
+
+  pub name_is : (address : ℕ) (root : Option Root) (out new : List ℕ) → IsSceneOf r k finding routines opened
+      → root ≡ root_at (scene_by r finding routines opened) address
+      → new ≡ out ++ root_text (scene_by r finding routines opened) None address root → new ≡ out ++ cell_name r k address
+  unfolding cell_name
+  name_is address root out new g is written =
+      written ∙ ap (λ o. out ++ root_text (scene_by r finding routines opened) None address o) is ∙ ap (λ s. out ++ name_in s address) (scene_is g)
 
   pub has_cell_is : (call : Call) (name : List ℕ) (some : Bool) → IsSceneOf r k finding routines opened → slice_get r.calls k ≡ Some call
       → some ≡ has_cell_by (scene_by r finding routines opened) name (Some call) → some ≡ has_cell r k name

@@ -1,4 +1,5 @@
 pub mod Cards
+pub mod CellNames
 pub mod Cells
 pub mod Frames
 pub mod Lines

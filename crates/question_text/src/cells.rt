@@ -18,7 +18,7 @@ use effect_log::{Changes, Reads};
 
 /// Prints the name of what has an address, or of the first variable of a wanted type on the way down to it. What has
 /// no name is told by its address.
-fn write_name<P: Printer>(
+pub(crate) fn write_root_name<P: Printer>(
     out: &mut P,
     scene: &Scene,
     wanted: Option<u32>,
@@ -39,7 +39,7 @@ fn write_name<P: Printer>(
 fn write_variable<P: Printer>(out: &mut P, scene: &Scene, of: u32, address: u32)
     ensures { Prints (P.printout out.old) (P.printout out.new) (variable_name (scene_in scene.now) of address) }
 {
-    write_name(out, scene, Some(of), address, root_at(scene, address));
+    write_root_name(out, scene, Some(of), address, root_at(scene, address));
 }
 
 /// Prints the variable that a variable parameter of a type stands for.
@@ -185,11 +185,11 @@ fn write_seen<P: Printer>(out: &mut P, scene: &Scene, address: u32, root: Option
         }
         Seen::There => {
             out.print(b"finds ");
-            write_name(out, scene, None, address, root);
+            write_root_name(out, scene, None, address, root);
         }
         Seen::Absent => {
             out.print(b"misses ");
-            write_name(out, scene, None, address, root);
+            write_root_name(out, scene, None, address, root);
         }
     }
 }
@@ -233,7 +233,7 @@ fn write_change<P: Printer>(
         }
         Change::Gone => {
             out.print(b"changes ");
-            write_name(out, scene, None, address, root);
+            write_root_name(out, scene, None, address, root);
             out.print(b" gone");
         }
     }

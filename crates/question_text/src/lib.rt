@@ -6,7 +6,9 @@
 
 mod cards;
 mod cells;
+mod copied;
 mod lines;
+mod names;
 mod opened;
 mod prepared;
 mod states;
@@ -15,6 +17,7 @@ mod trees;
 mod ways_out;
 
 pub use cards::{write_call, write_question};
+pub use names::{cell_named, write_name};
 pub use opened::opened_calls;
 pub use prepared::{CardParts, Recorded, card_parts};
 pub use states::write_state;

@@ -1,6 +1,6 @@
 -- What tables that statements leave as they are say of constants and types.
-use Rattle.std.proofs.Common.{◌++◌, ◌+◌, ◌-◌, ◌<◌, ◌∙◌, ◌∷◌, ◌≡◌, ◌≤◌, ◌⊎◌, [], ℕ, Bool, List, None, Option, Some, ap, arith, inl, inr, length, refl, slice_get}
-use Rattle.std.proofs.Common.{suc, sym, unwrap_or, zero}
+use Rattle.std.proofs.Common.{◌++◌, ◌+◌, ◌-◌, ◌<◌, ◌∙◌, ◌∷◌, ◌≡◌, ◌≤◌, ◌⊎◌, [], ℕ, List, None, Option, Some, ap, arith, inl, inr, length, refl, slice_get, suc}
+use Rattle.std.proofs.Common.{sym, unwrap_or, zero}
 use Rattle.std.proofs.lemmas.{List.append-nil, List.append_assoc, List.length-append, Option.none-some}
 use Rattle.grammar.specs.Nodes.{Node}
 use Rattle.pas_tree.specs.declared.constants.Constant.{Constant}
@@ -10,18 +10,30 @@ use Rattle.check_steps.specs.Known.{Known, find, find_from, found_in, found_with
 use Rattle.check_steps.specs.declared.{regions.Found.Found, regions.Frame.Frame, words.Spelled.Spelled, words.SpelledToken.SpelledToken}
 use Rattle.kind_checker.specs.Constants.{integer_in, text_value, value_in, value_of}
 use Rattle.kind_checker.specs.declared.constants.ConstantValue.{ConstantValue}
-use Rattle.rule_laws.proofs.{Every.Of, Faces.said, Touches.Longer, Touches.Same}
+use Rattle.rule_laws.proofs.{Every.Of, Faces.Shown, Faces.said, Touches.Longer, Touches.Same}
 use Rattle.rule_laws.specs.{CaseConstants.stands_for, CaseConstants.with_sign_of, CaseLaws.IsFree, Tokens.Has}
+
+-- what a row says of a type or a constant
+abbrev pub denoted : Row → Row
+denoted (Row.Name (NameRow.Routine assigned number region)) = Row.Nothing
+denoted r = said r
+
+denoted_said : (r : Row) → denoted (said r) ≡ denoted r
+denoted_said (Row.Type t) = refl
+denoted_said (Row.Name (NameRow.Constant of' v)) = refl
+denoted_said (Row.Name (NameRow.Text token)) = refl
+denoted_said (Row.Name (NameRow.Routine assigned number region)) = refl
+denoted_said r = refl
 
 pub record Alike (k j : Known) : Type 0 where
   pub words : j.words ≡ k.words
   pub texts : j.program.texts ≡ k.program.texts
   pub regions : j.regions ≡ k.regions
   pub frames : Longer k.frames j.frames
-  pub sayings : (n : ℕ) → said (row_at j n) ≡ said (row_at k n)
+  pub sayings : (n : ℕ) → denoted (row_at j n) ≡ denoted (row_at k n)
 
 abbrev pub IsUntold : Known → Node → Type 0
-IsUntold k part = (n : ℕ) → Has part n ⊎ (n ≡ length k.words - 1) → said (row_at k n) ≡ Row.Nothing
+IsUntold k part = (n : ℕ) → Has part n ⊎ (n ≡ length k.words - 1) → denoted (row_at k n) ≡ Row.Nothing
 
 pub alike_self : (k : Known) → Alike k k
 alike_self k = record {
@@ -38,7 +50,7 @@ longer_then xs ys zs a b = record {
   is = b.is ∙ ap (λ (l : List Frame). l ++ b.more) a.is ∙ append_assoc xs a.more b.more;
 }
 
-pub alike_after : {Q : ℕ → Type 0} {strict : Bool} (part : Node) (k j i : Known) → IsUntold k part → ((n : ℕ) → Of Q n → Has part n) → Alike k j
+pub alike_after : {Q : ℕ → Type 0} {strict : Shown} (part : Node) (k j i : Known) → IsUntold k part → ((n : ℕ) → Of Q n → Has part n) → Alike k j
     → Same Q strict j i → Alike k i
 alike_after part k j i untold inside a s = record {
   words = s.words ∙ a.words;
@@ -46,44 +58,54 @@ alike_after part k j i untold inside a s = record {
   regions = s.regions ∙ a.regions;
   frames = longer_then k.frames j.frames i.frames a.frames s.frames;
   sayings = λ n. elim (s.sayings n) [
-    | inl p ↦ p.1 ∙ sym (untold n (elim p.0 [
+    | inl p ↦ sym (denoted_said (row_at i n)) ∙ ap denoted p.1 ∙ sym (untold n (elim p.0 [
       | inl q ↦ inl (inside n q)
       | inr e ↦ inr (e ∙ ap (λ (ws : List SpelledToken). length ws - 1) a.words)
     ]))
-    | inr e ↦ e ∙ a.sayings n
+    | inr e ↦ sym (denoted_said (row_at i n)) ∙ ap denoted e ∙ denoted_said (row_at j n) ∙ a.sayings n
   ];
 }
 
 -- ---- rows
 
 -- where neither a type nor a constant stands
-pub nothing_said : (r : Row) → type_in r ≡ None → value_in r ≡ None → said r ≡ Row.Nothing
+pub nothing_said : (r : Row) → type_in r ≡ None → value_in r ≡ None → denoted r ≡ Row.Nothing
 nothing_said (Row.Type t) type value = absurd (none-some t (sym type))
 nothing_said (Row.Name (NameRow.Constant of' v)) type value = absurd (none-some (ConstantValue.Ordinal of' v) (sym value))
 nothing_said (Row.Name (NameRow.Text token)) type value = absurd (none-some (ConstantValue.Text token) (sym value))
+nothing_said (Row.Name (NameRow.Routine assigned number region)) type value = refl
 nothing_said r type value = refl
 
 pub nothing_told : (k : Known) (part : Node) → ((n : ℕ) → Has part n ⊎ (n ≡ length k.words - 1) → IsFree k n) → IsUntold k part
 nothing_told k part free n h = let f = free n h in nothing_said (row_at k n) f.type f.value
 
-value_said : (r : Row) → value_in (said r) ≡ value_in r
-value_said (Row.Name (NameRow.Constant of' v)) = refl
-value_said (Row.Name (NameRow.Text token)) = refl
-value_said r = refl
+value_denoted : (r : Row) → value_in (denoted r) ≡ value_in r
+value_denoted (Row.Name (NameRow.Constant of' v)) = refl
+value_denoted (Row.Name (NameRow.Text token)) = refl
+value_denoted (Row.Name (NameRow.Routine assigned number region)) = refl
+value_denoted r = refl
+
+type_denoted : (r : Row) → type_in (denoted r) ≡ type_in r
+type_denoted (Row.Type t) = refl
+type_denoted (Row.Name (NameRow.Constant of' v)) = refl
+type_denoted (Row.Name (NameRow.Text token)) = refl
+type_denoted (Row.Name (NameRow.Routine assigned number region)) = refl
+type_denoted r = refl
 
 pub type_said : (r : Row) → type_in (said r) ≡ type_in r
 type_said (Row.Type t) = refl
 type_said (Row.Name (NameRow.Constant of' v)) = refl
 type_said (Row.Name (NameRow.Text token)) = refl
+type_said (Row.Name (NameRow.Routine assigned number region)) = refl
 type_said r = refl
 
 pub type_still : (k j : Known) → Alike k j → (n : ℕ) → type_at j n ≡ type_at k n
-type_still k j a n = sym (type_said (row_at j n)) ∙ ap type_in (a.sayings n) ∙ type_said (row_at k n)
+type_still k j a n = sym (type_denoted (row_at j n)) ∙ ap type_in (a.sayings n) ∙ type_denoted (row_at k n)
 
 value_still : (k j : Known) → Alike k j → (o : Option Found) → value_of j o ≡ value_of k o
 value_still k j a None = refl
 value_still k j a (Some f) =
-    let n = f.definition.token in sym (value_said (row_at j n)) ∙ ap value_in (a.sayings n) ∙ value_said (row_at k n)
+    let n = f.definition.token in sym (value_denoted (row_at j n)) ∙ ap value_in (a.sayings n) ∙ value_denoted (row_at k n)
 
 -- ---- frames
 

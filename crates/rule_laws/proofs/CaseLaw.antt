@@ -1,5 +1,5 @@
 -- Which constants of a case statement break rule 22.
-use Rattle.std.proofs.Common.{◌++◌, ◌<◌, ◌↔◌, ◌∙◌, ◌∷◌, ◌≡◌, ◌⊎◌, [], ℕ, All, Contains, List, Option, ap, false, inl, inr, length, map, refl, subst, sym}
+use Rattle.std.proofs.Common.{◌++◌, ◌<◌, ◌↔◌, ◌∙◌, ◌∷◌, ◌≡◌, ◌⊎◌, [], ℕ, All, Contains, List, Option, ap, inl, inr, length, map, refl, subst, sym}
 use Rattle.grammar.specs.Nodes.{Leaf, Node, Nothing, Pair, leaf, row}
 use Rattle.grammar.specs.declared.terminals.Terminal.TheVariants as terminal
 use Rattle.pas_tree.specs.{Constants.constant_node, Constants.constants_node, Constants.next_constant_node, DenoterPlaces.first_of_constant}
@@ -12,7 +12,7 @@ use Rattle.check_steps.specs.Steps.{◌>>=◌, Step, ask, give, look}
 use Rattle.denoter_checker.specs.{Variants.choices, declared.variants.Choosing.Choosing}
 use Rattle.statement_checker.specs.{Choices.case_row, Choices.selector, Parts.selected}
 use Rattle.statement_checker.specs.Statements.{case_statement, label_token, labelled_by, more_branches, plain}
-use Rattle.rule_laws.proofs.{Alike.alike_after, Alike.alike_self, Alike.nothing_told, Every.Every, Every.Of, Once.every_has, Once.every_other}
+use Rattle.rule_laws.proofs.{Alike.alike_after, Alike.alike_self, Alike.nothing_told, Every.Every, Every.Of, Faces.loose, Once.every_has, Once.every_other}
 use Rattle.rule_laws.proofs.{StatementChoices.case_row-touches, StatementParts.selected-touches, TokenPlaces.first_of_constant-in}
 use Rattle.rule_laws.proofs.Breaks.{In, contained, found, in_either, in_right}
 use Rattle.rule_laws.proofs.CaseTurns.{Beyond, IsPlace, Place, Turn, choices_tell, not_told, quiet_beyond, rule_of}
@@ -159,7 +159,7 @@ rest_tells p is list label word row' of' constants inner s others end word-in of
     (plain-touches p.c.frame (label_token inner) s s-in)))
     (λ n. goes_then (listed constants) (branch_constants others) (choices_tell p is list n of' of' constants of-in constants-in)
     (λ last. goes_calm (branch_constants others) (more_tell p is list last others end others-in clear)
-    (λ _. quiet_beyond p is (case_row-touches {strict = false} label word row' of' word-in))))
+    (λ _. quiet_beyond p is (case_row-touches {strict = loose} label word row' of' word-in))))
 
 looked_law : (k : Known) (frame : ℕ) (label : Option ℕ) (c : Case) (t : ℕ) → IsLookedAt k frame (of_word c) (case_node c) → Begins t (case_constants c)
     → let p = place_of k frame c t in let bs = (case_statement frame label c k).broken in
@@ -202,7 +202,7 @@ looked_law k frame label (CaseTree' word selector' of' constants colon inner s v
     (clear_all (λ n. n ≡ p.c.list → ⊥) others (last_semicolon_node semicolon)
     (off (branches_node others (last_semicolon_node semicolon)) (λ h. ds.1.1.2 of' refl (inr (inl h)))))
     clear_t in
-    let touched = selected-touches {Q = Beyond p} {strict = false} frame of' selector' (beyond p (expression_node selector') all.1.0
+    let touched = selected-touches {Q = Beyond p} {strict = loose} frame of' selector' (beyond p (expression_node selector') all.1.0
     (off (expression_node selector') (λ h. ds.1.2 of' h (inl refl)))
     (every_other (expression_node selector') t (λ h. ds.1.2 t h (inr stands)))) in
     let turn : Turn p [] d.known = record {
@@ -231,7 +231,7 @@ looked_law k frame label (CaseTree' word selector' of' constants colon inner s v
     let ends = tells.of [] d.known turn in
     let rest = steps frame d.known in (
       (λ i. elim (in_either (late_at 22 t) d.broken rest.broken i) [
-        | inl l ↦ absurd (not_told p false d.broken (touched.told k) l)
+        | inl l ↦ absurd (not_told p loose d.broken (touched.told k) l)
         | inr r ↦ ends.forth r
       ]),
       (λ w. in_right (late_at 22 t) d.broken rest.broken (ends.back w)),

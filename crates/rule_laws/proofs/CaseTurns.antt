@@ -1,6 +1,6 @@
 -- The constants of a list in turn, and what stands between them.
-use Rattle.std.proofs.Common.{◌++◌, ◌<◌, ◌∙◌, ◌∷◌, ◌≡◌, [], ℕ, Bool, List, None, Option, Some, ap, arith, false, inl, inr, length, map, nat_eq, refl, subst}
-use Rattle.std.proofs.Common.{sym, true}
+use Rattle.std.proofs.Common.{◌++◌, ◌<◌, ◌∙◌, ◌∷◌, ◌≡◌, [], ℕ, List, None, Option, Some, ap, arith, false, inl, inr, length, map, nat_eq, refl, subst, sym}
+use Rattle.std.proofs.Common.{true}
 use Rattle.grammar.specs.Nodes.{Node, row}
 use Rattle.pas_tree.specs.{Constants.constant_node, Constants.constants_node, Constants.next_constant_node, DenoterPlaces.first_of_constant}
 use Rattle.pas_tree.specs.declared.{constants.Constant.Constant, constants.Constants.Constants, constants.NextConstant.NextConstant, operators.Sign.Sign}
@@ -9,7 +9,7 @@ use Rattle.check_steps.specs.declared.breaks.{Break.Break, Broken.TheVariants.La
 use Rattle.kind_checker.specs.Constants.{constant_again, named_again, sign_again, signed_again}
 use Rattle.kind_checker.specs.declared.constants.ConstantValue.{ConstantValue}
 use Rattle.denoter_checker.specs.{Variants.case_constant, Variants.choices, Variants.next_choice, declared.variants.Choosing.Choosing}
-use Rattle.rule_laws.proofs.{DenoterVariants.case_constant-touches, Every.Every, Every.Of, Touches.Told, Touches.Touches}
+use Rattle.rule_laws.proofs.{DenoterVariants.case_constant-touches, Every.Every, Every.Of, Faces.Shown, Faces.marking, Touches.Told, Touches.Touches}
 use Rattle.rule_laws.proofs.Alike.{Alike, IsUntold, alike_after, stands_still}
 use Rattle.rule_laws.proofs.Breaks.{Each, In, in_either, in_right, of_each}
 use Rattle.rule_laws.proofs.Choices.{Chooses, Chosen, again_known, again_value, choosing_goes, choosing_step}
@@ -47,7 +47,7 @@ rule_of p = record {
 -- ---- steps that go over none
 
 -- what touches neither the list nor anything outside of the part
-pub quiet_of : {Q : ℕ → Type 0} {strict : Bool} (p : Place) → IsPlace p → {A : Type 0} {m : Step A} → Touches Q strict m
+pub quiet_of : {Q : ℕ → Type 0} {strict : Shown} (p : Place) → IsPlace p → {A : Type 0} {m : Step A} → Touches Q strict m
     → ((n : ℕ) → Of Q n → Has p.part n)
     → (Of Q p.c.list → ⊥) → ((j : Known) → In (late_at 22 p.t) (m j).broken → ⊥) → Calm (rule_of p) m
 quiet_of p is {m = m} touches inside off none = record {
@@ -66,7 +66,7 @@ pub record Beyond (p : Place) (n : ℕ) : Type 0 where
   pub off_list : n ≡ p.c.list → ⊥
   pub off_t : n ≡ p.t → ⊥
 
-pub not_told : (p : Place) (strict : Bool) (bs : List Break) → Each (Told (Beyond p) strict) bs → In (late_at 22 p.t) bs → ⊥
+pub not_told : (p : Place) (strict : Shown) (bs : List Break) → Each (Told (Beyond p) strict) bs → In (late_at 22 p.t) bs → ⊥
 not_told p strict bs e i =
     let told = of_each (Told (Beyond p) strict) (late_at 22 p.t) bs e i in
     elim told.at [
@@ -74,7 +74,7 @@ not_told p strict bs e i =
       | inr twenty ↦ absurd (omega (arith, twenty))
     ]
 
-pub quiet_beyond : (p : Place) → IsPlace p → {strict : Bool} {A : Type 0} {m : Step A} → Touches (Beyond p) strict m → Calm (rule_of p) m
+pub quiet_beyond : (p : Place) → IsPlace p → {strict : Shown} {A : Type 0} {m : Step A} → Touches (Beyond p) strict m → Calm (rule_of p) m
 quiet_beyond p is {strict = strict} {m = m} touches =
     quiet_of p is touches (λ n o. o.is.has) (λ o. o.is.off_list refl) (λ j. not_told p strict (m j).broken (touches.told j))
 
@@ -142,7 +142,7 @@ one_tells p is list chosen last slot x slot-in x-in = record {
       let s = choosing_step p.c chosen last slot (first_of_constant x) d.value in
       let g = rest_goes p is done x j d.known d.value chosen last slot turn.alike turn.chosen (again_known p.c.frame x j)
       (again_value p.c.frame x j ∙ ap (λ (m : Known). stands_for m p.c.frame x) (sym (again_known p.c.frame x j))) in
-      let t = case_constant-touches {Q = Has p.part} {strict = true} p.c chosen last slot x (record { is = list }) slot-in x-in in
+      let t = case_constant-touches {Q = Has p.part} {strict = marking} p.c chosen last slot x (record { is = list }) slot-in x-in in
       let alike = alike_after p.part p.k j (s d.known).known is.untold (λ n o. o.is) turn.alike (t.same j) in
       let whole : Chooses p.k p.c p.t done x (s d.known).known (d.broken ++ (s d.known).broken) = record {
         chosen = g.chosen;

@@ -1,17 +1,17 @@
 -- What the steps of `Rattle.expression_checker.specs.Names` touch.
-use Rattle.std.proofs.Common.{ℕ, Bool, refl}
+use Rattle.std.proofs.Common.{ℕ, refl}
 use Rattle.core_program.specs.declared.rows.Row.{Row}
 use Rattle.kind_checker.specs.declared.shapes.ExpressionType.{ExpressionType}
 use Rattle.expression_checker.specs.{Names.accessed_as, Names.is_variable, Names.meaning_of, Names.variable, Typed.unknown_at, declared.names.Meaning.Meaning}
-use Rattle.rule_laws.proofs.{CheckNames.use_again-touches, Every.Of}
+use Rattle.rule_laws.proofs.{CheckNames.use_again-touches, Every.Of, Faces.Shown}
 use Rattle.rule_laws.proofs.Touches.{Touches, bind-touches, give-touches, late-touches, look-touches, put-touches}
 
-pub accessed_as-touches : {Q : ℕ → Type 0} {strict : Bool} (name : ℕ) (m : Meaning) → Of Q name → Touches Q strict (accessed_as name m)
+pub accessed_as-touches : {Q : ℕ → Type 0} {strict : Shown} (name : ℕ) (m : Meaning) → Of Q name → Touches Q strict (accessed_as name m)
 accessed_as-touches name (Meaning.Variable r of' l) name-in = bind-touches (put-touches name (Row.Access r) name-in refl) (λ _.
     give-touches (record { row = name; of = ExpressionType.Of of'; location = l }))
 accessed_as-touches name m name-in = give-touches (unknown_at name)
 
-pub variable-touches : {Q : ℕ → Type 0} {strict : Bool} (frame : ℕ) (name : ℕ) → Of Q name → Touches Q strict (variable frame name)
+pub variable-touches : {Q : ℕ → Type 0} {strict : Shown} (frame : ℕ) (name : ℕ) → Of Q name → Touches Q strict (variable frame name)
 unfolding variable
 variable-touches frame name name-in = bind-touches (use_again-touches frame name name-in) (λ found. bind-touches (look-touches
     (λ k. meaning_of k frame found)) (λ m. bind-touches (late-touches 3 name (is_variable m) refl name-in) (λ _. accessed_as-touches name m name-in)))

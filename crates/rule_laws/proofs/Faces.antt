@@ -1,31 +1,50 @@
 -- What steps on other tokens leave of a row.
-use Rattle.std.proofs.Common.{◌&&◌, ◌∷◌, ◌≡◌, ◌⊎◌, [], ℕ, Bool, List, ap, false, inl, inr, refl, set, slice_get, suc, unwrap_or, zero}
+use Rattle.std.proofs.Common.{◌&&◌, ◌∙◌, ◌∷◌, ◌≡◌, ◌⊎◌, [], ℕ, Bool, List, ap, false, inl, inr, refl, set, slice_get, suc, sym, true, unwrap_or, zero}
 use Rattle.core_program.specs.declared.rows.{NameRow.NameRow, Row.Row}
 use Rattle.check_steps.specs.{Items.row_on, Known.Known, Known.row_at, Known.with_row}
 use Rattle.statement_checker.specs.{Assignments.with_value, Labels.marked_label, Labels.with_ways}
 
--- A row without what may change from afar: the ways to a label, whether a function is assigned, where an item's list goes
--- on; and, but where `strict`, whether a label marks a statement.
-abbrev pub face : Bool → Row → Row
-face strict (Row.Name (NameRow.Label marked value level ways)) = Row.Name (NameRow.Label (strict && marked) value level 0)
-face strict (Row.Name (NameRow.Routine assigned number region)) = Row.Name (NameRow.Routine false number region)
-face strict (Row.Item i) = Row.Nothing
-face strict r = r
+-- what steps leave as it is, where they do: no frame is opened, no label marked, no function assigned
+pub record Shown : Type 0 where
+  pub frames : Bool
+  pub marks : Bool
+  pub results : Bool
 
--- what a row says of a type or a constant
+-- none of it
+abbrev pub loose : Shown
+loose = record { frames = false; marks = false; results = false }
+
+-- frames and the marks of labels
+abbrev pub marking : Shown
+marking = record { frames = true; marks = true; results = false }
+
+-- frames and which functions are assigned
+abbrev pub assigning : Shown
+assigning = record { frames = true; marks = false; results = true }
+
+-- A row without what may change from afar: the ways to a label, where an item's list goes on; and, but where that is
+-- left as it is, whether a label marks a statement, and whether a function is assigned.
+abbrev pub face : Shown → Row → Row
+face s (Row.Name (NameRow.Label marked value level ways)) = Row.Name (NameRow.Label (s.marks && marked) value level 0)
+face s (Row.Name (NameRow.Routine assigned number region)) = Row.Name (NameRow.Routine (s.results && assigned) number region)
+face s (Row.Item i) = Row.Nothing
+face s r = r
+
+-- what a row says of a type, a constant, a procedure or a function
 abbrev pub said : Row → Row
 said (Row.Type t) = Row.Type t
 said (Row.Name (NameRow.Constant of' v)) = Row.Name (NameRow.Constant of' v)
 said (Row.Name (NameRow.Text token)) = Row.Name (NameRow.Text token)
+said (Row.Name (NameRow.Routine assigned number region)) = Row.Name (NameRow.Routine false number region)
 said r = Row.Nothing
 
 -- ---- changes that show nothing
 
-pub record Shows (strict : Bool) (g : Row → Row) : Type 0 where
+pub record Shows (strict : Shown) (g : Row → Row) : Type 0 where
   pub looks : (r : Row) → face strict (g r) ≡ face strict r
   pub says : (r : Row) → said (g r) ≡ said r
 
-ways_face : (strict : Bool) (r : Row) (n : ℕ) → face strict (with_ways r n) ≡ face strict r
+ways_face : (strict : Shown) (r : Row) (n : ℕ) → face strict (with_ways r n) ≡ face strict r
 ways_face strict (Row.Name (NameRow.Label marked value level ways)) n = refl
 ways_face strict r n = refl
 
@@ -33,10 +52,10 @@ ways_said : (r : Row) (n : ℕ) → said (with_ways r n) ≡ said r
 ways_said (Row.Name (NameRow.Label marked value level ways)) n = refl
 ways_said r n = refl
 
-pub ways_show : (strict : Bool) (f : Row → ℕ) → Shows strict (λ r. with_ways r (f r))
+pub ways_show : (strict : Shown) (f : Row → ℕ) → Shows strict (λ r. with_ways r (f r))
 ways_show strict f = record { looks = λ r. ways_face strict r (f r); says = λ r. ways_said r (f r) }
 
-on_face : (strict : Bool) (r : Row) (n : ℕ) → face strict (row_on r n) ≡ face strict r
+on_face : (strict : Shown) (r : Row) (n : ℕ) → face strict (row_on r n) ≡ face strict r
 on_face strict (Row.Item i) n = refl
 on_face strict r n = refl
 
@@ -44,30 +63,32 @@ on_said : (r : Row) (n : ℕ) → said (row_on r n) ≡ said r
 on_said (Row.Item i) n = refl
 on_said r n = refl
 
-pub on_show : (strict : Bool) (n : ℕ) → Shows strict (λ r. row_on r n)
+pub on_show : (strict : Shown) (n : ℕ) → Shows strict (λ r. row_on r n)
 on_show strict n = record { looks = λ r. on_face strict r n; says = λ r. on_said r n }
 
-value_face : (strict : Bool) (r : Row) → face strict (with_value r) ≡ face strict r
-value_face strict (Row.Name (NameRow.Routine assigned number region)) = refl
-value_face strict r = refl
+value_face : (strict : Shown) → strict.results ≡ false → (r : Row) → face strict (with_value r) ≡ face strict r
+value_face strict lax (Row.Name (NameRow.Routine assigned number region)) =
+    ap (λ b. Row.Name (NameRow.Routine (b && true) number region)) lax ∙ sym (ap (λ b. Row.Name (NameRow.Routine (b && assigned) number region)) lax)
+value_face strict lax r = refl
 
 value_said : (r : Row) → said (with_value r) ≡ said r
 value_said (Row.Name (NameRow.Routine assigned number region)) = refl
 value_said r = refl
 
-pub value_shows : (strict : Bool) → Shows strict with_value
-value_shows strict = record { looks = value_face strict; says = value_said }
+pub value_shows : (strict : Shown) → strict.results ≡ false → Shows strict with_value
+value_shows strict lax = record { looks = value_face strict lax; says = value_said }
 
-mark_face : (r : Row) → face false (marked_label r) ≡ face false r
-mark_face (Row.Name (NameRow.Label marked value level ways)) = refl
-mark_face r = refl
+mark_face : (strict : Shown) → strict.marks ≡ false → (r : Row) → face strict (marked_label r) ≡ face strict r
+mark_face strict lax (Row.Name (NameRow.Label marked value level ways)) =
+    ap (λ b. Row.Name (NameRow.Label (b && true) value level 0)) lax ∙ sym (ap (λ b. Row.Name (NameRow.Label (b && marked) value level 0)) lax)
+mark_face strict lax r = refl
 
 mark_said : (r : Row) → said (marked_label r) ≡ said r
 mark_said (Row.Name (NameRow.Label marked value level ways)) = refl
 mark_said r = refl
 
-pub mark_shows : Shows false marked_label
-mark_shows = record { looks = mark_face; says = mark_said }
+pub mark_shows : (strict : Shown) → strict.marks ≡ false → Shows strict marked_label
+mark_shows strict lax = record { looks = mark_face strict lax; says = mark_said }
 
 -- ---- one row put
 

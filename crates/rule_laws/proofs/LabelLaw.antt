@@ -1,5 +1,5 @@
 -- Which labels of a block's statements break rule 15.
-use Rattle.std.proofs.Common.{◌++◌, ◌∷◌, ◌≡◌, ◌⊎◌, [], ℕ, List, None, Option, Some, ap, inr, refl, subst, sym, true}
+use Rattle.std.proofs.Common.{◌++◌, ◌∷◌, ◌≡◌, ◌⊎◌, [], ℕ, List, None, Option, Some, ap, inr, refl, subst, sym}
 use Rattle.grammar.specs.Nodes.{Node}
 use Rattle.pas_tree.specs.{Denoters.last_semicolon_node, Statements.statements_node}
 use Rattle.pas_tree.specs.Statements.{branches_node, case_node, compound_node, else_node, if_node, label_node, more_statements_node, plain_node, repeat_node}
@@ -15,9 +15,9 @@ use Rattle.statement_checker.specs.{Labels.labelled, Labels.leave, Records.put_w
 use Rattle.statement_checker.specs.Statements.{branching, case_statement, compound, element, else_held, if_statement, label_token, labelled_by, more_branches}
 use Rattle.statement_checker.specs.Statements.{more_statements, plain, repeat_statement, sequence}
 use Rattle.statement_checker.specs.declared.{parts.Selected.Selected, sequences.Branching.Branching, sequences.Element.Element}
-use Rattle.rule_laws.proofs.{Breaks.contained, Breaks.found, DenoterVariants.choices-touches, Every.Every, Every.Of, Faces.face, LabelMarks.label_marks}
-use Rattle.rule_laws.proofs.{LabelRecords.with_marks, Once.every_has, StatementChoices.case_row-touches, StatementParts.selected-touches}
-use Rattle.rule_laws.proofs.{StatementRecords.put_with-touches, Touches.Touches, Touches.bind-touches, Touches.give-touches}
+use Rattle.rule_laws.proofs.{Breaks.contained, Breaks.found, DenoterVariants.choices-touches, Every.Every, Every.Of, Faces.face, Faces.marking}
+use Rattle.rule_laws.proofs.{LabelMarks.label_marks, LabelRecords.with_marks, Once.every_has, StatementChoices.case_row-touches}
+use Rattle.rule_laws.proofs.{StatementParts.selected-touches, StatementRecords.put_with-touches, Touches.Touches, Touches.bind-touches, Touches.give-touches}
 use Rattle.rule_laws.proofs.InTurn.{Goes, Wrong, calm_gives, calm_goes, calm_then, gives_calm, goes_calm, goes_then, one_wrong, wrong_one}
 use Rattle.rule_laws.proofs.LabelTurns.{Inside, IsSpot, Seen, Spot, Turn, calm_of, rule_of}
 use Rattle.rule_laws.proofs.StatementLabels.{jump-touches, labelled-touches, leave-touches, leave_all-touches, reach_all-touches, reach_label-touches}
@@ -31,7 +31,7 @@ use Rattle.rule_laws.specs.BlockLabels.{repeat_labels, sequence_labels}
 
 -- a statement that has a label is left
 left_behind : (p : Spot) (f : ℕ) (l : Label) (n : ℕ) → Every (Has p.part) (label_node (Some l))
-    → Touches (Has p.part) true (leave f l.number >>= λ _. labelled l.number n)
+    → Touches (Has p.part) marking (leave f l.number >>= λ _. labelled l.number n)
 left_behind p f l n inside = bind-touches (leave-touches f l.number) (λ _. labelled-touches l.number n inside.0)
 
 labelled_marks : (p : Spot) → IsSpot p → (S : ℕ → Type 0) (f : ℕ) → S f → (label : Option Label) (m : Step ℕ) (xs : List ℕ)
@@ -40,7 +40,7 @@ labelled_marks : (p : Spot) → IsSpot p → (S : ℕ → Type 0) (f : ℕ) → 
 labelled_marks p is S f f-in None m xs inside h = h
 labelled_marks p is S f f-in (Some l) m xs inside h =
     goes_then (l.number ∷ []) xs (label_marks p is S f l.number f-in)
-    (λ _. calm_then xs (calm_of p is S (reach_label-touches {strict = true} f l.number))
+    (λ _. calm_then xs (calm_of p is S (reach_label-touches {strict = marking} f l.number))
     (λ _. goes_calm xs h (λ n. calm_of p is S (left_behind p f l n inside))))
 
 -- the same between parts
@@ -48,7 +48,7 @@ mutual
   plain_marks : (p : Spot) → IsSpot p → (S : ℕ → Type 0) (f : ℕ) → S f → (label : Option ℕ) (s : Plain) → Every (Has p.part) (plain_node s)
       → Goes (rule_of p S) (labels_inside s) (plain f label s)
   plain_marks p is S f f-in label Empty inside = calm_goes (calm_of p is S empty-touches)
-  plain_marks p is S f f-in label (Assignment' a) inside = calm_goes (calm_of p is S (assignment-touches f label a.value inside))
+  plain_marks p is S f f-in label (Assignment' a) inside = calm_goes (calm_of p is S (assignment-touches refl f label a.value inside))
   plain_marks p is S f f-in label (Call name actuals) inside = calm_goes (calm_of p is S (call_statement-touches f label name actuals inside.0 inside.1))
   plain_marks p is S f f-in label (Goto word target) inside = calm_goes (calm_of p is S (jump-touches f label word target inside.0 inside.1))
   plain_marks p is S f f-in label (Compound' _ c) inside = compound_marks p is S f f-in c inside
@@ -170,7 +170,7 @@ begun_turn k frame c t begun = record {
   falls = begun.falls;
   rows = λ n h. refl;
   sayings = λ n. inr refl;
-  labels = λ v d e. ap (face true) (begun.own v d e).row;
+  labels = λ v d e. ap (face marking) (begun.own v d e).row;
 }
 
 pub label_law : BlocksTellLabels

@@ -7,23 +7,24 @@ use Rattle.check_steps.specs.{Regions.declared_in, declared.breaks.Break.Break, 
 use Rattle.check_steps.specs.Known.{Known, find_label, label_at, label_in, row_at, with_row}
 use Rattle.check_steps.specs.Steps.{◌>>=◌, ask, change, give, look}
 use Rattle.statement_checker.specs.Labels.{is_unmarked, label_of, levels_in, mark, marked_label, own_label, put_label, row_of}
-use Rattle.rule_laws.proofs.{Breaks.In, Faces.face, Faces.mark_shows, Faces.row_either, InTurn.Goes, LabelTurns.rule_of, Touches.any-last, Touches.same_changed}
+use Rattle.rule_laws.proofs.{Breaks.In, InTurn.Goes, LabelTurns.rule_of, Touches.any-last, Touches.same_changed}
+use Rattle.rule_laws.proofs.Faces.{Shown, face, loose, mark_shows, marking, row_either}
 use Rattle.rule_laws.proofs.LabelTurns.{Inside, IsSpot, Spot, Turn, beside, beside_on, inside_still, label_face, level_of, like_said, own_found, region_of}
 use Rattle.rule_laws.specs.{BlockLabels.marks, CaseLaws.late_at, LabelLaws.IsWrongLabel, Tokens.Has}
 
 -- ---- rows of labels
 
-pub record LabelRow (r : Row) (strict shown : Bool) (value level : ℕ) : Type 0 where
+pub record LabelRow (r : Row) (strict : Shown) (shown : Bool) (value level : ℕ) : Type 0 where
   pub marked : Bool
   pub ways : ℕ
   pub is : r ≡ Row.Name (NameRow.Label marked value level ways)
-  pub as_shown : (strict && marked) ≡ shown
+  pub as_shown : (strict.marks && marked) ≡ shown
 
-pub face_label : (strict : Bool) (r : Row) (b : Bool) (v l : ℕ) → face strict r ≡ label_face b v l → LabelRow r strict b v l
+pub face_label : (strict : Shown) (r : Row) (b : Bool) (v l : ℕ) → face strict r ≡ label_face b v l → LabelRow r strict b v l
 face_label strict (Row.Name (NameRow.Label marked value level ways)) b v l e =
     let a : value ≡ v = cc in
     let c : level ≡ l = cc in
-    let d : (strict && marked) ≡ b = cc in
+    let d : (strict.marks && marked) ≡ b = cc in
     record {
       marked = marked;
       ways = ways;
@@ -36,7 +37,7 @@ face_label strict (Row.Item i) b v l e = absurd cc
 face_label strict r b v l e = absurd cc
 
 -- a row that is put where a name stands
-got_put : (rows : List Row) (d : ℕ) (n : NameRow) (r : Row) → unwrap_or (slice_get rows d) Row.Nothing ≡ Row.Name n
+pub got_put : (rows : List Row) (d : ℕ) (n : NameRow) (r : Row) → unwrap_or (slice_get rows d) Row.Nothing ≡ Row.Name n
     → unwrap_or (slice_get (set rows d r) d) Row.Nothing ≡ r
 got_put [] d n r e = absurd cc
 got_put (x ∷ xs) zero n r e = refl
@@ -56,7 +57,7 @@ own_declared : (p : Spot) → IsSpot p → (done : List ℕ) (j : Known) (f x d 
 own_declared p is done j f x d t here e =
     let v = label_at p.k x in
     let l = level_of p in
-    let row = face_label true (row_at j d) (marks p.k done v) v l (t.labels v d e) in
+    let row = face_label marking (row_at j d) (marks p.k done v) v l (t.labels v d e) in
     let none : l - l ≡ 0 = omega arith in
     ap (λ (o : Option ℕ). if nat_eq (levels_in j f (row_of j o)) 0 then o else None) (labelled_at p done j f x t here ∙ own_found p is v d e)
     ∙ ap (λ (r : Row). if nat_eq (levels_in j f r) 0 then Some d else None) row.is
@@ -70,8 +71,8 @@ outer_own p is done j f x t here e None at = refl
 outer_own p is done j f x t here e (Some d) at =
     let v = label_at p.k x in
     let out = is.outer v d e at in
-    let faced : face false (row_at j d) ≡ label_face false out.value out.its_level = t.rows d (beside p is v d at) ∙ ap (face false) out.row in
-    let row = face_label false (row_at j d) false out.value out.its_level faced in
+    let faced : face loose (row_at j d) ≡ label_face false out.value out.its_level = t.rows d (beside p is v d at) ∙ ap (face loose) out.row in
+    let row = face_label loose (row_at j d) false out.value out.its_level faced in
     let less = out.further in
     let some : (level_of p - out.its_level ≡ 0) → ⊥ = λ z. omega (arith, less, z) in
     ap (λ (r : Row). if nat_eq (levels_in j f r) 0 then Some d else None) row.is
@@ -130,31 +131,31 @@ or_none false = refl
 labels_after : (p : Spot) → IsSpot p → (done : List ℕ) (x : ℕ) (j : Known) (d : ℕ) → Turn p done j
     → declared_in p.k.regions (region_of p) (label_at p.k x) ≡ Some d → (w c : ℕ) → declared_in p.k.regions (region_of p) w ≡ Some c
     → (b : Bool) → nat_eq (label_at p.k x) w ≡ b
-    → face true (row_at (with_row j d (marked_label (row_at j d))) c) ≡ label_face (marks p.k done w || b) w (level_of p)
+    → face marking (row_at (with_row j d (marked_label (row_at j d))) c) ≡ label_face (marks p.k done w || b) w (level_of p)
 labels_after p is done x j d t e w c f true same =
     let v = label_at p.k x in
     let l = level_of p in
     let eq : v ≡ w = eqb-true v w same in
-    let row = face_label true (row_at j d) (marks p.k done v) v l (t.labels v d e) in
+    let row = face_label marking (row_at j d) (marks p.k done v) v l (t.labels v d e) in
     let there : d ≡ c = same_Some d c (sym e ∙ ap (declared_in p.k.regions (region_of p)) eq ∙ f) in
     let put : row_at (with_row j d (marked_label (row_at j d))) d ≡ marked_label (row_at j d)
     = got_put j.program.rows d (NameRow.Label row.marked v l row.ways) (marked_label (row_at j d)) row.is in
-    ap (λ n. face true (row_at (with_row j d (marked_label (row_at j d))) n)) (sym there)
-    ∙ ap (face true) (put ∙ ap marked_label row.is)
+    ap (λ n. face marking (row_at (with_row j d (marked_label (row_at j d))) n)) (sym there)
+    ∙ ap (face marking) (put ∙ ap marked_label row.is)
     ∙ ap (λ n. label_face true n l) eq
     ∙ ap (λ m. label_face m w l) (sym (or_right (marks p.k done w)))
 labels_after p is done x j d t e w c f false other =
     let v = label_at p.k x in
     let l = level_of p in
-    let mine = face_label true (row_at j d) (marks p.k done v) v l (t.labels v d e) in
-    let its = face_label true (row_at j c) (marks p.k done w) w l (t.labels w c f) in
+    let mine = face_label marking (row_at j d) (marks p.k done v) v l (t.labels v d e) in
+    let its = face_label marking (row_at j c) (marks p.k done w) w l (t.labels w c f) in
     let apart : c ≡ d → ⊥ = λ same.
     let rows : Row.Name (NameRow.Label its.marked w l its.ways) ≡ Row.Name (NameRow.Label mine.marked v l mine.ways)
     = sym its.is ∙ ap (row_at j) same ∙ mine.is in
     let values : v ≡ w = cc in
     let never : true ≡ false = sym (eq-eqb v w values) ∙ other in cc in
     elim (row_either j d c (marked_label (row_at j d))) [
-      | inl old ↦ ap (face true) old ∙ t.labels w c f ∙ ap (λ m. label_face m w l) (sym (or_none (marks p.k done w)))
+      | inl old ↦ ap (face marking) old ∙ t.labels w c f ∙ ap (λ m. label_face m w l) (sym (or_none (marks p.k done w)))
       | inr q ↦ absurd (apart q.0)
     ]
 
@@ -168,8 +169,8 @@ unfolding change
 marked_declared p is done x j d t e =
     let v = label_at p.k x in
     let i = with_row j d (marked_label (row_at j d)) in
-    let s = same_changed {Q = Has p.part} {strict = false} j d marked_label mark_shows in
-    let row = face_label true (row_at j d) (marks p.k done v) v (level_of p) (t.labels v d e) in
+    let s = same_changed {Q = Has p.part} {strict = loose} j d marked_label (mark_shows loose refl) in
+    let row = face_label marking (row_at j d) (marks p.k done v) v (level_of p) (t.labels v d e) in
     let fine : is_unmarked (row_at j d) ≡ not (marks p.k done v) = ap is_unmarked row.is ∙ ap not row.as_shown in
     record {
       turn = record {

@@ -14,7 +14,7 @@ use Rattle.expression_checker.specs.{Expressions.access, Selectors.is_record, Se
 use Rattle.statement_checker.specs.{Parts.first_record, Parts.next_record, Records.inside_record, Sequences.add_element}
 use Rattle.statement_checker.specs.declared.{parts.Opened.Opened, sequences.Element.Element}
 use Rattle.rule_laws.proofs.{Alike.type_said, Breaks.In, Breaks.in_either, Breaks.in_right, Every.Every, Every.Of, ExpressionExpressions.access-touches}
-use Rattle.rule_laws.proofs.{InTurn.Goes, StatementSequences.add_element-touches, Touches.bind-touches, Touches.give-touches}
+use Rattle.rule_laws.proofs.{Faces.marking, InTurn.Goes, StatementSequences.add_element-touches, Touches.bind-touches, Touches.give-touches}
 use Rattle.rule_laws.proofs.LabelTurns.{Inside, IsSpot, Seen, Spot, Still, Turn, label_outermost, rule_of, still_of, wrong_in}
 use Rattle.rule_laws.proofs.StatementStatements.{first_opened, next_opened, record_opened}
 use Rattle.rule_laws.specs.{CaseLaws.late_at, Tokens.Has}
@@ -234,7 +234,7 @@ first_leads : (p : Spot) → IsSpot p → (done : List ℕ) (j : Known) (f word 
     → Every (Has p.part) (access_node a) → let d = first_record f word a j in Leads p done j d.known d.value.frame d.broken
 unfolding first_record ◌>>=◌ give
 first_leads p is done j f word a t here inside =
-    let calm = still_of p is (access-touches {strict = true} f a inside) in
+    let calm = still_of p is (access-touches {strict = marking} f a inside) in
     let v = access f a j in
     let d = inside_record f a.name v.value v.known in
     then_leads p done calm j d.known d.value (d.broken ++ []) t
@@ -249,11 +249,11 @@ next_leads : (p : Spot) → IsSpot p → (done : List ℕ) (j : Known) (o : Open
     → let d = next_record o n j in Leads p done j d.known d.value.frame d.broken
 unfolding next_record ◌>>=◌ give
 next_leads p is done j o n t here slot inside =
-    let calm = still_of p is (access-touches {strict = true} o.frame n.access inside.1) in
+    let calm = still_of p is (access-touches {strict = marking} o.frame n.access inside.1) in
     let v = access o.frame n.access j in
     let d = inside_record o.frame n.access.name v.value v.known in
     let added : Still p (add_element o.last n.comma v.value.row >>= λ last. give (opened d.value last)) =
-    still_of p is (bind-touches (add_element-touches {strict = true} o.last n.comma v.value.row slot) (λ last. give-touches (opened d.value last))) in
+    still_of p is (bind-touches (add_element-touches {strict = marking} o.last n.comma v.value.row slot) (λ last. give-touches (opened d.value last))) in
     let e = add_element o.last n.comma v.value.row d.known in
     then_leads p done calm j e.known d.value (d.broken ++ (e.broken ++ [])) t
     (leads_then p done added v.known d.known d.value d.broken

@@ -7,7 +7,8 @@ use Rattle.check_steps.specs.{Around.reach, Breaks.number, Frames.frame_in, Regi
 use Rattle.check_steps.specs.Known.{Known, find_label, find_label_from, frame_at, row_at, type_at}
 use Rattle.check_steps.specs.declared.{breaks.Break.Break, regions.Frame.Frame, words.SpelledToken.SpelledToken}
 use Rattle.decl_checker.specs.Statements.{fields_in}
-use Rattle.rule_laws.proofs.{Breaks.Each, Breaks.In, Breaks.of_each, Faces.face, Faces.said, InTurn.Calm, InTurn.Rule, InTurn.Wrong}
+use Rattle.rule_laws.proofs.{Breaks.Each, Breaks.In, Breaks.of_each, InTurn.Calm, InTurn.Rule, InTurn.Wrong}
+use Rattle.rule_laws.proofs.Faces.{Shown, face, loose, marking, said}
 use Rattle.rule_laws.proofs.Touches.{IsBeside, Same, Told, Touches}
 use Rattle.rule_laws.specs.{BlockLabels.marks, CaseLaws.late_at, LabelLaws.IsOuterLabel, LabelLaws.IsUnmarkedLabel, LabelLaws.IsWrongLabel, Tokens.Has}
 
@@ -48,9 +49,9 @@ pub record Turn (p : Spot) (done : List ℕ) (j : Known) : Type 0 where
   pub words : j.words ≡ p.k.words
   pub regions : j.regions ≡ p.k.regions
   pub falls : (f : ℕ) → reach (frame_in j.frames f).outer ≤ f
-  pub rows : (n : ℕ) → IsBeside (Has p.part) p.k n → face false (row_at j n) ≡ face false (row_at p.k n)
+  pub rows : (n : ℕ) → IsBeside (Has p.part) p.k n → face loose (row_at j n) ≡ face loose (row_at p.k n)
   pub sayings : (n : ℕ) → (said (row_at j n) ≡ Row.Nothing) ⊎ (said (row_at j n) ≡ said (row_at p.k n))
-  pub labels : (v d : ℕ) → declared_in p.k.regions (region_of p) v ≡ Some d → face true (row_at j d) ≡ label_face (marks p.k done v) v (level_of p)
+  pub labels : (v d : ℕ) → declared_in p.k.regions (region_of p) v ≡ Some d → face marking (row_at j d) ≡ label_face (marks p.k done v) v (level_of p)
 
 -- The same, with frames from which labels are found as from that of the block.
 pub record Seen (p : Spot) (S : ℕ → Type 0) (done : List ℕ) (j : Known) : Type 0 where
@@ -119,14 +120,14 @@ beside_on p j n words h = record { none = h.none; before_end = λ e. h.before_en
 
 -- ---- steps that go over none
 
-weaker : (r : Row) → face false (face true r) ≡ face false r
+weaker : (r : Row) → face loose (face marking r) ≡ face loose r
 weaker (Row.Name (NameRow.Label marked value level ways)) = refl
 weaker (Row.Name (NameRow.Routine assigned number region)) = refl
 weaker (Row.Item i) = refl
 weaker r = refl
 
 pub like_said : (p : Spot) (j i : Known) → ((n : ℕ) → (said (row_at j n) ≡ Row.Nothing) ⊎ (said (row_at j n) ≡ said (row_at p.k n)))
-    → {strict : Bool} → Same (Has p.part) strict j i → (n : ℕ) → (said (row_at i n) ≡ Row.Nothing) ⊎ (said (row_at i n) ≡ said (row_at p.k n))
+    → {strict : Shown} → Same (Has p.part) strict j i → (n : ℕ) → (said (row_at i n) ≡ Row.Nothing) ⊎ (said (row_at i n) ≡ said (row_at p.k n))
 like_said p j i before s n = elim (s.sayings n) [
   | inl q ↦ inl q.1
   | inr e ↦ elim (before n) [
@@ -135,31 +136,31 @@ like_said p j i before s n = elim (s.sayings n) [
   ]
 ]
 
-turn_after : (p : Spot) → IsSpot p → (done : List ℕ) (j i : Known) → Turn p done j → Same (Has p.part) true j i → Turn p done i
+turn_after : (p : Spot) → IsSpot p → (done : List ℕ) (j i : Known) → Turn p done j → Same (Has p.part) marking j i → Turn p done i
 turn_after p is done j i t s = record {
   words = s.words ∙ t.words;
   regions = s.regions ∙ t.regions;
   falls = λ f. subst (λ (fs : List Frame). reach (frame_in fs f).outer ≤ f) (sym (s.still refl)) (t.falls f);
   rows = λ n h.
       let e = s.rows n (beside_on p j n t.words h) in
-      sym (weaker (row_at i n)) ∙ ap (face false) e ∙ weaker (row_at j n) ∙ t.rows n h;
+      sym (weaker (row_at i n)) ∙ ap (face loose) e ∙ weaker (row_at j n) ∙ t.rows n h;
   sayings = like_said p j i t.sayings s;
   labels = λ v d e. s.rows d (beside_on p j d t.words (beside p is v d (own_found p is v d e))) ∙ t.labels v d e;
 }
 
-not_told : (p : Spot) (bs : List Break) → Each (Told (Has p.part) true) bs → In (late_at 15 p.t) bs → ⊥
+not_told : (p : Spot) (bs : List Break) → Each (Told (Has p.part) marking) bs → In (late_at 15 p.t) bs → ⊥
 not_told p bs e i =
-    let told = of_each (Told (Has p.part) true) (late_at 15 p.t) bs e i in
+    let told = of_each (Told (Has p.part) marking) (late_at 15 p.t) bs e i in
     let never : true ≡ false = told.quiet refl in cc
 
-pub still_of : (p : Spot) → IsSpot p → {A : Type 0} {m : Step A} → Touches (Has p.part) true m → Still p m
+pub still_of : (p : Spot) → IsSpot p → {A : Type 0} {m : Step A} → Touches (Has p.part) marking m → Still p m
 still_of p is {m = m} touches = record {
   turn = λ done j turn. turn_after p is done j (m j).known turn (touches.same j);
   inside = λ done j turn g here. inside_still p j (m j).known (touches.same j).regions ((touches.same j).still refl) g here;
   none = λ j. not_told p (m j).broken (touches.told j);
 }
 
-pub calm_of : (p : Spot) → IsSpot p → (S : ℕ → Type 0) → {A : Type 0} {m : Step A} → Touches (Has p.part) true m → Calm (rule_of p S) m
+pub calm_of : (p : Spot) → IsSpot p → (S : ℕ → Type 0) → {A : Type 0} {m : Step A} → Touches (Has p.part) marking m → Calm (rule_of p S) m
 calm_of p is S {m = m} touches = let still = still_of p is touches in record {
   turn = λ done j s. record { turn = still.turn done j s.turn; inside = λ g g-in. still.inside done j s.turn g (s.inside g g-in) };
   none = still.none;

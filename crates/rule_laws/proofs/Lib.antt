@@ -1,5 +1,5 @@
-pub mod Breaks
 pub mod Alike
+pub mod Breaks
 pub mod CaseLaw
 pub mod CaseTurns
 pub mod CheckItems
@@ -34,6 +34,10 @@ pub mod Once
 pub mod OneName
 pub mod PartLaw
 pub mod Parts
+pub mod ResultLaw
+pub mod ResultStatements
+pub mod ResultTargets
+pub mod ResultTurns
 pub mod RowsPut
 pub mod SecondHeadings
 pub mod StatementActuals

@@ -8,14 +8,15 @@ use Rattle.check_steps.specs.{Breaks.number, Steps.threaten, Steps.too_big, Step
 use Rattle.check_steps.specs.Known.{Known, and_choice, is_chosen, row_at, same_choice, with_row}
 use Rattle.check_steps.specs.Steps.{◌>>=◌, Step, add_chosen, ask, change, each, early, enter_block, extend, give, hold, late, look, open_frame, put, release}
 use Rattle.check_steps.specs.declared.breaks.{Break.Break, Broken.Broken, Broken.TheVariants.Early, Broken.TheVariants.Late, Broken.TheVariants.TooBig}
-use Rattle.rule_laws.proofs.{Breaks.Each, Breaks.both, Every.Every, Every.Of, Faces.Shows, Faces.face, Faces.row_either, Faces.said}
+use Rattle.rule_laws.proofs.{Breaks.Each, Breaks.both, Every.Every, Every.Of}
+use Rattle.rule_laws.proofs.Faces.{Shown, Shows, face, loose, row_either, said}
 
 -- ---- where rules are broken
 
 -- At one of these tokens, but for threats by routines; and where it is `strict` it is not rule 15.
-pub record Told (Q : ℕ → Type 0) (strict : Bool) (b : Break) : Type 0 where
+pub record Told (Q : ℕ → Type 0) (strict : Shown) (b : Break) : Type 0 where
   pub at : Of Q b.token ⊎ (number b.broken ≡ 20)
-  pub quiet : strict ≡ true → nat_eq (number b.broken) 15 ≡ false
+  pub quiet : strict.marks ≡ true → nat_eq (number b.broken) 15 ≡ false
 
 -- ---- what stays
 
@@ -32,18 +33,19 @@ pub record Longer (xs ys : List Frame) : Type 0 where
 abbrev pub Says : (Q : ℕ → Type 0) (k j : Known) → ℕ → Type 0
 Says Q k j n = ((Of Q n ⊎ (n ≡ length k.words - 1)) × (said (row_at j n) ≡ Row.Nothing)) ⊎ (said (row_at j n) ≡ said (row_at k n))
 
-pub record Same (Q : ℕ → Type 0) (strict : Bool) (k j : Known) : Type 0 where
+pub record Same (Q : ℕ → Type 0) (strict : Shown) (k j : Known) : Type 0 where
   pub words : j.words ≡ k.words
   pub texts : j.program.texts ≡ k.program.texts
+  pub routines : j.program.routines ≡ k.program.routines
   pub regions : j.regions ≡ k.regions
   pub many : length j.program.rows ≡ length k.program.rows
   pub frames : Longer k.frames j.frames
-  pub still : strict ≡ true → j.frames ≡ k.frames
+  pub still : strict.frames ≡ true → j.frames ≡ k.frames
   pub rows : (n : ℕ) → IsBeside Q k n → face strict (row_at j n) ≡ face strict (row_at k n)
   pub sayings : (n : ℕ) → Says Q k j n
   pub chosen : (list : ℕ) → (Of Q list → ⊥) → (v : ℤ) → is_chosen j list v ≡ is_chosen k list v
 
-pub record Touches (Q : ℕ → Type 0) (strict : Bool) {A : Type 0} (m : Step A) : Type 0 where
+pub record Touches (Q : ℕ → Type 0) (strict : Shown) {A : Type 0} (m : Step A) : Type 0 where
   pub same : (k : Known) → Same Q strict k (m k).known
   pub told : (k : Known) → Each (Told Q strict) (m k).broken
 
@@ -59,10 +61,11 @@ longer_still xs ys zs a b = record {
 }
 
 -- nothing but what none of it tells
-pub same_in : {Q : ℕ → Type 0} {strict : Bool} (k : Known) → Same Q strict k k
+pub same_in : {Q : ℕ → Type 0} {strict : Shown} (k : Known) → Same Q strict k k
 same_in k = record {
   words = refl;
   texts = refl;
+  routines = refl;
   regions = refl;
   many = refl;
   frames = no_longer k.frames;
@@ -72,7 +75,7 @@ same_in k = record {
   chosen = λ list h v. refl;
 }
 
-beside_after : {Q : ℕ → Type 0} {strict : Bool} (k j : Known) → Same Q strict k j → (n : ℕ) → IsBeside Q k n → IsBeside Q j n
+beside_after : {Q : ℕ → Type 0} {strict : Shown} (k j : Known) → Same Q strict k j → (n : ℕ) → IsBeside Q k n → IsBeside Q j n
 beside_after k j s n h = record { none = h.none; before_end = λ e. h.before_end (e ∙ ap (λ ws. length ws - 1) s.words) }
 
 said_then : {Q : ℕ → Type 0} (k j i : Known) (n : ℕ) → j.words ≡ k.words → Says Q k j n → Says Q j i n → Says Q k i n
@@ -86,10 +89,11 @@ said_then k j i n words a (inl b) = inl (
 said_then k j i n words (inl a) (inr b) = inl (a.0, b ∙ a.1)
 said_then k j i n words (inr a) (inr b) = inr (b ∙ a)
 
-pub same_then : {Q : ℕ → Type 0} {strict : Bool} (k j i : Known) → Same Q strict k j → Same Q strict j i → Same Q strict k i
+pub same_then : {Q : ℕ → Type 0} {strict : Shown} (k j i : Known) → Same Q strict k j → Same Q strict j i → Same Q strict k i
 same_then k j i a b = record {
   words = b.words ∙ a.words;
   texts = b.texts ∙ a.texts;
+  routines = b.routines ∙ a.routines;
   regions = b.regions ∙ a.regions;
   many = b.many ∙ a.many;
   frames = longer_still k.frames j.frames i.frames a.frames b.frames;
@@ -101,7 +105,7 @@ same_then k j i a b = record {
 
 -- ---- rows put
 
-put_face : (strict : Bool) (k : Known) (m n : ℕ) (r : Row) → (n ≡ m → face strict r ≡ face strict (row_at k n))
+put_face : (strict : Shown) (k : Known) (m n : ℕ) (r : Row) → (n ≡ m → face strict r ≡ face strict (row_at k n))
     → face strict (row_at (with_row k m r) n) ≡ face strict (row_at k n)
 put_face strict k m n r same = elim (row_either k m n r) [
   | inl e ↦ ap (face strict) e
@@ -121,10 +125,11 @@ changed_said k m n r same = elim (row_either k m n r) [
   | inr p ↦ inr (ap said p.1 ∙ same ∙ ap (λ x. said (row_at k x)) (sym p.0))
 ]
 
-same_put : {Q : ℕ → Type 0} {strict : Bool} (k : Known) (m : ℕ) (r : Row) → Of Q m → said r ≡ Row.Nothing → Same Q strict k (with_row k m r)
+same_put : {Q : ℕ → Type 0} {strict : Shown} (k : Known) (m : ℕ) (r : Row) → Of Q m → said r ≡ Row.Nothing → Same Q strict k (with_row k m r)
 same_put {Q = Q} {strict = strict} k m r here none = record {
   words = refl;
   texts = refl;
+  routines = refl;
   regions = refl;
   many = length-set k.program.rows m r;
   frames = no_longer k.frames;
@@ -135,10 +140,11 @@ same_put {Q = Q} {strict = strict} k m r here none = record {
 }
 
 -- the last token's row
-pub same_end : {Q : ℕ → Type 0} {strict : Bool} (k : Known) (r : Row) → said r ≡ Row.Nothing → Same Q strict k (with_row k (length k.words - 1) r)
+pub same_end : {Q : ℕ → Type 0} {strict : Shown} (k : Known) (r : Row) → said r ≡ Row.Nothing → Same Q strict k (with_row k (length k.words - 1) r)
 same_end {Q = Q} {strict = strict} k r none = let m = length k.words - 1 in record {
   words = refl;
   texts = refl;
+  routines = refl;
   regions = refl;
   many = length-set k.program.rows m r;
   frames = no_longer k.frames;
@@ -148,10 +154,11 @@ same_end {Q = Q} {strict = strict} k r none = let m = length k.words - 1 in reco
   chosen = λ list h v. refl;
 }
 
-pub same_changed : {Q : ℕ → Type 0} {strict : Bool} (k : Known) (m : ℕ) (g : Row → Row) → Shows strict g → Same Q strict k (with_row k m (g (row_at k m)))
+pub same_changed : {Q : ℕ → Type 0} {strict : Shown} (k : Known) (m : ℕ) (g : Row → Row) → Shows strict g → Same Q strict k (with_row k m (g (row_at k m)))
 same_changed {Q = Q} {strict = strict} k m g s = let r = g (row_at k m) in record {
   words = refl;
   texts = refl;
+  routines = refl;
   regions = refl;
   many = length-set k.program.rows m r;
   frames = no_longer k.frames;
@@ -191,10 +198,11 @@ pub other_chosen : (k : Known) (list' list : ℕ) (v' v : ℤ) → (list ≡ lis
 other_chosen k list' list v' v apart =
     unchosen k.choices (list, v) (list', v') (list_any (same_choice (list', v')) k.choices) (other_list (list, v) (list', v') apart)
 
-same_choices : {Q : ℕ → Type 0} {strict : Bool} (k : Known) (list : ℕ) (v : ℤ) → Of Q list → Same Q strict k (and_choice k list v)
+same_choices : {Q : ℕ → Type 0} {strict : Shown} (k : Known) (list : ℕ) (v : ℤ) → Of Q list → Same Q strict k (and_choice k list v)
 same_choices {Q = Q} k list v here = record {
   words = refl;
   texts = refl;
+  routines = refl;
   regions = refl;
   many = refl;
   frames = no_longer k.frames;
@@ -206,7 +214,7 @@ same_choices {Q = Q} k list v here = record {
 
 -- ---- steps
 
-pub bind-touches : {Q : ℕ → Type 0} {strict : Bool} {A B : Type 0} {m : Step A} {f : A → Step B} → Touches Q strict m → ((a : A) → Touches Q strict (f a))
+pub bind-touches : {Q : ℕ → Type 0} {strict : Shown} {A B : Type 0} {m : Step A} {f : A → Step B} → Touches Q strict m → ((a : A) → Touches Q strict (f a))
     → Touches Q strict (m >>= f)
 unfolding ◌>>=◌
 bind-touches {Q = Q} {strict = strict} {m = m} {f = f} h g = record {
@@ -214,61 +222,62 @@ bind-touches {Q = Q} {strict = strict} {m = m} {f = f} h g = record {
   told = λ k. let d = m k in both (Told Q strict) d.broken (f d.value d.known).broken (h.told k) ((g d.value).told d.known);
 }
 
-pub give-touches : {Q : ℕ → Type 0} {strict : Bool} {A : Type 0} (x : A) → Touches Q strict (give x)
+pub give-touches : {Q : ℕ → Type 0} {strict : Shown} {A : Type 0} (x : A) → Touches Q strict (give x)
 unfolding give
 give-touches x = record { same = λ k. same_in k; told = λ k. tt }
 
-pub look-touches : {Q : ℕ → Type 0} {strict : Bool} {A : Type 0} (f : Known → A) → Touches Q strict (look f)
+pub look-touches : {Q : ℕ → Type 0} {strict : Shown} {A : Type 0} (f : Known → A) → Touches Q strict (look f)
 unfolding look
 look-touches f = record { same = λ k. same_in k; told = λ k. tt }
 
 -- what follows from what the tables say, where it is something that holds of all tables
-pub looked-touches : {Q : ℕ → Type 0} {strict : Bool} {A B : Type 0} (P : A → Type 0) (f : Known → A) {g : A → Step B} → ((k : Known) → P (f k))
+pub looked-touches : {Q : ℕ → Type 0} {strict : Shown} {A B : Type 0} (P : A → Type 0) (f : Known → A) {g : A → Step B} → ((k : Known) → P (f k))
     → ((a : A) → P a → Touches Q strict (g a)) → Touches Q strict (look f >>= g)
 unfolding look ◌>>=◌
 looked-touches P f says h = record { same = λ k. (h (f k) (says k)).same k; told = λ k. (h (f k) (says k)).told k }
 
-asks : {Q : ℕ → Type 0} {strict : Bool} (what : Broken) (token : ℕ) (ok : Bool) → Told Q strict (record { broken = what; token = token })
+asks : {Q : ℕ → Type 0} {strict : Shown} (what : Broken) (token : ℕ) (ok : Bool) → Told Q strict (record { broken = what; token = token })
     → Touches Q strict (ask what token ok)
 unfolding ask
 asks what token true told = record { same = λ k. same_in k; told = λ k. tt }
 asks what token false told = record { same = λ k. same_in k; told = λ k. (told, tt) }
 
-pub early-touches : {Q : ℕ → Type 0} {strict : Bool} (rule token : ℕ) (ok : Bool) → nat_eq rule 15 ≡ false → Of Q token
+pub early-touches : {Q : ℕ → Type 0} {strict : Shown} (rule token : ℕ) (ok : Bool) → nat_eq rule 15 ≡ false → Of Q token
     → Touches Q strict (early rule token ok)
 early-touches rule token ok quiet there = asks (Early rule) token ok (record { at = inl there; quiet = λ e. quiet })
 
-pub late-touches : {Q : ℕ → Type 0} {strict : Bool} (rule token : ℕ) (ok : Bool) → nat_eq rule 15 ≡ false → Of Q token
+pub late-touches : {Q : ℕ → Type 0} {strict : Shown} (rule token : ℕ) (ok : Bool) → nat_eq rule 15 ≡ false → Of Q token
     → Touches Q strict (late rule token ok)
 late-touches rule token ok quiet there = asks (Late rule) token ok (record { at = inl there; quiet = λ e. quiet })
 
 -- rule 15 is not quiet, and a threat by a routine may stand elsewhere
-pub label-touches : {Q : ℕ → Type 0} (token : ℕ) (ok : Bool) → Of Q token → Touches Q false (late 15 token ok)
-label-touches token ok there = asks (Late 15) token ok (record { at = inl there; quiet = λ e. absurd (let no : false ≡ true = e in cc) })
+pub label-touches : {Q : ℕ → Type 0} {strict : Shown} → strict.marks ≡ false → (token : ℕ) (ok : Bool) → Of Q token → Touches Q strict (late 15 token ok)
+label-touches lax token ok there = asks (Late 15) token ok (record { at = inl there; quiet = λ e. absurd (let never : false ≡ true = sym lax ∙ e in cc) })
 
-pub threat-told : {Q : ℕ → Type 0} {strict : Bool} (token : ℕ) (ok : Bool) → Touches Q strict (late 20 token ok)
+pub threat-told : {Q : ℕ → Type 0} {strict : Shown} (token : ℕ) (ok : Bool) → Touches Q strict (late 20 token ok)
 threat-told token ok = asks (Late 20) token ok (record { at = inr refl; quiet = λ e. refl })
 
-pub too_big-touches : {Q : ℕ → Type 0} {strict : Bool} (token : ℕ) (ok : Bool) → Of Q token → Touches Q strict (too_big token ok)
+pub too_big-touches : {Q : ℕ → Type 0} {strict : Shown} (token : ℕ) (ok : Bool) → Of Q token → Touches Q strict (too_big token ok)
 too_big-touches token ok there = asks TooBig token ok (record { at = inl there; quiet = λ e. refl })
 
-pub put-touches : {Q : ℕ → Type 0} {strict : Bool} (number : ℕ) (r : Row) → Of Q number → said r ≡ Row.Nothing → Touches Q strict (put number r)
+pub put-touches : {Q : ℕ → Type 0} {strict : Shown} (number : ℕ) (r : Row) → Of Q number → said r ≡ Row.Nothing → Touches Q strict (put number r)
 unfolding change
 put-touches number r here none = record { same = λ k. same_put k number r here none; told = λ k. tt }
 
 -- a row that is changed in what it does not show
-pub changed-touches : {Q : ℕ → Type 0} {strict : Bool} (number : ℕ) (g : Row → Row) → Shows strict g
+pub changed-touches : {Q : ℕ → Type 0} {strict : Shown} (number : ℕ) (g : Row → Row) → Shows strict g
     → Touches Q strict (look (λ k. g (row_at k number)) >>= λ r. put number r)
 unfolding look ◌>>=◌ change
 changed-touches number g shows = record { same = λ k. same_changed k number g shows; told = λ k. tt }
 
 -- Where it is strict no frame is opened.
-pub open_frame-touches : {Q : ℕ → Type 0} (f : Frame) → Touches Q false (open_frame f)
+pub open_frame-touches : {Q : ℕ → Type 0} (f : Frame) → Touches Q loose (open_frame f)
 unfolding extend
 open_frame-touches f = record {
   same = λ k. record {
     words = refl;
     texts = refl;
+    routines = refl;
     regions = refl;
     many = refl;
     frames = record { more = f ∷ []; is = refl };
@@ -280,20 +289,21 @@ open_frame-touches f = record {
   told = λ k. tt;
 }
 
-pub add_chosen-touches : {Q : ℕ → Type 0} {strict : Bool} (list : ℕ) (value : ℤ) → Of Q list → Touches Q strict (add_chosen list value)
+pub add_chosen-touches : {Q : ℕ → Type 0} {strict : Shown} (list : ℕ) (value : ℤ) → Of Q list → Touches Q strict (add_chosen list value)
 unfolding change
 add_chosen-touches list value here = record { same = λ k. same_choices k list value here; told = λ k. tt }
 
 -- changes of what none of it tells
-noted : {Q : ℕ → Type 0} {strict : Bool} (f : Known → Known) → ((k : Known) → Same Q strict k (f k)) → Touches Q strict (change f)
+noted : {Q : ℕ → Type 0} {strict : Shown} (f : Known → Known) → ((k : Known) → Same Q strict k (f k)) → Touches Q strict (change f)
 unfolding change
 noted f same = record { same = same; told = λ k. tt }
 
-unseen : {Q : ℕ → Type 0} {strict : Bool} (k j : Known) → j.words ≡ k.words → j.program ≡ k.program → j.regions ≡ k.regions → j.frames ≡ k.frames
+unseen : {Q : ℕ → Type 0} {strict : Shown} (k j : Known) → j.words ≡ k.words → j.program ≡ k.program → j.regions ≡ k.regions → j.frames ≡ k.frames
     → j.choices ≡ k.choices → Same Q strict k j
 unseen {strict = strict} k j words program regions frames choices = record {
   words = words;
   texts = ap (λ p. p.texts) program;
+  routines = ap (λ p. p.routines) program;
   regions = regions;
   many = ap (λ p. length p.rows) program;
   frames = record { more = []; is = frames ∙ sym (append-nil k.frames) };
@@ -303,25 +313,25 @@ unseen {strict = strict} k j words program regions frames choices = record {
   chosen = λ list h v. ap (λ (cs : List (ℕ × ℤ)). list_any (same_choice (list, v)) cs) choices;
 }
 
-pub hold-touches : {Q : ℕ → Type 0} {strict : Bool} (variable : ℕ) → Touches Q strict (hold variable)
+pub hold-touches : {Q : ℕ → Type 0} {strict : Shown} (variable : ℕ) → Touches Q strict (hold variable)
 hold-touches variable = noted _ (λ k. unseen k _ refl refl refl refl refl)
 
-pub release-touches : {Q : ℕ → Type 0} {strict : Bool} → Touches Q strict release
+pub release-touches : {Q : ℕ → Type 0} {strict : Shown} → Touches Q strict release
 release-touches = noted _ (λ k. unseen k _ refl refl refl refl refl)
 
-pub threaten-touches : {Q : ℕ → Type 0} {strict : Bool} (variable token : ℕ) → Touches Q strict (threaten variable token)
+pub threaten-touches : {Q : ℕ → Type 0} {strict : Shown} (variable token : ℕ) → Touches Q strict (threaten variable token)
 threaten-touches variable token = noted _ (λ k. unseen k _ refl refl refl refl refl)
 
-pub enter_block-touches : {Q : ℕ → Type 0} {strict : Bool} (s : Span) → Touches Q strict (enter_block s)
+pub enter_block-touches : {Q : ℕ → Type 0} {strict : Shown} (s : Span) → Touches Q strict (enter_block s)
 enter_block-touches s = noted _ (λ k. unseen k _ refl refl refl refl refl)
 
-pub when-touches : {Q : ℕ → Type 0} {strict : Bool} (ok : Bool) {m : Step (Unit {0})} → Touches Q strict m → Touches Q strict (when ok m)
+pub when-touches : {Q : ℕ → Type 0} {strict : Shown} (ok : Bool) {m : Step (Unit {0})} → Touches Q strict m → Touches Q strict (when ok m)
 unfolding when
 when-touches true h = h
 when-touches false h = give-touches tt
 
 -- what is given has this, and what follows needs it
-pub bind-gives : {Q : ℕ → Type 0} {strict : Bool} {A B : Type 0} (R : A → Type 0) {m : Step A} {f : A → Step B} → Touches Q strict m
+pub bind-gives : {Q : ℕ → Type 0} {strict : Shown} {A B : Type 0} (R : A → Type 0) {m : Step A} {f : A → Step B} → Touches Q strict m
     → ((k : Known) → R (m k).value) → ((a : A) → R a → Touches Q strict (f a)) → Touches Q strict (m >>= f)
 unfolding ◌>>=◌
 bind-gives {Q = Q} {strict = strict} R {m = m} {f = f} h gives g = record {
@@ -329,7 +339,7 @@ bind-gives {Q = Q} {strict = strict} R {m = m} {f = f} h gives g = record {
   told = λ k. let d = m k in both (Told Q strict) d.broken (f d.value d.known).broken (h.told k) ((g d.value (gives k)).told d.known);
 }
 
-pub each-touches : {Q : ℕ → Type 0} {strict : Bool} {A X : Type 0} (f : A → X → Step A) (node : X → Node)
+pub each-touches : {Q : ℕ → Type 0} {strict : Shown} {A X : Type 0} (f : A → X → Step A) (node : X → Node)
     → ((a : A) (x : X) → Every Q (node x) → Touches Q strict (f a x)) → (a : A)
     (xs : List X) → Every Q (row (map node xs)) → Touches Q strict (each f a xs)
 each-touches f node h a [] inside = give-touches a

@@ -1,5 +1,5 @@
 -- Which constants of a variant part break rule 22.
-use Rattle.std.proofs.Common.{◌++◌, ◌∙◌, ◌∷◌, ◌≡◌, [], ℕ, List, None, Option, Some, inl, inr, refl, subst, sym, true}
+use Rattle.std.proofs.Common.{◌++◌, ◌∙◌, ◌∷◌, ◌≡◌, [], ℕ, List, None, Option, Some, inl, inr, refl, subst, sym}
 use Rattle.grammar.specs.Nodes.{Leaf, Node, Nothing, Pair, leaf}
 use Rattle.grammar.specs.declared.terminals.Terminal.TheVariants as terminal
 use Rattle.pas_tree.specs.{Constants.constants_node, DenoterPlaces.first_of_constant, declared.denoters.TagField.TagField, declared.operators.Sign.Sign}
@@ -14,8 +14,8 @@ use Rattle.kind_checker.specs.Constants.{constant, named_constant, sign_before, 
 use Rattle.denoter_checker.specs.{Denoters.choosing_in, Denoters.more_choices, declared.variants.Listed.Listed, declared.variants.PartPlace.PartPlace}
 use Rattle.denoter_checker.specs.Variants.{arm_choices, choosing_at, constants_uses, hidden_tag, named_tag, next_constant, nothing_listed, tag_part, tag_type}
 use Rattle.rule_laws.proofs.{Alike.alike_after, Alike.alike_self, Alike.nothing_told, Breaks.In, Breaks.in_either, Breaks.in_right, CaseLaw.as_told}
-use Rattle.rule_laws.proofs.{DenoterVariants.constants_uses-touches, DenoterVariants.tag_part-touches, Every.Every, Every.Of, Faces.said, Once.every_has}
-use Rattle.rule_laws.proofs.{Once.every_other, TokenPlaces.tag_name-in, Touches.give-touches, Touches.put-touches}
+use Rattle.rule_laws.proofs.{DenoterVariants.constants_uses-touches, DenoterVariants.tag_part-touches, Every.Every, Every.Of, Faces.marking, Faces.said}
+use Rattle.rule_laws.proofs.{Once.every_has, Once.every_other, TokenPlaces.tag_name-in, Touches.give-touches, Touches.put-touches}
 use Rattle.rule_laws.proofs.CaseTurns.{IsPlace, NotChoice, Place, Turn, choices_tell, not_choice, quiet_of, rule_of}
 use Rattle.rule_laws.proofs.InTurn.{Calm, Goes, Wrong, calm_then, goes_calm, goes_nowhere, goes_then}
 use Rattle.rule_laws.proofs.Telling.{Only, ask-only, bind-only, change-only, give-only, look-only}
@@ -79,16 +79,16 @@ off_every p (Pair x y) a b = (off_every p x a.0 b.0, off_every p y a.1 b.1)
 
 quiet_put : (p : Place) → IsPlace p → (n : ℕ) (r : Row) → Of (Off p) n → said r ≡ Row.Nothing → Calm (rule_of p) (put n r)
 unfolding change
-quiet_put p is n r here none = quiet_of p is (put-touches {Q = Off p} {strict = true} n r here none) (λ m o. o.is.has) (λ o. o.is.off_list refl)
+quiet_put p is n r here none = quiet_of p is (put-touches {Q = Off p} {strict = marking} n r here none) (λ m o. o.is.has) (λ o. o.is.off_list refl)
     (λ j i. absurd i)
 
 quiet_uses : (p : Place) → IsPlace p → (c : Constants) → Every (Off p) (constants_node c) → Calm (rule_of p) (constants_uses p.c.frame c)
-quiet_uses p is c inside = quiet_of p is (constants_uses-touches {Q = Off p} {strict = true} p.c.frame c inside) (λ m o. o.is.has) (λ o. o.is.off_list refl)
+quiet_uses p is c inside = quiet_of p is (constants_uses-touches {Q = Off p} {strict = marking} p.c.frame c inside) (λ m o. o.is.has) (λ o. o.is.off_list refl)
     (λ j. not_choice p.t (constants_uses p.c.frame c j).broken ((constants_uses-only p.c.frame c).of j))
 
 quiet_give : (p : Place) → IsPlace p → {A : Type 0} (a : A) → Calm (rule_of p) (give a)
 unfolding give
-quiet_give p is a = quiet_of p is (give-touches {Q = Off p} {strict = true} a) (λ m o. o.is.has) (λ o. o.is.off_list refl) (λ j i. absurd i)
+quiet_give p is a = quiet_of p is (give-touches {Q = Off p} {strict = marking} a) (λ m o. o.is.has) (λ o. o.is.off_list refl) (λ j i. absurd i)
 
 arm_tells : (p : Place) → IsPlace p → Has p.part p.c.list → (l : Listed) (slot open' : ℕ) (constants : Constants) → Of (Has p.part) slot → Of (Off p) open'
     → Every (Has p.part) (constants_node constants) → Every (Off p) (constants_node constants) → Goes (rule_of p) (listed constants)
@@ -137,7 +137,7 @@ looked_law k q (Variants' word tag of' constants colon open' fields close v othe
     let first_off : Every (Off p) first = off_every p first all.1.1.1.0 (every_other first of' (λ h. ds.1.1.2 of' refl (inl h))) in
     let after = arms_node others (last_semicolon_node last) in
     let after_off : Every (Off p) after = off_every p after all.1.1.1.1 (every_other after of' (λ h. ds.1.1.2 of' refl (inr h))) in
-    let touched = tag_part-touches {Q = Off p} {strict = true} q tag.field tag.name tag.name tag_off (tag_name-in (Off p) tag.field tag.name tag_off) in
+    let touched = tag_part-touches {Q = Off p} {strict = marking} q tag.field tag.name tag.name tag_off (tag_name-in (Off p) tag.field tag.name tag_off) in
     let turn : Turn p [] d.known = record {
       alike = alike_after part k k d.known untold (λ n o. o.is.has) (alike_self k) (touched.same k);
       chosen = λ typed w. (touched.same k).chosen of' (λ o. o.is.off_list refl) w ∙ looked.fresh w;

@@ -1,10 +1,13 @@
+pub mod AssignedNames
 pub mod BlockLabels
 pub mod CaseConstants
 pub mod CaseLaws
 pub mod ForwardHeadings
+pub mod FunctionResults
 pub mod LabelLaws
 pub mod Laws
 pub mod NameLaws
 pub mod RegionNames
+pub mod ResultLaws
 pub mod TextLaws
 pub mod Tokens

@@ -4,6 +4,7 @@ ghost use Rattle.rule_laws.specs.{LabelLaws.BlocksTellLabels, Laws.PartsTellRule
 ghost use Rattle.rule_laws.specs.CaseLaws.{CasesTellEqualConstants, VariantsTellEqualConstants};
 ghost use Rattle.rule_laws.specs.NameLaws.{BlocksTellNames, HeadingsTellFormals, LabelPartsTellLabels};
 ghost use Rattle.rule_laws.specs.NameLaws.{PartsTellSecondHeadings, ProgramsTellParameters, RecordsTellFields};
+ghost use Rattle.rule_laws.specs.ResultLaws.{FunctionsTellAssignments};
 
 /// No token stands twice in the tree of a text.
 pub fn tokens_of_a_text_differ()
@@ -30,6 +31,12 @@ pub fn variant_constants_differ()
 /// stand before an earlier statement of it, too.
 pub fn labels_are_declared_and_differ()
     ensures { BlocksTellLabels }
+{}
+
+/// A function without a with statement in its block breaks rule 12 if no statement of the block or of a routine in it
+/// assigns to the function.
+pub fn functions_are_assigned()
+    ensures { FunctionsTellAssignments }
 {}
 
 /// Of the names of a block's constants, types and variables, and of the enumerations in their types, those break rule 2

@@ -5,7 +5,9 @@ ghost use Rattle.weight_lanes.specs.Places.{AreWeighed};
 
 use std::process::Abort;
 use std::test::*;
-use weight_lanes::{Choice, best_both_ways, last_set_both_ways, next_of_both_ways};
+use weight_lanes::{
+    Choice, best_both_ways, last_set_both_ways, next_of_both_ways, next_weightless_parent_both_ways,
+};
 
 fn are_weighed(weights: &[u32], askable: &[u8], total: u32) -> bool
     requires { length weights.now ≡ length askable.now }
@@ -30,6 +32,13 @@ fn best_is(rt: &impl Abort, weights: &[u32], askable: &[u8], total: u32, expecte
 /// Both searches for the next place of a value find this one.
 fn next_is(rt: &impl Abort, column: &[u32], from: usize, value: u32, expected: Option<usize>) {
     let (by_lanes, by_loop) = next_of_both_ways(column, from, value);
+    assert!(rt; by_lanes == expected && by_loop == expected);
+}
+
+/// Both searches for the next call that weighs nothing and has calls below it find this one.
+fn parent_is(rt: &impl Abort, weights: &[u32], last: &[u32], from: usize, expected: Option<usize>) {
+    assert!(rt; weights.len() == last.len());
+    let (by_lanes, by_loop) = next_weightless_parent_both_ways(weights, last, from);
     assert!(rt; by_lanes == expected && by_loop == expected);
 }
 
@@ -73,6 +82,8 @@ fn short_columns(rt: HostRuntime) {
     best_is(&rt, &[], &[], 5, None);
     next_is(&rt, &[7, 5, 7], 1, 7, Some(2));
     next_is(&rt, &[], 0, 7, None);
+    parent_is(&rt, &[0, 1, 0], &[0, 2, 3], 0, Some(2));
+    parent_is(&rt, &[], &[], 0, None);
     last_is(&rt, &[0, 1, 0], Some(1));
     last_is(&rt, &[], None);
 }
@@ -95,6 +106,20 @@ fn found_at(rt: &impl Abort, length: usize, place: usize) {
     last_is(rt, &askable[..length], Some(place));
 }
 
+/// In columns of this length all calls weigh nothing, and the one at this place alone has calls below
+/// it.
+fn parent_at(rt: &impl Abort, length: usize, place: usize) {
+    assert!(rt; place < length && length <= 65);
+    let weights = [0; 65];
+    let mut last = [0; 65];
+    for call in 0..65 {
+        last[call] = call as u32;
+    }
+    last[place] = 65;
+    parent_is(rt, &weights[..length], &last[..length], 0, Some(place));
+    parent_is(rt, &weights[..length], &last[..length], place + 1, None);
+}
+
 /// Lengths about those of the blocks.
 #[test]
 fn lengths(rt: HostRuntime) {
@@ -102,5 +127,8 @@ fn lengths(rt: HostRuntime) {
         found_at(&rt, length, 0);
         found_at(&rt, length, length / 2);
         found_at(&rt, length, length.saturating_sub(1));
+        parent_at(&rt, length, 0);
+        parent_at(&rt, length, length / 2);
+        parent_at(&rt, length, length.saturating_sub(1));
     }
 }

@@ -1,13 +1,25 @@
 -- What a search promises fixes its answer.
 use Rattle.std.proofs.Common.{◌<◌, ◌∙◌, ◌≡◌, ◌≢◌, ◌≤◌, ℕ, ⊎_elim, All, List, None, Option, Some, ap, arith, refl, sym}
 use Rattle.std.proofs.lemmas.Bool.{cases_lt}
-use Rattle.weight_lanes.specs.{Answers.IsBest, Answers.IsLastSet, Answers.IsNext, Places.IsSet, Places.left_at, declared.choice.Choice.Choice}
+use Rattle.weight_lanes.specs.{Places.IsSet, Places.left_at, declared.choice.Choice.Choice}
+use Rattle.weight_lanes.specs.Answers.{IsBest, IsLastSet, IsNext, IsNextWeightlessParent}
 
 pub one_next : (column : List ℕ) (from value : ℕ) (r s : Option ℕ) → IsNext column from value r → IsNext column from value s → r ≡ s
 one_next column from value None None is is' = refl
 one_next column from value None (Some q) is is' = absurd (is.none.0 refl q is'.at_least is'.holds)
 one_next column from value (Some p) None is is' = absurd (is'.none.0 refl p is.at_least is.holds)
 one_next column from value (Some p) (Some q) is is' =
+    let a = is.least q is'.at_least is'.holds in
+    let b = is'.least p is.at_least is.holds in
+    let e : p ≡ q = omega arith in
+    ap (λ (x : ℕ). Some x) e
+
+pub one_next_weightless_parent : (weights last : List ℕ) (from : ℕ) (r s : Option ℕ) → IsNextWeightlessParent weights last from r
+    → IsNextWeightlessParent weights last from s → r ≡ s
+one_next_weightless_parent weights last from None None is is' = refl
+one_next_weightless_parent weights last from None (Some q) is is' = absurd (is.none.0 refl q is'.at_least is'.holds)
+one_next_weightless_parent weights last from (Some p) None is is' = absurd (is'.none.0 refl p is.at_least is.holds)
+one_next_weightless_parent weights last from (Some p) (Some q) is is' =
     let a = is.least q is'.at_least is'.holds in
     let b = is'.least p is.at_least is.holds in
     let e : p ≡ q = omega arith in

@@ -1,8 +1,10 @@
 -- What the bits of a mask say of the places of a block.
-use Rattle.std.proofs.Common.{◌+◌, ◌-◌, ◌<◌, ◌^◌, ◌↔◌, ◌∙◌, ◌≡◌, ◌≢◌, ◌≤◌, ℕ, ⊎_elim, Bool, List, ap, arith, cond, eq-eqb, eqb, false, get_or, length, map, not}
-use Rattle.std.proofs.{Common.refl, Common.subst, Common.sym, Common.true, lemmas.Nat.Bits.bit_at-zero, lemmas.Nat.Bits.bit_at_above}
-use Rattle.std.proofs.lemmas.{Bool.cases_lt, Bool.eqb-true, List.get_or-map, List.length-map, Simd.bit_mask_l, Simd.mask_l-lt}
-use Rattle.std.specs.{Int.bit_at, Simd.Lanes.mask_l}
+use Rattle.std.proofs.Common.{◌%◌, ◌+◌, ◌-◌, ◌<◌, ◌^◌, ◌↔◌, ◌∙◌, ◌≡◌, ◌≢◌, ◌≤◌, ℕ, ⊎_elim, Bool, List, ap, arith, bit_and, cond, eq-eqb, eqb, false, get_or}
+use Rattle.std.proofs.Common.{length, map, not, refl, subst, sym, true, w32}
+use Rattle.std.proofs.lemmas.{Bool.cases_lt, Bool.eqb-true, List.get_or-map, List.length-map}
+use Rattle.std.proofs.lemmas.Nat.Bits.{bit_at-lt, bit_at-zero, bit_at_above, bit_at_and}
+use Rattle.std.proofs.lemmas.Simd.{bit_mask_l, get_or-zip2, length-zip2, mask_l-lt, mask_l-mod, tops_compared}
+use Rattle.std.specs.{Int.bit_at, Simd.Lanes.mask_l, Simd.Lanes.top, Simd.Lanes.zip2}
 use Rattle.weight_lanes.specs.Lanes.{MarksLanes, NoneIn}
 
 pub NoneIn-join : (Q : ℕ → Type 0) (a b c : ℕ) → NoneIn Q a b → NoneIn Q b c → NoneIn Q a c
@@ -40,6 +42,67 @@ Marks-mask_l P p xs n long passes means =
       inside = inside;
       holds = λ lane set. means lane (inside lane set) (set_passes p xs lane set);
     }
+
+-- `to_bitmask` of the comparison t of two vectors
+pub bitmask_compared : (t : ℕ → ℕ → Bool) (xs ys : List ℕ) (n : ℕ) → length xs ≡ n → length ys ≡ n → n ≤ 64
+    → mask_l (map (top 31) (zip2 (λ a b. cond (t a b) (2 ^ 32 - 1) 0) xs ys)) % 2 ^ 64 ≡ mask_l (zip2 t xs ys)
+bitmask_compared t xs ys n p q le =
+    ap (λ ms. mask_l ms % 2 ^ 64) (tops_compared w32 t xs ys) ∙ mask_l-mod (zip2 t xs ys) 64 (omega (arith, length-zip2 t xs ys (p ∙ sym q)))
+
+-- the mask of the lanes of two vectors that compare so
+pub Marks-zip2 : (P : ℕ → Type 0) (t : ℕ → ℕ → Bool) (xs ys : List ℕ) (n : ℕ) → length xs ≡ n → length ys ≡ n
+    → ((lane : ℕ) → lane < n → P lane → t (get_or xs lane 0) (get_or ys lane 0) ≡ true)
+    → ((lane : ℕ) → lane < n → t (get_or xs lane 0) (get_or ys lane 0) ≡ true → P lane)
+    → MarksLanes P n (mask_l (zip2 t xs ys))
+Marks-zip2 P t xs ys n p q passes means =
+    let ms = zip2 t xs ys in
+    let long : length ms ≡ n = length-zip2 t xs ys (p ∙ sym q) ∙ p in
+    let at : (lane : ℕ) → lane < n → get_or ms lane false ≡ t (get_or xs lane 0) (get_or ys lane 0) =
+    λ lane l. get_or-zip2 t xs ys lane 0 0 false (omega arith) (omega arith) in
+    let short : mask_l ms < 2 ^ n = subst (λ k. mask_l ms < 2 ^ k) long (mask_l-lt ms) in
+    let inside : (lane : ℕ) → bit_at (mask_l ms) lane ≡ 1 → lane < n =
+    λ lane set. ⊎_elim (λ l. l) (λ ge. absurd (omega (arith, bit_at_above (mask_l ms) n lane short ge))) (cases_lt lane n) in
+    record {
+      marked = λ lane l h. bit_mask_l ms lane ∙ ap (λ b. cond b 1 0) (at lane l ∙ passes lane l h);
+      inside = inside;
+      holds = λ lane set. means lane (inside lane set) (sym (at lane (inside lane set)) ∙ one_is_true _ (sym (bit_mask_l ms lane) ∙ set));
+    }
+
+-- the same lanes by another property
+pub Marks-same : (P Q : ℕ → Type 0) (n mask : ℕ) → ((lane : ℕ) → lane < n → P lane → Q lane) → ((lane : ℕ) → lane < n → Q lane → P lane)
+    → MarksLanes P n mask → MarksLanes Q n mask
+Marks-same P Q n mask to from marks = record {
+  marked = λ lane l h. marks.marked lane l (from lane l h);
+  inside = marks.inside;
+  holds = λ lane set. to lane (marks.inside lane set) (marks.holds lane set);
+}
+
+-- the lanes that two masks mark
+pub Marks-both : (P Q : ℕ → Type 0) (n a b : ℕ) → MarksLanes P n a → MarksLanes Q n b → MarksLanes (λ lane. P lane × Q lane) n (bit_and a b)
+Marks-both P Q n a b first second =
+    let both : (lane : ℕ) → bit_at (bit_and a b) lane ≡ 1 → (bit_at a lane ≡ 1) × (bit_at b lane ≡ 1) =
+    λ lane set. let m = bit_at_and a b lane in
+    let l = bit_at-lt a lane in
+    let k = bit_at-lt b lane in
+    (omega arith, omega arith) in
+    record {
+      marked = λ lane l h. let p = first.marked lane l h.0 in
+          let q = second.marked lane l h.1 in
+          omega (arith, bit_at_and a b lane);
+      inside = λ lane set. first.inside lane (both lane set).0;
+      holds = λ lane set. (first.holds lane (both lane set).0, second.holds lane (both lane set).1);
+    }
+
+-- where no lane has a property, none has one from which it follows
+pub Marks-no_first : (P Q : ℕ → Type 0) (n mask : ℕ) → ((lane : ℕ) → Q lane → P lane) → MarksLanes P n mask → mask ≡ 0 → MarksLanes Q n 0
+Marks-no_first P Q n mask follows marks zero = record {
+  marked = λ lane l h.
+      let set : bit_at mask lane ≡ 1 = marks.marked lane l (follows lane h) in
+      let clear : bit_at mask lane ≡ 0 = ap (λ m. bit_at m lane) zero ∙ bit_at-zero lane in
+      absurd (omega arith);
+  inside = λ lane set. absurd (omega (arith, bit_at-zero lane));
+  holds = λ lane set. absurd (omega (arith, bit_at-zero lane));
+}
 
 -- a place of the block as a lane
 lane_of : (Q : ℕ → Type 0) (at place : ℕ) → at ≤ place → Q place → Q (at + (place - at))

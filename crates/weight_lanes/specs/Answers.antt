@@ -1,6 +1,7 @@
 -- What each search promises of its answer, as one fact.
 use Rattle.std.specs.Prelude.{◌<◌, ◌↔◌, ◌≡◌, ◌≢◌, ◌≤◌, ℕ, All, IfSome, IsNone, List, Option}
-use Rattle.weight_lanes.specs.{Places.Holds, Places.IsSet, Places.left_at, declared.choice.Choice.Choice}
+use Rattle.weight_lanes.specs.Places.{Holds, IsSet, IsWeightlessParent, left_at}
+use Rattle.weight_lanes.specs.declared.choice.Choice.{Choice}
 
 -- the first of the askable places of which the worse answer leaves the fewest
 pub record IsBest (weights askable : List ℕ) (total : ℕ) (answer : Option Choice) : Type 0 where
@@ -17,6 +18,14 @@ pub record IsNext (column : List ℕ) (from value : ℕ) (answer : Option ℕ) :
   pub holds : IfSome answer (λ place. Holds column value place)
   pub at_least : IfSome answer (λ place. from ≤ place)
   pub least : IfSome answer (λ place. (other : ℕ) → from ≤ other → Holds column value other → place ≤ other)
+
+-- the least place of at least `from` at which a call weighs nothing that has calls below it
+pub record IsNextWeightlessParent (weights last : List ℕ) (from : ℕ) (answer : Option ℕ) : Type 0 where
+  pub none : IsNone answer ↔ ((place : ℕ) → from ≤ place → ¬ IsWeightlessParent weights last place)
+  pub holds : IfSome answer (λ place. IsWeightlessParent weights last place)
+  pub at_least : IfSome answer (λ place. from ≤ place)
+  pub least : IfSome answer (λ place. (other : ℕ) → from ≤ other → IsWeightlessParent weights last other
+      → place ≤ other)
 
 -- the greatest place whose flag is not 0
 pub record IsLastSet (flags : List ℕ) (answer : Option ℕ) : Type 0 where

@@ -6,6 +6,12 @@ pub record Holds (column : List ℕ) (value place : ℕ) : Type 0 where
   pub inside : place < length column
   pub same : slice_index column place ≡ value
 
+-- the call at the place weighs nothing, and calls stand below it, up to the last call of its subtree
+pub record IsWeightlessParent (weights last : List ℕ) (place : ℕ) : Type 0 where
+  pub inside : place < length weights
+  pub weightless : slice_index weights place ≡ 0
+  pub parent : slice_index last place ≢ place
+
 -- the flag at the place is not 0
 pub record IsSet (flags : List ℕ) (place : ℕ) : Type 0 where
   pub inside : place < length flags

@@ -12,8 +12,8 @@ pub struct Choice {
     pub at: usize,
 }
 
-/// How many suspects the worse answer leaves.
-pub(crate) fn left_after(weight: u32, total: u32) -> u32
+/// How many of `total` suspects the worse answer leaves on a call that weighs this much.
+pub fn left_after(weight: u32, total: u32) -> u32
     requires at_least_one { 1 ≤ weight }
     requires at_most_total { weight ≤ total }
     ensures { result ≡ left_of total weight }

@@ -1,10 +1,11 @@
-//! The next place that holds a value, and the last place whose flag is set.
+//! The next place that holds a value, the next call that weighs nothing and has calls below it, and the
+//! last place whose flag is set.
 
-ghost use Rattle.std.specs.Prelude.{◌↔◌, ◌≡◌, ◌≤◌, ℕ, All, IfSome, IsNone};
-ghost use Rattle.weight_lanes.specs.Places.{Holds, IsSet};
+ghost use Rattle.std.specs.Prelude.{◌↔◌, ◌≡◌, ◌≤◌, ℕ, All, IfSome, IsNone, length};
+ghost use Rattle.weight_lanes.specs.Places.{Holds, IsSet, IsWeightlessParent};
 
 use crate::bits::{highest, lowest};
-use crate::lanes::{FLAGS, NUMBERS, equal_at, set_at};
+use crate::lanes::{FLAGS, NUMBERS, equal_at, set_at, weightless_parents_at};
 use crate::plain;
 
 /// The least place of at least `from` that holds the value. None where there is none, also where
@@ -28,6 +29,33 @@ pub fn next_of(column: &[u32], from: usize, value: u32) -> Option<usize>
         at += NUMBERS;
     }
     plain::next_of(column, at, value)
+}
+
+/// The least place of at least `from` at which a call weighs nothing and calls stand below it, where
+/// `last` has the last call of each subtree. None where there is none, also where `from` is beyond the
+/// end.
+pub fn next_weightless_parent(weights: &[u32], last: &[u32], from: usize) -> Option<usize>
+    requires same_length { length weights.now ≡ length last.now }
+    ensures none { IsNone result ↔
+        ((place : ℕ) → from ≤ place → ¬ IsWeightlessParent weights.now last.now place) }
+    ensures holds { IfSome result (λ place. IsWeightlessParent weights.now last.now place) }
+    ensures at_least { IfSome result (λ place. from ≤ place) }
+    ensures least { IfSome result (λ place. (other : ℕ) → from ≤ other →
+        IsWeightlessParent weights.now last.now other → place ≤ other) }
+{
+    // A lane has room for no place from 2 ^ 32 on.
+    if weights.len() < from || u32::MAX as usize <= weights.len() {
+        return plain::next_weightless_parent(weights, last, from);
+    }
+    let mut at = from;
+    'search: while NUMBERS <= weights.len() - at {
+        let hits = weightless_parents_at(weights, last, at);
+        if hits != 0 {
+            return Some(at + lowest(hits));
+        }
+        at += NUMBERS;
+    }
+    plain::next_weightless_parent(weights, last, at)
 }
 
 /// The greatest place whose flag is not 0. None where all are 0.

@@ -2,7 +2,7 @@
 
 ghost use Rattle.std.specs.Prelude.{if◌then◌else◌, ◌%◌, ◌+◌, ◌-◌, ◌==◌, ◌≡◌, ◌≢◌, ◌≤◌, length, max, min, slice_index};
 ghost use Rattle.weight_lanes.specs.Lanes.{HasLanes, HasNumber, MarksLanes, lane_number};
-ghost use Rattle.weight_lanes.specs.Places.{AreWeighed};
+ghost use Rattle.weight_lanes.specs.Places.{AreWeighed, IsWeightlessParent};
 
 use std::simd::prelude::*;
 
@@ -32,6 +32,43 @@ pub(crate) fn set_at(flags: &[u8], at: usize) -> u64
     u8x32::from_slice(&flags[at..])
         .simd_ne(u8x32::splat(0))
         .to_bitmask()
+}
+
+/// The places from `at` on.
+#[inline(always)]
+fn places_from(at: usize) -> u32x16
+    requires { at + 16 ≤ 4294967296 }
+    ensures { HasLanes (λ lane. at + lane) result }
+{
+    u32x16::from_array([0, 1, 2, 3, 4, 5, 6, 7, 8, 9, 10, 11, 12, 13, 14, 15])
+        + u32x16::splat(at as u32)
+}
+
+/// At which of the places from `at` on the last call of the subtree is another one.
+#[inline(always)]
+fn parents_at(last: &[u32], at: usize) -> u64
+    requires in_last { at + 16 ≤ length last.now }
+    requires few { at + 16 ≤ 4294967296 }
+    ensures { MarksLanes (λ lane. slice_index last.now (at + lane) ≢ at + lane) 16 result }
+{
+    u32x16::from_slice(&last[at..])
+        .simd_ne(places_from(at))
+        .to_bitmask()
+}
+
+/// At which of the places from `at` on a call weighs nothing and calls stand below it.
+#[inline(always)]
+pub(crate) fn weightless_parents_at(weights: &[u32], last: &[u32], at: usize) -> u64
+    requires in_weights { at + 16 ≤ length weights.now }
+    requires same_length { length weights.now ≡ length last.now }
+    requires few { at + 16 ≤ 4294967296 }
+    ensures { MarksLanes (λ lane. IsWeightlessParent weights.now last.now (at + lane)) 16 result }
+{
+    let weightless = equal_at(weights, at, 0);
+    if weightless == 0 {
+        return 0;
+    }
+    weightless & parents_at(last, at)
 }
 
 /// The flags from `at` on, each as wide as a number.

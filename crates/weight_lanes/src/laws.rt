@@ -1,11 +1,12 @@
 //! Each search and its plain loop give one answer.
 
 ghost use Rattle.std.specs.Prelude.{◌≡◌, length};
-ghost use Rattle.weight_lanes.specs.{Answers.IsBest, Answers.IsLastSet, Answers.IsNext, Places.AreWeighed};
+ghost use Rattle.weight_lanes.specs.Answers.{IsBest, IsLastSet, IsNext, IsNextWeightlessParent};
+ghost use Rattle.weight_lanes.specs.Places.{AreWeighed};
 
 use crate::choice::Choice;
 use crate::choosing::best;
-use crate::finding::{last_set, next_of};
+use crate::finding::{last_set, next_of, next_weightless_parent};
 use crate::plain;
 
 /// What `best` and `plain::best` answer.
@@ -31,6 +32,21 @@ pub fn next_of_both_ways(column: &[u32], from: usize, value: u32) -> (Option<usi
 {
     let by_lanes = next_of(column, from, value);
     let by_loop = plain::next_of(column, from, value);
+    (by_lanes, by_loop)
+}
+
+/// What `next_weightless_parent` and `plain::next_weightless_parent` answer.
+pub fn next_weightless_parent_both_ways(
+    weights: &[u32],
+    last: &[u32],
+    from: usize,
+) -> (Option<usize>, Option<usize>)
+    requires same_length { length weights.now ≡ length last.now }
+    ensures answer { IsNextWeightlessParent weights.now last.now from result.0 }
+    ensures same { result.0 ≡ result.1 }
+{
+    let by_lanes = next_weightless_parent(weights, last, from);
+    let by_loop = plain::next_weightless_parent(weights, last, from);
     (by_lanes, by_loop)
 }
 

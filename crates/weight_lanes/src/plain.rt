@@ -1,7 +1,7 @@
 //! The searches as plain loops.
 
-ghost use Rattle.std.specs.Prelude.{◌<◌, ◌↔◌, ◌≡◌, ◌≢◌, ◌≤◌, ℕ, All, IfSome, IsNone, length};
-ghost use Rattle.weight_lanes.specs.Places.{AreWeighed, Holds, IsSet, left_at};
+ghost use Rattle.std.specs.Prelude.{◌<◌, ◌↔◌, ◌≡◌, ◌≢◌, ◌≤◌, ℕ, All, IfSome, IsNone, IsTrue, length};
+ghost use Rattle.weight_lanes.specs.Places.{AreWeighed, Holds, IsSet, IsWeightlessParent, left_at};
 
 use crate::choice::{Choice, better, left_after};
 
@@ -39,6 +39,35 @@ pub fn next_of(column: &[u32], from: usize, value: u32) -> Option<usize>
 {
     for place in from..column.len() {
         if column[place] == value {
+            return Some(place);
+        }
+    }
+    None
+}
+
+/// Whether the call at the place weighs nothing, and calls stand below it.
+fn is_weightless_parent(weights: &[u32], last: &[u32], place: usize) -> bool
+    requires inside { place < length weights.now }
+    requires same_length { length weights.now ≡ length last.now }
+    ensures { IsTrue result ↔ IsWeightlessParent weights.now last.now place }
+{
+    weights[place] == 0 && last[place] as usize != place
+}
+
+/// The least place of at least `from` at which a call weighs nothing and calls stand below it, where
+/// `last` has the last call of each subtree. None where there is none, also where `from` is beyond the
+/// end.
+pub fn next_weightless_parent(weights: &[u32], last: &[u32], from: usize) -> Option<usize>
+    requires same_length { length weights.now ≡ length last.now }
+    ensures none { IsNone result ↔
+        ((place : ℕ) → from ≤ place → ¬ IsWeightlessParent weights.now last.now place) }
+    ensures holds { IfSome result (λ place. IsWeightlessParent weights.now last.now place) }
+    ensures at_least { IfSome result (λ place. from ≤ place) }
+    ensures least { IfSome result (λ place. (other : ℕ) → from ≤ other →
+        IsWeightlessParent weights.now last.now other → place ≤ other) }
+{
+    for place in from..weights.len() {
+        if is_weightless_parent(weights, last, place) {
             return Some(place);
         }
     }

@@ -3,8 +3,8 @@ use Rattle.optimal_query.proofs.BestOfRuns.{Seen}
 use Rattle.optimal_query.proofs.runs.best_of_runs.Given as goal
 use Rattle.optimal_query.specs.Runs.{field_of}
 
-abbrev pub invariant-runs : goal.invariant-runs
-invariant-runs l = Seen (field_of l.last l.weights l.askable l.total l.start l.end) l.from l.best
+abbrev pub invariant-calls : goal.invariant-calls
+invariant-calls l = Seen (field_of l.last l.weights l.askable l.total l.start l.end) l.from l.best
 
-abbrev pub decreases-runs : goal.decreases-runs
-decreases-runs l = l.end - l.from
+abbrev pub decreases-calls : goal.decreases-calls
+decreases-calls l = l.end - l.from

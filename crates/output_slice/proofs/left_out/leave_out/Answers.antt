@@ -109,6 +109,8 @@ returns-clause-answer g c =
     (let z : c.loop-below.below - (call + 1) ≡ slice_index (lasts_of rows) call - call = omega (arith, ends, c.loop-below-test.false, last) in z)
     c.judge_call-first.ensures.number
     c.loop-below.invariant.were
+    (let book = ap (λ (b : Answers). length b.entries) c.book.ensures in
+    omega (arith, book, c.if-entries-count-gt-MOST_ENTRIES.false, c.count_apart-count.ensures.many, c.entries.ensures.number))
 
 pub returns-clause-buggy_stays : goal.returns-clause-buggy_stays
 returns-clause-buggy_stays g c =

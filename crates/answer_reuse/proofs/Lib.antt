@@ -1,0 +1,16 @@
+pub mod AlikeCalls
+pub mod AlikeTouches
+pub mod CallsJoined
+pub mod ClassesAlike
+pub mod ClassesOfRun
+pub mod ClassesTold
+pub mod FiguresTell
+pub mod KeysInOrder
+pub mod KeysOfRun
+pub mod KeysTell
+pub mod LikenessTested
+pub mod ListsCompared
+pub mod MarksShared
+pub mod NumbersPassing
+pub mod OneByOne
+pub mod RowsSummed

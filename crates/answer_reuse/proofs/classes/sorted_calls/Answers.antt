@@ -1,0 +1,13 @@
+use Rattle.std.proofs.Common.{length, rules}
+use Rattle.answer_reuse.proofs.{KeysInOrder.sorted_by_order, KeysOfRun.keys_permuted}
+use Rattle.answer_reuse.proofs.classes.sorted_calls.Goals as goal
+
+pub returns : goal.returns
+returns c =
+    let run = c.args.run.now in
+    let many = length run.calls.calls in
+    record {
+      keys' = keys_permuted run many _ _ c.in_ok-sort_by.ensures.permutation
+          (keys_permuted run many _ _ c.in_ok-sort_by_key.ensures.permutation c.in_ok-keys.ensures);
+      sorted = sorted_by_order run _ c.in_ok-sort_by.ensures.sorted (λ a r f k. search rules);
+    }
