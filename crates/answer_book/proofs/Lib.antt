@@ -7,3 +7,6 @@ pub mod KeptLemmas
 pub mod WithdrawnLemmas
 pub mod MarkLemmas
 pub mod NewLemmas
+pub mod NumberedEntries
+pub mod LinksHold
+pub mod LastByLinks

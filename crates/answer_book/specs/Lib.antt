@@ -7,4 +7,5 @@ pub mod Answers
 pub mod Judged
 pub mod Spoken
 pub mod InRange
+pub mod Links
 pub mod Kept

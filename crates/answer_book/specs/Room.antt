@@ -1,8 +1,7 @@
--- The room of a list of entries.
+-- The room of a column with an element for each entry.
 use Rattle.std.specs.Prelude.{◌≤◌, Vec, vec_capacity, vec_len}
-use Rattle.answer_book.specs.declared.entries.Entry.{Entry}
 
 -- there is room for 100,000 entries, and no more are in it
-pub record HasRoom {Z : Type 0} (entries : Vec Entry Z) : Type 0 where
-  pub room : 100000 ≤ vec_capacity entries
-  pub few : vec_len entries ≤ 100000
+pub record HasRoom {X Z : Type 0} (items : Vec X Z) : Type 0 where
+  pub room : 100000 ≤ vec_capacity items
+  pub few : vec_len items ≤ 100000

@@ -8,6 +8,7 @@ ghost use Rattle.answer_book.specs.Entries.{entry_at, is_standing, standing_answ
 ghost use Rattle.answer_book.specs.declared.entries.What.TheVariants as what;
 
 use crate::entries::{BookFault, Entry, Judgement, What};
+use crate::entry_links::{EntryLinks, Subject};
 use crate::entry_list::EntryList;
 use crate::judged_calls::JudgedCalls;
 use call_tree::{Calls, Mark};
@@ -27,6 +28,9 @@ pub struct Book {
     entries: EntryList,
     judged: JudgedCalls,
     trusted: Vec<bool>,
+    by_call: EntryLinks,
+    by_routine: EntryLinks,
+    all: EntryLinks,
 }
 
 impl Model for Book {
@@ -51,11 +55,17 @@ impl Book {
         let entries = EntryList::empty(alloc)?;
         let judged = JudgedCalls::new(alloc, calls.len())?;
         let trusted = vec![in alloc; false; calls.routines() as usize]?;
+        let by_call = EntryLinks::new(alloc, Subject::Call, calls.len())?;
+        let by_routine = EntryLinks::new(alloc, Subject::Routine, calls.routines())?;
+        let all = EntryLinks::new(alloc, Subject::Any, 1)?;
         Ok(Book {
             calls: Snapshot::of(calls),
             entries,
             judged,
             trusted,
+            by_call,
+            by_routine,
+            all,
         })
     }
 
@@ -66,6 +76,9 @@ impl Book {
         ensures { self.new ≡ with_entry self.old entry }
     {
         self.entries.put(entry);
+        self.by_call.link(entry);
+        self.by_routine.link(entry);
+        self.all.link(entry);
         if entry.standing {
             match entry.what {
                 What::Judged(call, judgement) => self.judged.set(call, Some(judgement)),
@@ -114,8 +127,11 @@ impl Book {
         if call >= self.judged.len() {
             return Err(BookFault::NoCall(call));
         }
-        let number = self.entries.add(What::Judged(call, judgement))?;
-        self.judged.set(call, Some(judgement));
+        let number = self.entries.next_number()?;
+        self.put(Entry {
+            what: What::Judged(call, judgement),
+            standing: true,
+        });
         Ok(number)
     }
 
@@ -130,8 +146,11 @@ impl Book {
         if place >= self.trusted.len() {
             return Err(BookFault::NoRoutine(routine));
         }
-        let number = self.entries.add(What::Trusted(routine))?;
-        self.trusted[place] = true;
+        let number = self.entries.next_number()?;
+        self.put(Entry {
+            what: What::Trusted(routine),
+            standing: true,
+        });
         Ok(number)
     }
 
@@ -142,11 +161,13 @@ impl Book {
     {
         match self.entries.withdraw(number) {
             What::Judged(call, _) => {
-                let last = self.entries.last_judgement(call);
-                self.judged.set(call, last);
+                let last = self.by_call.last(&self.entries, call);
+                let judgement = self.entries.judgement(last, call);
+                self.judged.set(call, judgement);
             }
             What::Trusted(routine) => {
-                self.trusted[routine as usize] = self.entries.trusts(routine);
+                let last = self.by_routine.last(&self.entries, routine);
+                self.trusted[routine as usize] = last > 0;
             }
         }
     }
@@ -172,13 +193,12 @@ impl Book {
         ensures taken_back { IfOk result (λ number. self.new ≡ without_answer self.old number) }
         ensures unchanged { OnErr result (self.new ≡ self.old) }
     {
-        match self.entries.last_standing() {
-            Some(number) => {
-                self.withdraw(number);
-                Ok(number)
-            }
-            None => Err(BookFault::NothingStanding),
+        let number = self.all.last(&self.entries, 0);
+        if number == 0 {
+            return Err(BookFault::NothingStanding);
         }
+        self.withdraw(number);
+        Ok(number)
     }
 
     /// The number of entries that were made.

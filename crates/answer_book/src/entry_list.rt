@@ -1,9 +1,8 @@
 //! The list of the entries of a book.
-ghost use Rattle.std.specs.Prelude.{◌++◌, ◌<◌, ◌∷◌, ◌≡◌, ◌≤◌, [], ℕ, IfOk, OnErr, OnOk, Some, length, true};
-ghost use Rattle.std.specs.List.{filter_map, list_any};
-ghost use Rattle.answer_book.specs.{Answers.next_number, Entries.is_standing, Entries.last_standing, Numbers.last_of};
-ghost use Rattle.answer_book.specs.Entries.{entries_with, entries_without, entry_at, entry_saying, first_entries};
-ghost use Rattle.answer_book.specs.Spoken.{entry_judgement, entry_trusts};
+ghost use Rattle.std.specs.Prelude.{◌++◌, ◌<◌, ◌∷◌, ◌≡◌, ◌≤◌, [], ℕ, IfOk, OnOk, Some, length, true};
+ghost use Rattle.answer_book.specs.{Answers.next_number, Spoken.entry_judgement};
+ghost use Rattle.answer_book.specs.Entries.{entries_without, entry_at, entry_saying, first_entries, is_standing};
+ghost use Rattle.answer_book.specs.Links.{judgement_at, was_taken_back};
 
 use crate::entries::{BookFault, Entry, Judgement, What};
 use cell_value::Memory;
@@ -11,7 +10,7 @@ use std::alloc::Global;
 use std::marker::Model;
 
 /// The most entries that a book has.
-const MOST_ENTRIES: usize = 100_000;
+pub(crate) const MOST_ENTRIES: usize = 100_000;
 
 /// At most 100,000 entries, with room for all of them from the start. Clauses see the list.
 #[derive(Drop)]
@@ -37,16 +36,6 @@ fn judgement_of(entry: Entry, call: u32) -> Option<Judgement>
     match entry.what {
         What::Judged(other, judgement) if entry.standing && other == call => Some(judgement),
         _ => None,
-    }
-}
-
-/// Whether the entry stands, and trusts the routine.
-fn is_trust(entry: Entry, routine: u32) -> bool
-    ensures { result ≡ entry_trusts routine entry }
-{
-    match entry.what {
-        What::Trusted(other) => entry.standing && other == routine,
-        What::Judged(_, _) => false,
     }
 }
 
@@ -96,6 +85,14 @@ impl EntryList {
         number > 0 && number <= self.items.len() && self.items[number - 1].standing
     }
 
+    /// Whether the entry of this number was made, and was taken back.
+    pub(crate) fn was_taken_back(&self, number: u32) -> bool
+        ensures { result ≡ was_taken_back self.now number }
+    {
+        let number = number as usize;
+        number > 0 && number <= self.items.len() && !self.items[number - 1].standing
+    }
+
     /// Puts an entry at the end, as one that stands or was taken back.
     pub(crate) fn put(&mut self, entry: Entry)
         requires room { length self.old < 100000 }
@@ -107,20 +104,15 @@ impl EntryList {
         }
     }
 
-    /// Adds an entry that says this, and answers its number.
-    pub fn add(&mut self, what: What) -> Result<u32, BookFault>
-        ensures answer { result ≡ next_number self.old }
-        ensures added { OnOk result (self.new ≡ entries_with self.old what) }
-        ensures unchanged { OnErr result (self.new ≡ self.old) }
+    /// The number of the next entry, if there is room for it.
+    pub(crate) fn next_number(&self) -> Result<u32, BookFault>
+        ensures answer { result ≡ next_number self.now }
+        ensures room { OnOk result (length self.now < 100000) }
     {
         if self.items.len() >= MOST_ENTRIES {
             return Err(BookFault::Full);
         }
-        self.put(Entry {
-            what,
-            standing: true,
-        });
-        Ok(self.len())
+        Ok(self.len() + 1)
     }
 
     /// Takes back the entry of this number, and answers what it said.
@@ -134,37 +126,15 @@ impl EntryList {
         entry.what
     }
 
-    /// The greatest number of an entry that stands.
-    pub fn last_standing(&self) -> Option<u32>
-        ensures { result ≡ last_standing self.now }
+    /// The judgement on the call that the entry of this number gives, while it stands; none where the
+    /// number is 0.
+    pub(crate) fn judgement(&self, number: u32, call: u32) -> Option<Judgement>
+        requires made { number ≤ length self.now }
+        ensures { result ≡ judgement_at self.now call number }
     {
-        let mut number = self.len();
-        'search: while number > 0 {
-            if self.stands(number) {
-                return Some(number);
-            }
-            number -= 1;
+        if number == 0 {
+            return None;
         }
-        None
-    }
-
-    /// The last standing judgement on the call.
-    pub fn last_judgement(&self, call: u32) -> Option<Judgement>
-        ensures { result ≡ last_of (filter_map (entry_judgement call) self.now) }
-    {
-        let mut last = None;
-        for entry in &self.items {
-            if let Some(judgement) = judgement_of(*entry, call) {
-                last = Some(judgement);
-            }
-        }
-        last
-    }
-
-    /// Whether an entry that stands trusts the routine.
-    pub fn trusts(&self, routine: u32) -> bool
-        ensures { result ≡ list_any (entry_trusts routine) self.now }
-    {
-        self.items.iter().any(|entry| is_trust(*entry, routine))
+        judgement_of(self.get(number), call)
     }
 }

@@ -4,6 +4,7 @@
 
 mod book;
 mod entries;
+mod entry_links;
 mod entry_list;
 mod judged_calls;
 

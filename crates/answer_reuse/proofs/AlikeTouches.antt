@@ -1,66 +1,16 @@
 -- Alike calls touched the same: both run again from one entry, and each log is that of its record but for where in the input it began.
-use Rattle.std.proofs.Common.{if◌then◌else◌, ◌+◌, ◌-◌, ◌<◌, ◌∙◌, ◌∷◌, ◌≡◌, ◌≤◌, ◌⊎◌, [], ℕ, All, Bool, List, None, Option, Some, ap, append-nil, arith, drop}
-use Rattle.std.proofs.Common.{false, fold, inl, inr, map, max, refl, subst, suc, sym, take, true, zero}
-use Rattle.std.proofs.{Math.Nat.le-max_left, Math.Nat.le-max_right, lemmas.Bool.Decides.eqb_tells}
-use Rattle.std.specs.{FinMap.get, List.cons_option, List.filter_map, List.range_with_len, Option.option_map}
-use Rattle.cell_value.specs.Effects.{heap_end, is_shared, listed, reads_of, seen_at, shared}
-use Rattle.cell_value.specs.declared.{entries.Seen.Seen, entries.Touch.Touch, values.Value.Value}
-use Rattle.core_program.proofs.{ActsLeave.MayEnter, ActsRepeat.Agree, Cells.shared_in_heap, Effects.SameLog, Effects.relative, Effects.unshared}
-use Rattle.core_program.proofs.{Events.unmarked, LawsOfRuns.made, OutcomesCompose.none_some, OutcomesCompose.some_same, RunAtAnyDepth.call_deeper}
-use Rattle.core_program.proofs.{RunsLeave.Inner, RunsLeave.call_leaves, RunsRecord.MadeBy, RunsRepeat.EndsByItself, RunsRepeat.Shallow, RunsRepeat.call_again}
-use Rattle.core_program.proofs.{Touches.IsSeen, Touches.Serves, Touches.seen_serves, Ways.RanCall, Ways.of_call}
-use Rattle.core_program.specs.{ProgramRows.ProgramRows, RunLaws.calls_in, State.IsSound, State.State, State.most_depth, WholeTables.WholeTables}
-use Rattle.core_program.specs.Agree.{Agrees, EndedByItself, Shows, deepest}
-use Rattle.core_program.specs.Run.{Call, End, Ended, Halted, Outcome, Result, call_of, depth_enough, record_of, recorded, run_of, way_out}
+use Rattle.std.proofs.Common.{◌+◌, ◌-◌, ◌∙◌, ◌∷◌, ◌≡◌, ◌≤◌, ◌⊎◌, [], ℕ, Bool, List, Some, ap, append-nil, arith, drop, false, inl, map, refl, subst, sym, take}
+use Rattle.std.{proofs.Common.true, specs.FinMap.get}
+use Rattle.cell_value.specs.{Effects.is_shared, declared.entries.Touch.Touch, declared.values.Value.Value}
+use Rattle.core_program.proofs.{ActsLeave.MayEnter, ActsRepeat.Agree, Effects.SameLog, Effects.relative, Effects.unshared, Events.unmarked, LawsOfRuns.made}
+use Rattle.core_program.proofs.{OutcomesCompose.some_same, RunAtAnyDepth.call_deeper, RunsLeave.Inner, RunsLeave.call_leaves, RunsRecord.MadeBy}
+use Rattle.core_program.proofs.{RunsRepeat.call_again, Touches.Serves, Touches.seen_serves, Ways.RanCall, Ways.of_call}
+use Rattle.core_program.proofs.RecordsStand.{by_itself, seen_in, shallow_below}
+use Rattle.core_program.specs.{Agree.Agrees, Agree.deepest, ProgramRows.ProgramRows, RunLaws.calls_in, State.IsSound, State.State, WholeTables.WholeTables}
+use Rattle.core_program.specs.Run.{Call, Outcome, Result, call_of, depth_enough, record_of, recorded, run_of}
 use Rattle.body_replay.specs.Laws.{CallsCarryToThemselves}
 use Rattle.answer_reuse.proofs.AlikeCalls.{σ, first_agrees, second_agrees, sound}
 use Rattle.answer_reuse.specs.{Alike.Alike, Figures.touch_figure, Laws.AlikeTouchedTheSame, Laws.OfAlikeCalls}
-
--- ---- what was seen of a cell is in the list of what was seen
-
-abbrev pairs : {X : Type 0} → (ℕ → Option X) → ℕ → ℕ → List (ℕ × X)
-pairs f at n = filter_map (λ q. option_map (λ x. (q, x)) (f q)) (range_with_len at n)
-
-tail_all : {X : Type 0} (P : X → Type 0) (o : Option X) (xs : List X) → All P (cons_option o xs) → All P xs
-tail_all P None xs h = h
-tail_all P (Some x) xs h = λ k d l. h (suc k) d (omega arith)
-
-in_pairs : {X : Type 0} (P : ℕ × X → Type 0) (f : ℕ → Option X) (n at : ℕ) → All P (pairs f at n) → (a : ℕ) (x : X) → at ≤ a → a < at + n → f a ≡ Some x
-    → P (a, x)
-in_pairs P f zero at h a x l k e = absurd (omega arith)
-in_pairs {X} P f (suc n) at h a x l k e = elim (eqb_tells a at) [
-  | inl q ↦ head (f at) (ap f (sym q.1) ∙ e) h q.1
-  | inr q ↦ in_pairs P f n (at + 1) (tail_all P (option_map (λ x. (at, x)) (f at)) (pairs f (at + 1) n) h) a x (let z = q.1 in omega arith) (omega arith) e
-]
-  where
-    head : (o : Option X) → o ≡ Some x → All P (cons_option (option_map (λ x. (at, x)) o) (pairs f (at + 1) n)) → a ≡ at → P (a, x)
-    head None q h r = absurd (none_some q)
-    head (Some y) q h r = subst (λ b. P (b, x)) (sym r) (subst (λ y. P (at, y)) (some_same q) (h 0 (at, y) (omega arith)))
-
-seen_in : (τ : State) (base : ℕ) (w : List Touch) → All (λ (addr, seen). Shows (get τ.cells addr) seen) (reads_of base w) → (a : ℕ) → is_shared base a ≡ true
-    → IsSeen (get τ.cells a) (seen_at a w)
-unfolding listed
-seen_in τ base w h a q = by (seen_at a w) refl
-  where
-    by : (o : Option Seen) → seen_at a w ≡ o → IsSeen (get τ.cells a) o
-    by None e = tt
-    by (Some s) e = in_pairs (λ (addr, seen). Shows (get τ.cells addr) seen) (shared base (λ addr. seen_at addr w)) heap_end 0 h a s (omega arith)
-        (shared_in_heap base a q)
-        (ap (λ b. if b then seen_at a w else None) q ∙ e)
-
--- ---- the greatest depth
-
-fold_least : (m : ℕ) (cs : List Call) → m ≤ fold max m (map (λ d. d.depth) cs)
-fold_least m [] = omega arith
-fold_least m (c ∷ cs) = omega (arith, fold_least (max m c.depth) cs, le-max_left m c.depth)
-
-shallow_below : (d e m b : ℕ) (cs : List Call) → fold max m (map (λ d. d.depth) cs) ≤ b → e + (b - d) ≤ most_depth → Shallow d e cs
-shallow_below d e m b [] h k = tt
-shallow_below d e m b (c ∷ cs) h k = (omega (arith, h, k, fold_least (max m c.depth) cs, le-max_right m c.depth), shallow_below d e (max m c.depth) b cs h k)
-
-by_itself : (e : End) → EndedByItself (way_out e) → EndsByItself e
-by_itself (Ended out) h = tt
-by_itself (Halted way) h = h
 
 -- ---- a call's touches from another state
 

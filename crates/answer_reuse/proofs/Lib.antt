@@ -1,6 +1,7 @@
 pub mod AlikeCalls
 pub mod AlikeTouches
 pub mod CallsJoined
+pub mod ChangedOnce
 pub mod ClassesAlike
 pub mod ClassesOfRun
 pub mod ClassesTold

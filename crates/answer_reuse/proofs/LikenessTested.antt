@@ -1,111 +1,15 @@
 -- The test of likeness tells what likeness is.
-use Rattle.std.proofs.Common.{◌&&◌, ◌+◌, ◌<◌, ◌||◌, ◌∷◌, ◌≡◌, [], ℕ, ℤ, Bool, List, None, Option, Some, ap, arith, false, inl, inr, nat_eq, refl, subst, suc}
-use Rattle.std.proofs.{Common.sym, Common.true, Common.zero, lemmas.Bool.Decides.eqb_tells, lemmas.Bool.Decides.nat_tests}
-use Rattle.std.specs.{List.slice_get, Ordering.int_eq}
-use Rattle.cell_value.specs.Effects.{looked_of, made_of, reads_of}
-use Rattle.cell_value.specs.declared.{values.SetBits.SetBits, values.Value.Value, ways_out.WayOut.WayOut}
+use Rattle.std.proofs.Common.{◌&&◌, ◌+◌, ◌||◌, ◌∷◌, ◌≡◌, [], ℕ, Bool, List, ap, false, nat_eq, refl, subst, true}
+use Rattle.cell_value.specs.{Effects.looked_of, Effects.made_of, Effects.reads_of, declared.values.Value.Value}
 use Rattle.cell_value.specs.declared.entries.Seen.{Seen, TheVariants.Absent, TheVariants.Held, TheVariants.There}
-use Rattle.core_program.specs.{Agree.EndedByItself, Replay.same_args, Replay.same_numbers, Replay.same_value, Run.Call}
-use Rattle.body_replay.specs.Agreement.{are_same_items, ended_by_itself, is_same_item}
+use Rattle.core_program.specs.{Replay.same_args, Replay.same_value, Run.Call}
+use Rattle.body_replay.proofs.AgreementIsTested.{and_both, both, ended_tells, ended_told, fresh_tells, fresh_told, items_tell, items_told, number_self}
+use Rattle.body_replay.proofs.AgreementIsTested.{numbered_same, same_numbered, value_tells, value_told}
+use Rattle.body_replay.specs.Agreement.{are_same_items, ended_by_itself}
 use Rattle.answer_reuse.specs.Alike.{Alike, are_alike, are_same_reads, is_same_seen}
 use Rattle.answer_reuse.specs.Laws as law
 
--- ---- tests
-
-both : (a b : Bool) → (a && b) ≡ true → (a ≡ true) × (b ≡ true)
-both true b h = (refl, h)
-both false b h = absurd (let z : false ≡ true = h in cc)
-
-and_both : (a b : Bool) → a ≡ true → b ≡ true → (a && b) ≡ true
-and_both true b h k = k
-and_both false b h k = absurd (let z : false ≡ true = h in cc)
-
-same_numbered : {a b : ℕ} → nat_eq a b ≡ true → a ≡ b
-same_numbered h = grind (arith, nat_tests)
-
-numbered_same : {a b : ℕ} → a ≡ b → nat_eq a b ≡ true
-numbered_same h = grind (arith, nat_tests)
-
-number_self : (n : ℕ) → nat_eq n n ≡ true
-number_self n = numbered_same {a = n} refl
-
-same_integer : (i j : ℤ) → int_eq i j ≡ true → i ≡ j
-same_integer i j h = grind (arith, nat_tests)
-
-integer_same : (i : ℤ) → int_eq i i ≡ true
-integer_same i = grind (arith, nat_tests)
-
--- ---- how it ended
-
-ended_tells : (w : WayOut) → ended_by_itself w ≡ true → EndedByItself w
-ended_tells WayOut.OutOfSteps h = absurd (let z : false ≡ true = h in cc)
-ended_tells (WayOut.Limited which) h = absurd (let z : false ≡ true = h in cc)
-ended_tells w h = tt
-
-ended_told : (w : WayOut) → EndedByItself w → ended_by_itself w ≡ true
-ended_told WayOut.OutOfSteps h = absurd h
-ended_told (WayOut.Limited which) h = absurd h
-ended_told w h = refl
-
--- ---- the heap
-
-fresh_tells : (m a b : ℕ) → (nat_eq m 0 || nat_eq a b) ≡ true → 0 < m → a ≡ b
-fresh_tells m a b h l = by (nat_eq m 0) (nat_eq a b) refl refl h
-  where
-    by : (x y : Bool) → nat_eq m 0 ≡ x → nat_eq a b ≡ y → (x || y) ≡ true → a ≡ b
-    by true y e f h = absurd (let z = same_numbered e in omega (arith, z, l))
-    by false true e f h = same_numbered f
-    by false false e f h = absurd (let z : false ≡ true = h in cc)
-
-fresh_told : (m a b : ℕ) → (0 < m → a ≡ b) → (nat_eq m 0 || nat_eq a b) ≡ true
-fresh_told m a b h = by (nat_eq m 0) refl
-  where
-    by : (x : Bool) → nat_eq m 0 ≡ x → (x || nat_eq a b) ≡ true
-    by true e = refl
-    by false e = numbered_same (h (grind (arith, nat_tests)))
-
 -- ---- values
-
-numbers_tell : (ns ms : List ℕ) → same_numbers ns ms ≡ true → ns ≡ ms
-numbers_tell [] [] h = refl
-numbers_tell (n ∷ ns) (m ∷ ms) h =
-    let b = both (nat_eq n m) (same_numbers ns ms) h in
-    let first : n ≡ m = same_numbered b.0 in
-    λ i. first i ∷ numbers_tell ns ms b.1 i
-numbers_tell [] (m ∷ ms) h = absurd (let z : false ≡ true = h in cc)
-numbers_tell (n ∷ ns) [] h = absurd (let z : false ≡ true = h in cc)
-
-numbers_told : (ns : List ℕ) → same_numbers ns ns ≡ true
-numbers_told [] = refl
-numbers_told (n ∷ ns) = and_both (nat_eq n n) (same_numbers ns ns) (number_self n) (numbers_told ns)
-
-bits_tell : (a b : SetBits) → same_numbers a.words b.words ≡ true → a ≡ b
-bits_tell a b h = λ i. record { words = numbers_tell a.words b.words h i }
-
-value_tells : (v w : Value) → same_value v w ≡ true → v ≡ w
-value_tells Value.Undefined Value.Undefined h = refl
-value_tells (Value.Number n) (Value.Number k) h = ap Value.Number (same_integer n k h)
-value_tells (Value.Bits a) (Value.Bits b) h = ap Value.Bits (bits_tell a b h)
-value_tells Value.Nil Value.Nil h = refl
-value_tells (Value.Heap a) (Value.Heap b) h = ap Value.Heap (same_numbered h)
-value_tells (Value.Place a) (Value.Place b) h = ap Value.Place (same_numbered h)
-value_tells (Value.Frame a) (Value.Frame b) h = ap Value.Frame (same_numbered h)
-value_tells (Value.Routine r a) (Value.Routine s b) h =
-    let t = both (nat_eq r s) (nat_eq a b) h in
-    let routine : r ≡ s = same_numbered t.0 in
-    let frame : a ≡ b = same_numbered t.1 in
-    λ i. Value.Routine (routine i) (frame i)
-value_tells v w h = absurd (let z : false ≡ true = h in cc)
-
-value_told : (v : Value) → same_value v v ≡ true
-value_told Value.Undefined = refl
-value_told (Value.Number n) = integer_same n
-value_told (Value.Bits a) = numbers_told a.words
-value_told Value.Nil = refl
-value_told (Value.Heap a) = number_self a
-value_told (Value.Place a) = number_self a
-value_told (Value.Frame a) = number_self a
-value_told (Value.Routine r a) = and_both (nat_eq r r) (nat_eq a a) (number_self r) (number_self a)
 
 args_tell : (vs ws : List Value) → same_args vs ws ≡ true → vs ≡ ws
 args_tell [] [] h = refl
@@ -148,36 +52,6 @@ reads_told : (rs : List (ℕ × Seen)) → are_same_reads rs rs ≡ true
 reads_told [] = refl
 reads_told ((a, s) ∷ rs) = and_both (nat_eq a a) (is_same_seen s s && are_same_reads rs rs) (number_self a)
     (and_both (is_same_seen s s) (are_same_reads rs rs) (seen_told s) (reads_told rs))
-
--- ---- items
-
-item_tells : (x y : Option ℕ) → is_same_item x y ≡ true → x ≡ y
-item_tells (Some x) (Some y) h = ap Some (same_numbered h)
-item_tells None None h = refl
-item_tells (Some x) None h = absurd (let z : false ≡ true = h in cc)
-item_tells None (Some y) h = absurd (let z : false ≡ true = h in cc)
-
-item_told : (x : Option ℕ) → is_same_item x x ≡ true
-item_told (Some x) = number_self x
-item_told None = refl
-
-items_tell : (xs : List ℕ) (at : ℕ) (ys : List ℕ) (from n : ℕ) → are_same_items xs at ys from n ≡ true → (k : ℕ) → k < n
-    → slice_get xs (at + k) ≡ slice_get ys (from + k)
-items_tell xs at ys from zero h k l = absurd (omega arith)
-items_tell xs at ys from (suc n) h k l =
-    let b = both (are_same_items xs at ys from n) (is_same_item (slice_get xs (at + n)) (slice_get ys (from + n))) h in
-    elim (eqb_tells k n) [
-      | inl q ↦ subst (λ j. slice_get xs (at + j) ≡ slice_get ys (from + j)) (sym q.1) (item_tells (slice_get xs (at + n)) (slice_get ys (from + n)) b.1)
-      | inr q ↦ items_tell xs at ys from n b.0 k (let z = q.1 in omega arith)
-    ]
-
-items_told : (xs : List ℕ) (at : ℕ) (ys : List ℕ) (from n : ℕ) → ((k : ℕ) → k < n → slice_get xs (at + k) ≡ slice_get ys (from + k))
-    → are_same_items xs at ys from n ≡ true
-items_told xs at ys from zero h = refl
-items_told xs at ys from (suc n) h =
-    and_both (are_same_items xs at ys from n) (is_same_item (slice_get xs (at + n)) (slice_get ys (from + n)))
-    (items_told xs at ys from n (λ k l. h k (omega arith)))
-    (subst (λ y. is_same_item (slice_get xs (at + n)) y ≡ true) (h n (omega arith)) (item_told (slice_get xs (at + n))))
 
 -- ---- all of it
 

@@ -1,14 +1,13 @@
 -- Judgements on the calls of a class, and taking them back, one by one.
-use Rattle.std.proofs.Common.{if◌then◌else◌, ◌&&◌, ◌*◌, ◌++◌, ◌+◌, ◌-◌, ◌<◌, ◌==◌, ◌∙◌, ◌∷◌, ◌≡◌, ◌≤◌, [], ℕ, All, Bool, List, None, Option, Some, ap, arith}
-use Rattle.std.proofs.Common.{false, filter, fold, length, map, refl, slice_get, slice_index, slice_set, subst, suc, sum_by, sym, true, zero}
-use Rattle.std.proofs.lemmas.Bool.Decides.{nat_tests}
+use Rattle.std.proofs.Common.{if◌then◌else◌, ◌*◌, ◌++◌, ◌+◌, ◌-◌, ◌<◌, ◌==◌, ◌∙◌, ◌∷◌, ◌≡◌, ◌≤◌, [], ℕ, Bool, List, None, Option, Some, ap, arith, false}
+use Rattle.std.proofs.Common.{filter, length, refl, slice_get, slice_index, slice_set, subst, suc, sym, true, zero}
 use Rattle.std.proofs.lemmas.List.{length-append, length-map, length-set, map-append, Sums.fold-append, Sums.sum_by-append}
-use Rattle.answer_book.specs.{Entries.entries_without, Entries.entry_at, Entries.is_standing, Entries.with_taken_back, InRange.IsInRange, Numbers.numbers_below}
+use Rattle.answer_book.specs.{Entries.entries_without, Entries.entry_at, Entries.with_taken_back, InRange.IsInRange, Numbers.numbers_below}
 use Rattle.answer_book.specs.declared.entries.{Entry.Entry, Judgement.Judgement, What.What, What.TheVariants.Judged, What.TheVariants.Trusted}
-use Rattle.optimal_query.specs.{Changed.change_steps, Changed.most_steps_at, Search.Search, Search.search_with, Search.search_without}
+use Rattle.optimal_query.specs.Search.{Search, search_with, search_without}
 use Rattle.answer_reuse.proofs.NumbersPassing.{count_more, one_if, passing_more}
-use Rattle.answer_reuse.specs.Shared.{IsOfCalls, judged_each, judges_in, judges_of, one_steps, search_with_each, search_with_one, search_without_each}
-use Rattle.answer_reuse.specs.Shared.{search_without_one, shared_steps, taken_back_steps, without_one_steps}
+use Rattle.answer_reuse.specs.Shared.{IsOfCalls, judged_each, one_steps, search_with_each, search_with_one, search_without_each, search_without_one}
+use Rattle.answer_reuse.specs.Shared.{shared_steps, without_one_steps}
 
 -- ---- what judgements leave as it was
 
@@ -130,26 +129,10 @@ before_more number (m ∷ ms) h = (h.0, (let z = h.1 in omega arith), before_mor
 
 -- ---- one more taken back
 
--- the steps by the columns of a search
-abbrev by_columns : (depth routine : List ℕ) → Option Entry → ℕ
-by_columns depth routine (Some entry) = change_steps depth routine entry.what
-by_columns depth routine None = 0
-
-by_columns_is : (t : Search) (o : Option Entry) → most_steps_at t o ≡ by_columns t.depth t.book.routine o
-by_columns_is t (Some entry) = refl
-by_columns_is t None = refl
-
 taken_more : (s : Search) (ms : List ℕ) (b : Bool) (number : ℕ)
     → search_without_each s (ms ++ one_if b number) ≡ search_without_one (search_without_each s ms) b number
 taken_more s ms true number = fold-append search_without s ms (number ∷ [])
 taken_more s ms false number = fold-append search_without s ms []
-
-taken_steps_more : (s : Search) (ms : List ℕ) (b : Bool) (number : ℕ)
-    → taken_back_steps s (ms ++ one_if b number) ≡ taken_back_steps s ms + without_one_steps s b number
-taken_steps_more s ms true number =
-    let e = sum_by-append (λ number. most_steps_at s (entry_at s.book.entries number)) ms (number ∷ []) in omega (arith, e)
-taken_steps_more s ms false number =
-    let e = sum_by-append (λ number. most_steps_at s (entry_at s.book.entries number)) ms [] in omega (arith, e)
 
 -- the entries below one that pass a test are taken back
 pub record Taking (s : Search) (p : ℕ → Bool) (from to taken number : ℕ) (now : Search) : Type 0 where
@@ -157,7 +140,7 @@ pub record Taking (s : Search) (p : ℕ → Bool) (from to taken number : ℕ) (
   pub count : taken ≡ length (filter p (numbers_below number))
   pub before : Before number (filter p (numbers_below number))
   pub not_fallen : from ≤ to
-  pub cost : to ≤ from + taken_back_steps s (filter p (numbers_below number))
+  pub none_taken : taken ≡ 0 → to ≡ from
 
 module _ {s : Search} {p : ℕ → Bool} {from to taken number : ℕ} {now : Search} (g : Taking s p from to taken number now) where
   pub taking_later : Later s now number
@@ -166,13 +149,6 @@ module _ {s : Search} {p : ℕ → Bool} {from to taken number : ℕ} {now : Sea
   one_before : 0 < number → (b : Bool) → Before (number + 1) (one_if b number)
   one_before first true = (first, omega arith, tt)
   one_before first false = tt
-
-  steps_same : (b : Bool) → without_one_steps now b number ≡ without_one_steps s b number
-  steps_same true =
-      let l = taking_later in
-      ap (most_steps_at now) (l.same number (omega arith)) ∙ by_columns_is now (entry_at s.book.entries number)
-      ∙ (λ i. by_columns (l.depth i) (l.routine i) (entry_at s.book.entries number)) ∙ sym (by_columns_is s (entry_at s.book.entries number))
-  steps_same false = refl
 
   pub taking_more : 0 < number → (new : Search) (more after : ℕ) → new ≡ search_without_one now (p number) number → more ≡ (if p number then 1 else 0)
       → to ≤ after → after ≤ to + without_one_steps now (p number) number → Taking s p from after (taken + more) (number + 1) new
@@ -184,13 +160,12 @@ module _ {s : Search} {p : ℕ → Bool} {from to taken number : ℕ} {now : Sea
         (before_append (number + 1) (filter p (numbers_below number)) (one_if (p number) number)
         (before_more number (filter p (numbers_below number)) g.before) (one_before first (p number)));
     not_fallen = let z = g.not_fallen in omega arith;
-    cost =
-        let a = taken_steps_more s (filter p (numbers_below number)) (p number) number in
-        let b = ap (taken_back_steps s) (passing_more p number) in
-        let d = steps_same (p number) in
-        let h = g.cost in
-        omega (arith, a, b, d, h, cost);
+    none_taken = λ none. by (p number) n cost none;
   }
+    where
+      by : (b : Bool) → more ≡ (if b then 1 else 0) → after ≤ to + without_one_steps now b number → taken + more ≡ 0 → after ≡ from
+      by true one cost none = absurd (omega (arith, one, none))
+      by false one cost none = let before = g.none_taken (omega (arith, none)) in omega (arith, before, cost, l)
 
 -- ---- what an entry names
 

@@ -39,7 +39,7 @@ search_with_one search is_one call judgement = if is_one then search_with search
 abbrev pub one_steps : (depth : List ℕ) → Bool → (call : ℕ) → ℕ
 one_steps depth is_one call = if is_one then 3 * (slice_index depth call + 1) else 0
 
--- what one judgement on each of these calls costs at most
+-- what one judgement on each of these calls costs at most, and what one change of the mark of each does
 abbrev pub shared_steps : (depth : List ℕ) → (calls : List ℕ) → ℕ
 shared_steps depth calls = sum_by (λ call. 3 * (slice_index depth call + 1)) calls
 
@@ -89,10 +89,6 @@ without_one_steps search is_one number =
 
 abbrev pub search_without_each : Search → List ℕ → Search
 search_without_each search numbers = fold search_without search numbers
-
-abbrev pub taken_back_steps : Search → List ℕ → ℕ
-taken_back_steps search numbers =
-    sum_by (λ number. most_steps_at search (entry_at search.book.entries number)) numbers
 
 -- ---- the marks that such judgements leave
 

@@ -1,11 +1,11 @@
 //! One judgement on all calls that are alike, and taking it back.
 ghost use Rattle.std.specs.Prelude.{if◌then◌else◌, ◌+◌, ◌<◌, ◌≡◌, ◌≤◌, OnErr, OnOk, length, true};
 ghost use Rattle.answer_book.specs.Entries.{is_standing};
-ghost use Rattle.answer_reuse.specs.Classes.{calls_of, class_of};
+ghost use Rattle.optimal_query.specs.Changed.{MarkStays};
+ghost use Rattle.answer_reuse.specs.{Classes.calls_of, Classes.class_of, Shared.without_one_steps};
 ghost use Rattle.answer_reuse.specs.Shared.{IsOfCalls, judge_alike_answer, judged_each, judges_of, one_steps};
 ghost use Rattle.answer_reuse.specs.Shared.{search_with_each, search_with_one, search_without_each, search_without_one};
 ghost use Rattle.answer_reuse.specs.Shared.{shared_steps, standing_alike, standing_of, take_back_alike_answer};
-ghost use Rattle.answer_reuse.specs.Shared.{taken_back_steps, without_one_steps};
 
 use crate::classes::Classes;
 use answer_book::{BookFault, Entry, Judgement, What};
@@ -106,6 +106,7 @@ fn take_back_if<L>(debug: &mut Debug<'_>, is_one: bool, number: u32, steps: &mut
     ensures taken_back { debug.new ≡ search_without_one debug.old is_one number }
     ensures not_fallen { steps.old ≤ steps.new }
     ensures cost { steps.new ≤ steps.old + without_one_steps debug.old is_one number }
+    ensures mark_stays { MarkStays debug.old number → steps.new ≡ steps.old }
 {
     if is_one {
         match debug.take_back(number, steps) {
@@ -118,8 +119,8 @@ fn take_back_if<L>(debug: &mut Debug<'_>, is_one: bool, number: u32, steps: &mut
     }
 }
 
-/// Takes back each judgement that stands on a call of the class of which this is the least call, first to last, and
-/// answers how many there were.
+/// Takes back each judgement that stands on a call of the class of which this is the least call, and answers how many
+/// there were. It does so first to last: the last on a call counts, so that the mark of the call changes once.
 fn take_back_each<L>(
     debug: &mut Debug<'_>,
     classes: &Classes,
@@ -131,8 +132,8 @@ fn take_back_each<L>(
     ensures taken_back { debug.new
         ≡ search_without_each debug.old (standing_of debug.old.book.entries classes.now least) }
     ensures not_fallen { steps.old ≤ steps.new }
-    ensures cost { steps.new ≤ steps.old
-        + taken_back_steps debug.old (standing_of debug.old.book.entries classes.now least) }
+    ensures cost { steps.new ≤ steps.old + shared_steps debug.old.depth (calls_of classes.now least) }
+    ensures costs_nothing { result ≡ 0 → steps.new ≡ steps.old }
 {
     let mut taken = 0;
     'entries: for number in 1..debug.book().entries() + 1 {
@@ -157,8 +158,8 @@ pub fn take_back_alike<L>(
         ≡ search_without_each debug.old (standing_alike debug.old.book.entries classes.now call)) }
     ensures unchanged { OnErr result (debug.new ≡ debug.old) }
     ensures not_fallen { steps.old ≤ steps.new }
-    ensures cost { OnOk result (steps.new ≤ steps.old
-        + taken_back_steps debug.old (standing_alike debug.old.book.entries classes.now call)) }
+    ensures cost { OnOk result (steps.new
+        ≤ steps.old + shared_steps debug.old.depth (class_of classes.now call)) }
     ensures costs_nothing { OnErr result (steps.new ≡ steps.old) }
 {
     if call >= classes.len() {

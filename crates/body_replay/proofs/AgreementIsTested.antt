@@ -13,21 +13,21 @@ use Rattle.body_replay.specs.Laws as law
 
 -- ---- tests
 
-both : (a b : Bool) → (a && b) ≡ true → (a ≡ true) × (b ≡ true)
+pub both : (a b : Bool) → (a && b) ≡ true → (a ≡ true) × (b ≡ true)
 both true b h = (refl, h)
 both false b h = absurd (let z : false ≡ true = h in cc)
 
-and_both : (a b : Bool) → a ≡ true → b ≡ true → (a && b) ≡ true
+pub and_both : (a b : Bool) → a ≡ true → b ≡ true → (a && b) ≡ true
 and_both true b h k = k
 and_both false b h k = absurd (let z : false ≡ true = h in cc)
 
-same_numbered : {a b : ℕ} → nat_eq a b ≡ true → a ≡ b
+pub same_numbered : {a b : ℕ} → nat_eq a b ≡ true → a ≡ b
 same_numbered h = grind (arith, nat_tests)
 
-numbered_same : {a b : ℕ} → a ≡ b → nat_eq a b ≡ true
+pub numbered_same : {a b : ℕ} → a ≡ b → nat_eq a b ≡ true
 numbered_same h = grind (arith, nat_tests)
 
-number_self : (n : ℕ) → nat_eq n n ≡ true
+pub number_self : (n : ℕ) → nat_eq n n ≡ true
 number_self n = numbered_same {a = n} refl
 
 at_most : {a b : ℕ} → nat_le a b ≡ true → a ≤ b
@@ -44,19 +44,19 @@ integer_same i = grind (arith, nat_tests)
 
 -- ---- how it ended
 
-ended_tells : (w : WayOut) → ended_by_itself w ≡ true → EndedByItself w
+pub ended_tells : (w : WayOut) → ended_by_itself w ≡ true → EndedByItself w
 ended_tells WayOut.OutOfSteps h = absurd (let z : false ≡ true = h in cc)
 ended_tells (WayOut.Limited which) h = absurd (let z : false ≡ true = h in cc)
 ended_tells w h = tt
 
-ended_told : (w : WayOut) → EndedByItself w → ended_by_itself w ≡ true
+pub ended_told : (w : WayOut) → EndedByItself w → ended_by_itself w ≡ true
 ended_told WayOut.OutOfSteps h = absurd h
 ended_told (WayOut.Limited which) h = absurd h
 ended_told w h = refl
 
 -- ---- the heap
 
-fresh_tells : (m a b : ℕ) → (nat_eq m 0 || nat_eq a b) ≡ true → 0 < m → a ≡ b
+pub fresh_tells : (m a b : ℕ) → (nat_eq m 0 || nat_eq a b) ≡ true → 0 < m → a ≡ b
 fresh_tells m a b h l = by (nat_eq m 0) (nat_eq a b) refl refl h
   where
     by : (x y : Bool) → nat_eq m 0 ≡ x → nat_eq a b ≡ y → (x || y) ≡ true → a ≡ b
@@ -64,7 +64,7 @@ fresh_tells m a b h l = by (nat_eq m 0) (nat_eq a b) refl refl h
     by false true e f h = same_numbered f
     by false false e f h = absurd (let z : false ≡ true = h in cc)
 
-fresh_told : (m a b : ℕ) → (0 < m → a ≡ b) → (nat_eq m 0 || nat_eq a b) ≡ true
+pub fresh_told : (m a b : ℕ) → (0 < m → a ≡ b) → (nat_eq m 0 || nat_eq a b) ≡ true
 fresh_told m a b h = by (nat_eq m 0) refl
   where
     by : (x : Bool) → nat_eq m 0 ≡ x → (x || nat_eq a b) ≡ true
@@ -89,7 +89,7 @@ numbers_told (n ∷ ns) = and_both (nat_eq n n) (same_numbers ns ns) (number_sel
 bits_tell : (a b : SetBits) → same_numbers a.words b.words ≡ true → a ≡ b
 bits_tell a b h = λ i. record { words = numbers_tell a.words b.words h i }
 
-value_tells : (v w : Value) → same_value v w ≡ true → v ≡ w
+pub value_tells : (v w : Value) → same_value v w ≡ true → v ≡ w
 value_tells Value.Undefined Value.Undefined h = refl
 value_tells (Value.Number n) (Value.Number k) h = ap Value.Number (same_integer n k h)
 value_tells (Value.Bits a) (Value.Bits b) h = ap Value.Bits (bits_tell a b h)
@@ -104,7 +104,7 @@ value_tells (Value.Routine r a) (Value.Routine s b) h =
     λ i. Value.Routine (routine i) (frame i)
 value_tells v w h = absurd (let z : false ≡ true = h in cc)
 
-value_told : (v : Value) → same_value v v ≡ true
+pub value_told : (v : Value) → same_value v v ≡ true
 value_told Value.Undefined = refl
 value_told (Value.Number n) = integer_same n
 value_told (Value.Bits a) = numbers_told a.words
@@ -156,7 +156,7 @@ item_told : (x : Option ℕ) → is_same_item x x ≡ true
 item_told (Some x) = number_self x
 item_told None = refl
 
-items_tell : (xs : List ℕ) (at : ℕ) (ys : List ℕ) (from n : ℕ) → are_same_items xs at ys from n ≡ true → (k : ℕ) → k < n
+pub items_tell : (xs : List ℕ) (at : ℕ) (ys : List ℕ) (from n : ℕ) → are_same_items xs at ys from n ≡ true → (k : ℕ) → k < n
     → slice_get xs (at + k) ≡ slice_get ys (from + k)
 items_tell xs at ys from zero h k l = absurd (omega arith)
 items_tell xs at ys from (suc n) h k l =
@@ -166,7 +166,7 @@ items_tell xs at ys from (suc n) h k l =
       | inr q ↦ items_tell xs at ys from n b.0 k (let z = q.1 in omega arith)
     ]
 
-items_told : (xs : List ℕ) (at : ℕ) (ys : List ℕ) (from n : ℕ) → ((k : ℕ) → k < n → slice_get xs (at + k) ≡ slice_get ys (from + k))
+pub items_told : (xs : List ℕ) (at : ℕ) (ys : List ℕ) (from n : ℕ) → ((k : ℕ) → k < n → slice_get xs (at + k) ≡ slice_get ys (from + k))
     → are_same_items xs at ys from n ≡ true
 items_told xs at ys from zero h = refl
 items_told xs at ys from (suc n) h =

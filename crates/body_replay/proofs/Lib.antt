@@ -1,5 +1,5 @@
 pub mod AgreementByParts
-mod AgreementIsTested
+pub mod AgreementIsTested
 mod CallsCarry
 pub mod ChangesOneByOne
 mod ExitsAreGiven

@@ -35,8 +35,8 @@ in_pairs {X} P f (suc n) at h a x l k e = elim (eqb_tells a at) [
     head None q h r = absurd (none_some q)
     head (Some y) q h r = subst (λ b. P (b, x)) (sym r) (subst (λ y. P (at, y)) (some_same q) (h 0 (at, y) (omega arith)))
 
-seen_in : (σ : State) (base : ℕ) (w : List Touch) → All (λ (addr, seen). Shows (get σ.cells addr) seen) (reads_of base w) → (a : ℕ) → is_shared base a ≡ true
-    → IsSeen (get σ.cells a) (seen_at a w)
+pub seen_in : (σ : State) (base : ℕ) (w : List Touch) → All (λ (addr, seen). Shows (get σ.cells addr) seen) (reads_of base w) → (a : ℕ)
+    → is_shared base a ≡ true → IsSeen (get σ.cells a) (seen_at a w)
 unfolding listed
 seen_in σ base w h a q = by (seen_at a w) refl
   where
@@ -52,11 +52,11 @@ fold_least : (m : ℕ) (cs : List Call) → m ≤ fold max m (map (λ d. d.depth
 fold_least m [] = omega arith
 fold_least m (c ∷ cs) = omega (arith, fold_least (max m c.depth) cs, le-max_left m c.depth)
 
-shallow_below : (d e m b : ℕ) (cs : List Call) → fold max m (map (λ d. d.depth) cs) ≤ b → e + (b - d) ≤ most_depth → Shallow d e cs
+pub shallow_below : (d e m b : ℕ) (cs : List Call) → fold max m (map (λ d. d.depth) cs) ≤ b → e + (b - d) ≤ most_depth → Shallow d e cs
 shallow_below d e m b [] h k = tt
 shallow_below d e m b (c ∷ cs) h k = (omega (arith, h, k, fold_least (max m c.depth) cs, le-max_right m c.depth), shallow_below d e (max m c.depth) b cs h k)
 
-by_itself : (e : End) → EndedByItself (way_out e) → EndsByItself e
+pub by_itself : (e : End) → EndedByItself (way_out e) → EndsByItself e
 by_itself (Ended out) h = tt
 by_itself (Halted way) h = h
 

@@ -3,8 +3,8 @@ use Rattle.std.proofs.Common.{◌+◌, ◌-◌, ◌<◌, ◌∙◌, ◌≡◌, �
 use Rattle.std.proofs.Common.{inr, length, length-drop, max, nat_lt, refl, slice_index, subst, sym, take, true}
 use Rattle.std.proofs.lemmas.Bool.{cases_eq, cases_order, eqb-true, ltb-false, ltb-true}
 use Rattle.std.proofs.lemmas.List.{get_or-drop, get_or-take, length-take-le}
-use Rattle.weight_lanes.specs.{Places.IsSet, Places.IsWeightlessParent, Places.left_at, declared.choice.Choice.Choice}
-use Rattle.optimal_query.specs.Runs.{Field, IsBestAmong, IsBestFrom, IsField, MayBeAsked, better_of}
+use Rattle.weight_lanes.specs.{Places.IsSet, Places.IsWeightlessParent, Places.LeavesFewer, Places.left_at, declared.choice.Choice.Choice}
+use Rattle.optimal_query.specs.Runs.{Field, IsBelowWeightless, IsBestAmong, IsBestFrom, IsField, LeavesNoMore, MayBeAsked, better_of}
 
 pub cases_lt : (k b : ℕ) → (k < b) ⊎ (b ≤ k)
 cases_lt k b = elim (cases_order k b) [
@@ -174,7 +174,7 @@ seen_run field from to best next is seen run among =
     }
 
 -- the subtree of a call that weighs nothing is left out
-seen_past : (field : Field) (from : ℕ) (best : Option Choice) → IsField field → Seen field from best → from < field.end
+pub seen_past : (field : Field) (from : ℕ) (best : Option Choice) → IsField field → Seen field from best → from < field.end
     → slice_index field.weights from ≡ 0 → Seen field (slice_index field.last from + 1) best
 seen_past field from best is seen inside zero =
     let start : field.start ≤ from = seen.start in
@@ -197,40 +197,18 @@ seen_past field from best is seen inside zero =
     }
 
 -- a call alone is a run, if it weighs something
-pub run_of_one : (field : Field) (from : ℕ) → from < field.end → slice_index field.weights from ≢ 0 → IsRun field from (from + 1)
+run_of_one : (field : Field) (from : ℕ) → from < field.end → slice_index field.weights from ≢ 0 → IsRun field from (from + 1)
 run_of_one field from inside weighs = record {
   order = omega arith;
   inside = omega arith;
   run = λ call h i zero. let same : from ≡ call = omega arith in absurd (weighs (ap (slice_index field.weights) same ∙ zero));
 }
 
-weightless_is_no_choice : (field : Field) (from : ℕ) (next : Option Choice) → IsField field → field.start ≤ from → from < field.end
-    → slice_index field.weights from ≡ 0
-    → IsBestAmong (λ call. slice_index field.askable call ≢ 0) (left_at field.weights field.total) from (from + 1) next → next ≡ None
-weightless_is_no_choice field from None is start inside zero among = refl
-weightless_is_no_choice field from (Some choice) is start inside zero among =
-    let low : from ≤ choice.at = among.from_here in
-    let high : choice.at < from + 1 = among.inside in
-    let same : from ≡ choice.at = omega arith in
-    let weighs : 1 ≤ slice_index field.weights choice.at = is.weigh choice.at (omega arith) (omega arith) among.holds in
-    absurd (let l : ⊥ = omega (arith, ap (slice_index field.weights) same) in l)
-
-left_as_it_is : (best next : Option Choice) → next ≡ None → better_of best next ≡ best
-left_as_it_is None next e = e
-left_as_it_is (Some x) next e = ap (better_of (Some x)) e
-
--- with one call more, or where it weighs nothing one subtree
+-- with one call more that weighs something
 pub seen_one : (field : Field) (from : ℕ) (best next : Option Choice) → IsField field → Seen field from best → from < field.end
     → IsBestAmong (λ call. slice_index field.askable call ≢ 0) (left_at field.weights field.total) from (from + 1) next
-    → (nothing : Bool) → eqb (slice_index field.weights from) 0 ≡ nothing
-    → Seen field (cond nothing (slice_index field.last from + 1) (from + 1)) (better_of best next)
-seen_one field from best next is seen inside among true e =
-    let zero = eqb-true (slice_index field.weights from) 0 e in
-    let none = weightless_is_no_choice field from next is seen.start inside zero among in
-    subst (Seen field (slice_index field.last from + 1)) (sym (left_as_it_is best next none)) (seen_past field from best is seen inside zero)
-seen_one field from best next is seen inside among false e =
-    seen_run field from (from + 1) best next is seen
-    (run_of_one field from inside (λ zero. let t : eqb (slice_index field.weights from) 0 ≡ true = eq-eqb (slice_index field.weights from) 0 zero in cc)) among
+    → slice_index field.weights from ≢ 0 → Seen field (from + 1) (better_of best next)
+seen_one field from best next is seen inside among weighs = seen_run field from (from + 1) best next is seen (run_of_one field from inside weighs) among
 
 -- a call at which the search stands, and that nothing is said of, is a run alone
 pub run_of_unsaid : (field : Field) (from : ℕ) (best : Option Choice) → IsField field → Seen field from best → from < field.end
@@ -334,3 +312,118 @@ pub none_in_part : (weights askable : List ℕ) (from to : ℕ) → Between weig
 none_in_part weights askable from to between none call h i unsaid =
     let set = set_at weights askable from to call between h i unsaid in
     set.nonzero (none (call - from) 0 set.inside)
+
+-- what is the best stays so, where the calls after it leave no fewer
+stays : (P : ℕ → Type 0) (v : ℕ → ℕ) (a b c : ℕ) (best : Option Choice) → b ≤ c → IsBestAmong P v a b best
+    → ((call : ℕ) → b ≤ call → call < c → P call → LeavesNoMore best (v call)) → IsBestAmong P v a c best
+stays P v a b c None order none worse = λ k h i p. elim (cases_lt k b) [
+  | inl before ↦ none k h before p
+  | inr after ↦ worse k after i p
+]
+stays P v a b c (Some x) order bx worse = record {
+  from_here = bx.from_here;
+  inside = omega (arith, bx.inside);
+  holds = bx.holds;
+  left_is = bx.left_is;
+  least = λ k h i p. elim (cases_lt k b) [
+    | inl before ↦ bx.least k h before p
+    | inr after ↦ worse k after i p
+  ];
+  first = bx.first;
+}
+
+-- the calls from `from` up to `to` leave no fewer than the best so far, and those from there up to `past` stand in subtrees
+-- that weigh nothing
+pub record Passed (field : Field) (from to past : ℕ) (best : Option Choice) : Type 0 where
+  pub order : from ≤ to
+  pub inside : to ≤ field.end
+  pub worse : (call : ℕ) → from ≤ call → call < to → slice_index field.askable call ≢ 0 → LeavesNoMore best (left_at field.weights field.total call)
+  pub at_least : to ≤ past
+  pub beyond : (call : ℕ) → from ≤ call → call < to → slice_index field.weights call ≡ 0 → slice_index field.last call < past
+  pub hidden : (call : ℕ) → to ≤ call → call < past → IsBelowWeightless field.last field.weights from to call
+
+-- such a call may not be asked about
+hidden_is_not_asked : (field : Field) (from to past call : ℕ) (best : Option Choice) → Seen field from best → Passed field from to past best
+    → to ≤ call → call < past → ¬ MayBeAsked field call
+hidden_is_not_asked field from to past call best seen passed h i free =
+    let under = passed.hidden call h i in
+    let start : field.start ≤ from = seen.start in
+    let here : from ≤ under.above = under.from_here in
+    let before : under.above < to = under.inside in
+    let below : call ≤ slice_index field.last under.above = under.reaches in
+    let l : slice_index field.last under.above < call = free.free under.above (omega arith) (omega arith) under.weightless in
+    omega arith
+
+past_inside : (field : Field) (from to past : ℕ) (best : Option Choice) → IsField field → Seen field from best → Passed field from to past best
+    → past ≤ field.end
+past_inside field from to past best is seen passed = elim (cases_lt to past) [
+  | inl less ↦
+      let under = passed.hidden (past - 1) (omega arith) (omega arith) in
+      let start : field.start ≤ from = seen.start in
+      let here : from ≤ under.above = under.from_here in
+      let before : under.above < to = under.inside in
+      let end : to ≤ field.end = passed.inside in
+      let below : past - 1 ≤ slice_index field.last under.above = under.reaches in
+      let l : slice_index field.last under.above < field.end = is.within under.above (omega arith) (omega arith) in
+      omega arith
+  | inr not_less ↦ let end : to ≤ field.end = passed.inside in omega arith
+]
+
+ended_past : (field : Field) (from to past : ℕ) (best : Option Choice) → IsField field → Seen field from best → Passed field from to past best
+    → (above : ℕ) → field.start ≤ above → above < past → slice_index field.weights above ≡ 0 → slice_index field.last above < past
+ended_past field from to past best is seen passed above s h zero =
+    let order : from ≤ to = passed.order in
+    let least : to ≤ past = passed.at_least in
+    elim (cases_lt above from) [
+      | inl before ↦ let l : slice_index field.last above < from = seen.ended above s before zero in omega arith
+      | inr after ↦ elim (cases_lt above to) [
+        | inl between ↦ passed.beyond above after between zero
+        | inr late ↦
+            let under = passed.hidden above late h in
+            let before : under.above < to = under.inside in
+            let l : slice_index field.last above ≤ slice_index field.last under.above = is.nested under.above above (omega arith) under.reaches in
+            let k : slice_index field.last under.above < past = passed.beyond under.above under.from_here before under.weightless in
+            omega arith
+      ]
+    ]
+
+-- past calls that are no better
+pub seen_past_worse : (field : Field) (from to past : ℕ) (best : Option Choice) → IsField field → Seen field from best
+    → Passed field from to past best → Seen field past best
+seen_past_worse field from to past best is seen passed =
+    let start : field.start ≤ from = seen.start in
+    let order : from ≤ to = passed.order in
+    let least : to ≤ past = passed.at_least in
+    record {
+      start = omega arith;
+      end = past_inside field from to past best is seen passed;
+      ended = ended_past field from to past best is seen passed;
+      best_is = stays (MayBeAsked field) (left_at field.weights field.total) field.start from past best (omega arith) seen.best_is
+          (λ call h i free. elim (cases_lt call to) [
+            | inl before ↦ passed.worse call h before free.unsaid
+            | inr late ↦ absurd (hidden_is_not_asked field from to past call best seen passed late i free)
+          ]);
+    }
+
+-- where no call of the columns up to `end` leaves fewer than a bound
+pub no_fewer : (weights askable : List ℕ) (total bound end call : ℕ) → call < end → end ≤ length weights
+    → ¬ LeavesFewer (take end weights) (take end askable) total bound call → slice_index askable call ≢ 0 → bound ≤ left_at weights total call
+no_fewer weights askable total bound end call before inside not_fewer unsaid = elim (cases_lt (left_at weights total call) bound) [
+  | inl less ↦ absurd (not_fewer (record {
+    inside = omega (arith, length-take-le end weights inside);
+    nonzero = λ zero. unsaid (sym (get_or-take end askable call 0 before) ∙ zero);
+    fewer = subst (λ w. max (w - 1) (total - w) < bound) (sym (get_or-take end weights call 0 before)) less;
+  }))
+  | inr not_less ↦ not_less
+]
+
+-- with one call more
+pub hidden_more : (last weights : List ℕ) (from to call : ℕ) → IsBelowWeightless last weights from to call
+    → IsBelowWeightless last weights from (to + 1) call
+hidden_more last weights from to call under = record {
+  above = under.above;
+  from_here = under.from_here;
+  inside = omega (arith, under.inside);
+  weightless = under.weightless;
+  reaches = under.reaches;
+}

@@ -12,11 +12,12 @@ use Rattle.answer_book.proofs.WithdrawnLemmas.{entry_is_withdrawn, same_judgemen
 use Rattle.answer_book.specs.{Accused.accused_of, Accused.is_wrong, Answers.without_answer, InRange.IsInRange}
 use Rattle.answer_book.specs.Answers.{Answers, judge_answer, new_book, next_number, number_or_fault, take_back_answer, take_back_last_answer, with_answer}
 use Rattle.answer_book.specs.Entries.{entries_with, entries_without, entry_at, entry_saying, first_entries, is_standing, is_standing_entry, last_standing}
-use Rattle.answer_book.specs.Marks.{is_trusted, last_judgement, mark_given, mark_of, marks_of}
+use Rattle.answer_book.specs.Marks.{is_trusted, last_judgement, mark_by, mark_given, mark_of, marks_of}
 use Rattle.answer_book.specs.declared.entries.{BookFault.BookFault, Entry.Entry, Judgement.Judgement, Judgement.TheVariants.Wrong}
 use Rattle.answer_book.specs.declared.entries.What.{What, TheVariants.Judged, TheVariants.Trusted}
-use Rattle.optimal_query.proofs.OneMoreAnswer.{accused_is_last, at_mark, old_mark}
-use Rattle.optimal_query.specs.{Changed.ChangesCallsOf, Changed.ChangesOne, Changed.WereMarks, DebugKept.AreKept}
+use Rattle.optimal_query.proofs.OneMoreAnswer.{accused_is_last, at_mark, new_mark, old_mark}
+use Rattle.optimal_query.specs.{DebugKept.AreKept, Search.Search}
+use Rattle.optimal_query.specs.Changed.{ChangesCallsOf, ChangesOne, HadItsMark, MarkStays, WereMarks}
 
 -- the columns of calls are of one length
 pub one_length : (calls : List Call) {routine : List ℕ} {columns : Columns} → routines_of calls ≡ routine → columns_of calls ≡ columns
@@ -204,3 +205,34 @@ without_long entries place (Some entry) = length-set entries place (record { wha
 
 pub without_length : (entries : List Entry) (number : ℕ) → length (entries_without entries number) ≡ length entries
 without_length entries number = without_long entries (number - 1) (entry_at entries number)
+
+-- ---- where the mark stays
+
+-- a call that is judged as it was marked
+pub marked_so : (run : Recording) (book : Answers) (weighed : Weighed) (call : ℕ) (judgement : Judgement) → AreKept run book weighed
+    → call < length book.routine → mark_of book.routine (standing_answers book.entries) call ≡ mark_by judgement
+    → HadItsMark (with_answer book (Judged call judgement)) weighed.marks (Judged call judgement)
+marked_so run book weighed call judgement kept inside same =
+    let old = standing_answers book.entries in
+    ap (λ m. mark_at m call) kept.marks ∙ at_mark book.routine old call inside ∙ same
+    ∙ sym (ap (λ a. mark_of book.routine a call) (answers_with book.entries (Judged call judgement)) ∙ new_mark book.routine old call judgement)
+
+-- the entry that is taken back says what it is known to say
+says_so : (s : Search) (book : Answers) (number call : ℕ) (judgement : Judgement) (what : What) → s.book ≡ book
+    → entry_at s.book.entries number ≡ Some (entry_saying (Judged call judgement)) → entry_at book.entries number ≡ Some (entry_saying what)
+    → Judged call judgement ≡ what
+says_so s book number call judgement what is judged at =
+    ap (λ (e : Entry). e.what) (same_Some _ _ (sym judged ∙ ap (λ (b : Answers). entry_at b.entries number) is ∙ at))
+
+pub stays_so : (run : Recording) (book : Answers) (weighed : Weighed) (s : Search) (number : ℕ) (what : What) → AreKept run book weighed → s.book ≡ book
+    → entry_at book.entries number ≡ Some (entry_saying what) → IsInRange (length book.routine) book.routines what → MarkStays s number
+    → HadItsMark (without_answer book number) weighed.marks what
+stays_so run book weighed s number (Trusted routine) kept is at named m =
+    let said = says_so s book number m.call m.judgement (Trusted routine) is m.judged at in
+    absurd (let l : ⊥ = cc in l)
+stays_so run book weighed s number (Judged call judgement) kept is at named m =
+    let said = says_so s book number m.call m.judgement (Judged call judgement) is m.judged at in
+    let here : m.call ≡ call = cc in
+    ap (λ k. mark_at k call) kept.marks ∙ at_mark book.routine (standing_answers book.entries) call named
+    ∙ sym (λ i. mark_of (is i).routine (standing_answers (is i).entries) (here i)) ∙ sym m.same
+    ∙ (λ i. mark_of (is i).routine (standing_answers (entries_without (is i).entries number)) (here i))

@@ -3,10 +3,11 @@ use Rattle.std.specs.Prelude.{if◌then◌else◌, ◌*◌, ◌+◌, ◌<◌, �
 use Rattle.std.specs.Prelude.{nat_le, slice_index, slice_set, sum_by}
 use Rattle.call_tree.specs.declared.records.Mark.{Mark}
 use Rattle.subtree_weights.specs.Searched.{mark_at}
-use Rattle.answer_book.specs.{Answers.Answers, Entries.standing_answers, Marks.mark_of, Marks.marks_of}
-use Rattle.answer_book.specs.{Numbers.numbers_below, declared.entries.Entry.Entry}
+use Rattle.answer_book.specs.{Answers.Answers, Marks.mark_of, Marks.marks_of, Numbers.numbers_below}
+use Rattle.answer_book.specs.Entries.{entry_at, entry_saying, standing_answers}
+use Rattle.answer_book.specs.declared.entries.{Entry.Entry, Judgement.Judgement}
 use Rattle.answer_book.specs.declared.entries.What.{What, TheVariants.Judged, TheVariants.Trusted}
-use Rattle.optimal_query.specs.Search.{Search}
+use Rattle.optimal_query.specs.Search.{Search, mark_now, search_without}
 
 -- a judgement changes no mark but that of its call
 pub record ChangesOne (book : Answers) (marks : List Mark) (call : ℕ) : Type 0 where
@@ -24,6 +25,19 @@ pub record ChangesCallsOf (book : Answers) (marks : List Mark) (routine : ℕ) :
 abbrev pub WereMarks : Answers → List Mark → What → Type 0
 WereMarks book marks (Judged call judgement) = ChangesOne book marks call
 WereMarks book marks (Trusted routine) = ChangesCallsOf book marks routine
+
+-- the call that such an entry judges had the mark before that it has now
+abbrev pub HadItsMark : Answers → List Mark → What → Type 0
+HadItsMark book marks (Judged call judgement) =
+    mark_at marks call ≡ mark_of book.routine (standing_answers book.entries) call
+HadItsMark book marks (Trusted routine) = ⊥
+
+-- the entry of this number judges a call of which the mark stays when the entry is taken back
+pub record MarkStays (search : Search) (number : ℕ) : Type 0 where
+  pub call : ℕ
+  pub judgement : Judgement
+  pub judged : entry_at search.book.entries number ≡ Some (entry_saying (Judged call judgement))
+  pub same : mark_now (search_without search number) call ≡ mark_now search call
 
 -- a call of the routine counts with the calls above it, of which there are as many as it is deep; any other call
 -- counts nothing

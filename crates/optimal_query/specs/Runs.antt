@@ -60,3 +60,16 @@ abbrev pub better_of : Option Choice → Option Choice → Option Choice
 better_of None next = next
 better_of (Some best) None = Some best
 better_of (Some best) (Some next) = if nat_lt next.left best.left then Some next else Some best
+
+-- the best so far leaves no more than this
+abbrev pub LeavesNoMore : Option Choice → ℕ → Type 0
+LeavesNoMore None left = ⊥
+LeavesNoMore (Some best) left = best.left ≤ left
+
+-- the call stands in the subtree of a call from `from` up to `to` that weighs nothing
+pub record IsBelowWeightless (last weights : List ℕ) (from to call : ℕ) : Type 0 where
+  pub above : ℕ
+  pub from_here : from ≤ above
+  pub inside : above < to
+  pub weightless : slice_index weights above ≡ 0
+  pub reaches : call ≤ slice_index last above

@@ -2,7 +2,7 @@
 ghost use Rattle.std.specs.Prelude.{◌*◌, ◌+◌, ◌<◌, ◌≡◌, ◌≤◌, [], IfOk, length, map, slice_index};
 ghost use Rattle.std.specs.Option.{ForSome};
 ghost use Rattle.call_tree.specs.Recording.{depths_of, routines_of};
-ghost use Rattle.subtree_weights.specs.{RunColumns.columns_of, Weights.suspects_below};
+ghost use Rattle.subtree_weights.specs.{RunColumns.columns_of, Searched.mark_at, Weights.suspects_below};
 ghost use Rattle.subtree_weights.specs.Weighed.{call_count, unjudged, with_mark, with_marks};
 ghost use Rattle.answer_book.specs.{Entries.standing_answers, Marks.marks_of};
 ghost use Rattle.answer_book.specs.declared.entries.What.TheVariants as what;
@@ -150,16 +150,20 @@ impl Markings {
         })
     }
 
-    /// Changes the mark of one call.
+    /// Changes the mark of one call, which takes no step where that is the mark it has.
     pub fn set<L>(&mut self, calls: &Calls, call: u32, mark: Mark, steps: &mut Steps<L>)
         requires those_calls { columns_of calls.now.calls ≡ self.old.columns }
         requires a_call { call < call_count self.old }
         ensures changed { self.new ≡ with_mark self.old call mark }
         ensures not_fallen { steps.old ≤ steps.new }
         ensures cost { steps.new ≤ steps.old + slice_index self.old.columns.depth call + 1 }
+        ensures costs_nothing { mark_at self.old.marks call ≡ mark → steps.new ≡ steps.old }
     {
         let place = call as usize;
         let before = self.marks[place];
+        if before == mark {
+            return;
+        }
         self.weights.changed(calls, call, before, mark, steps);
         self.marks[place] = mark;
         self.askable[place] = flag(mark);

@@ -1,11 +1,14 @@
 //! The question, found run by run: the kernel `best` looks at each long run of calls between the
-//! subtrees in which no suspect stands. Where runs are short, the calls are looked at one by one, which
-//! is then as fast.
+//! subtrees in which no suspect stands. Where runs are short, a kernel first passes over all calls that
+//! leave no fewer suspects than the best so far, whether they stand in such a subtree or not; what is
+//! left is looked at one by one.
 ghost use Rattle.std.specs.Prelude.{if◌then◌else◌, ◌+◌, ◌<◌, ◌==◌, ◌≡◌, ◌≢◌, ◌≤◌, ℕ, length, slice_index};
+ghost use Rattle.std.specs.Option.{ForSome};
 ghost use Rattle.weight_lanes.specs.Places.{left_at};
-ghost use Rattle.optimal_query.specs.Runs.{IsBestAmong, IsField, MayBeAsked, better_of, field_of};
+ghost use Rattle.optimal_query.specs.Runs.{IsBelowWeightless, IsBestAmong, IsField, LeavesNoMore, MayBeAsked};
+ghost use Rattle.optimal_query.specs.Runs.{better_of, field_of};
 
-use weight_lanes::{Choice, best, left_after, next_weightless_parent};
+use weight_lanes::{Choice, best, left_after, next_leaving_fewer, next_weightless_parent};
 
 /// From how many calls on a run is worth the kernels.
 const LONG: usize = 64;
@@ -81,20 +84,55 @@ fn run_end(last: &[u32], weights: &[u32], from: usize, end: usize) -> usize
     }
 }
 
-/// The next call, or where this one weighs nothing the one after its subtree.
-fn next_place(last: &[u32], weights: &[u32], call: usize) -> usize
-    requires a_call { call < length last.now }
-    requires same_length { length weights.now ≡ length last.now }
-    requires from_itself { call ≤ slice_index last.now call }
-    ensures place { result ≡
-        (if slice_index weights.now call == 0 then slice_index last.now call + 1 else call + 1) }
-    ensures later { call < result }
+/// The first call from `from` on that may be better than the best so far, unless it stands in a subtree
+/// that weighs nothing: `from` itself while nothing is the best. At the end where there is none.
+fn next_better(
+    weights: &[u32],
+    askable: &[u8],
+    total: u32,
+    best: Option<Choice>,
+    from: usize,
+    end: usize,
+) -> usize
+    requires order { from ≤ end }
+    requires inside { end ≤ length weights.now }
+    requires same_length { length askable.now ≡ length weights.now }
+    requires at_most_total { ForSome best (λ best. best.left ≤ total) }
+    ensures order { from ≤ result }
+    ensures inside { result ≤ end }
+    ensures worse { (call : ℕ) → from ≤ call → call < result → slice_index askable.now call ≢ 0 →
+        LeavesNoMore best (left_at weights.now total call) }
 {
-    if weights[call] == 0 {
-        last[call] as usize + 1
-    } else {
-        call + 1
+    let Some(best) = best else {
+        return from;
+    };
+    match next_leaving_fewer(&weights[..end], &askable[..end], total, from, best.left) {
+        Some(call) => call,
+        None => end,
     }
+}
+
+/// The first call from `to` on that stands in no subtree of a call from `from` up to `to` which weighs
+/// nothing.
+fn past_weightless(last: &[u32], weights: &[u32], from: usize, to: usize) -> usize
+    requires order { from < to }
+    requires inside { to ≤ length weights.now }
+    requires same_length { length weights.now ≡ length last.now }
+    ensures at_least { to ≤ result }
+    ensures beyond { (call : ℕ) → from ≤ call → call < to → slice_index weights.now call ≡ 0 →
+        slice_index last.now call < result }
+    ensures hidden { (call : ℕ) → to ≤ call → call < result →
+        IsBelowWeightless last.now weights.now from to call }
+{
+    let mut reached = 0_u32;
+    for call in from..to {
+        // It is read in any case, so that the compiler makes vectors of the loop.
+        let end = last[call];
+        if weights[call] == 0 {
+            reached = reached.max(end);
+        }
+    }
+    to.max(reached as usize + 1)
 }
 
 /// Of the calls from `start` up to `end` that nothing is said of, and that stand in no subtree which
@@ -113,10 +151,15 @@ pub(crate) fn best_of_runs(
 {
     let mut best = None;
     let mut from = start;
-    // Up to here the calls are looked at one by one, since the last run was short.
+    // Up to here the calls are looked at one by one, since the kernels passed over few.
     let mut alone = start;
     'calls: while from < end {
         if alone <= from {
+            let to = next_better(weights, askable, total, best, from, end);
+            if LONG <= to - from {
+                from = past_weightless(last, weights, from, to);
+                continue 'calls;
+            }
             let to = run_end(last, weights, from, end);
             if LONG <= to - from {
                 best = better(best, best_between(weights, askable, total, from, to));
@@ -125,8 +168,12 @@ pub(crate) fn best_of_runs(
             }
             alone = from + LONG;
         }
+        if weights[from] == 0 {
+            from = last[from] as usize + 1;
+            continue 'calls;
+        }
         best = better(best, choice_at(weights, askable, total, from));
-        from = next_place(last, weights, from);
+        from += 1;
     }
     best
 }

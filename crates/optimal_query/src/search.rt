@@ -3,11 +3,11 @@ ghost use Rattle.std.specs.Prelude.{◌*◌, ◌+◌, ◌<◌, ◌≡◌, ◌≤
 ghost use Rattle.std.specs.Option.{ForSome};
 ghost use Rattle.call_tree.specs.Recording.{routines_of};
 ghost use Rattle.subtree_weights.specs.{RunColumns.columns_of, Weighed.with_marks};
-ghost use Rattle.answer_book.specs.{Accused.accused_of, InRange.IsInRange, Marks.marks_of};
+ghost use Rattle.answer_book.specs.{Accused.accused_of, InRange.IsInRange, Marks.mark_by, Marks.marks_of};
 ghost use Rattle.answer_book.specs.Answers.{judge_answer, take_back_answer, take_back_last_answer, trust_answer};
 ghost use Rattle.answer_book.specs.Entries.{entry_at, standing_answers};
 ghost use Rattle.answer_book.specs.declared.entries.What.TheVariants as what;
-ghost use Rattle.optimal_query.specs.Changed.{WereMarks, change_steps, most_steps_at};
+ghost use Rattle.optimal_query.specs.Changed.{HadItsMark, MarkStays, WereMarks, change_steps, most_steps_at};
 ghost use Rattle.optimal_query.specs.Search.{mark_now, new_search, next_doubt, search_over, search_with};
 ghost use Rattle.optimal_query.specs.Search.{search_without, state_now};
 
@@ -22,7 +22,8 @@ use std::marker::Model;
 /// A search over these calls. Clauses see the columns of the calls, and the book.
 ///
 /// No call but `new` and `with_entries` takes memory. A change that is refused leaves the search as
-/// it was. A step is one visit of the columns of weights and marks at one call.
+/// it was. A step is one visit of the columns of weights and marks at one call; a judgement that is
+/// made or taken back takes none where the mark of its call stays.
 #[derive(Drop)]
 pub struct Debug<'a> {
     calls: &'a Calls,
@@ -52,6 +53,7 @@ fn follow<L>(calls: &Calls, book: &Book, markings: &mut Markings, what: What, st
         (marks_of book.now.routine (standing_answers book.now.entries)) }
     ensures not_fallen { steps.old ≤ steps.new }
     ensures cost { steps.new ≤ steps.old + change_steps markings.old.columns.depth book.now.routine what }
+    ensures costs_nothing { HadItsMark book.now markings.old.marks what → steps.new ≡ steps.old }
 {
     match what {
         What::Judged(call, _) => {
@@ -124,6 +126,7 @@ impl<'a> Debug<'a> {
         ensures not_fallen { steps.old ≤ steps.new }
         ensures cost { steps.new ≤ steps.old
             + change_steps self.old.depth self.old.book.routine (what.Judged call judgement) }
+        ensures mark_stays { mark_now self.old call ≡ mark_by judgement → steps.new ≡ steps.old }
     {
         match self.book.judge(call, judgement) {
             Ok(number) => {
@@ -163,6 +166,7 @@ impl<'a> Debug<'a> {
         ensures unchanged { OnErr result (self.new ≡ self.old) }
         ensures not_fallen { steps.old ≤ steps.new }
         ensures cost { steps.new ≤ steps.old + most_steps_at self.old (entry_at self.old.book.entries entry) }
+        ensures mark_stays { MarkStays self.old entry → steps.new ≡ steps.old }
     {
         match self.book.take_back(entry) {
             Ok(()) => {
@@ -183,6 +187,7 @@ impl<'a> Debug<'a> {
         ensures not_fallen { steps.old ≤ steps.new }
         ensures cost { IfOk result (λ number. steps.new ≤
             steps.old + most_steps_at self.old (entry_at self.old.book.entries number)) }
+        ensures mark_stays { IfOk result (λ number. MarkStays self.old number → steps.new ≡ steps.old) }
         ensures costs_nothing { OnErr result (steps.new ≡ steps.old) }
     {
         match self.book.take_back_last() {

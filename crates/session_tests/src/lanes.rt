@@ -6,7 +6,8 @@ ghost use Rattle.weight_lanes.specs.Places.{AreWeighed};
 use std::process::Abort;
 use std::test::*;
 use weight_lanes::{
-    Choice, best_both_ways, last_set_both_ways, next_of_both_ways, next_weightless_parent_both_ways,
+    Choice, best_both_ways, last_set_both_ways, next_leaving_fewer_both_ways, next_of_both_ways,
+    next_weightless_parent_both_ways,
 };
 
 fn are_weighed(weights: &[u32], askable: &[u8], total: u32) -> bool
@@ -42,6 +43,20 @@ fn parent_is(rt: &impl Abort, weights: &[u32], last: &[u32], from: usize, expect
     assert!(rt; by_lanes == expected && by_loop == expected);
 }
 
+/// Both searches for the first call of which the worse answer leaves fewer than `bound` find this one.
+fn fewer_is(
+    rt: &impl Abort,
+    weights: &[u32],
+    askable: &[u8],
+    total: u32,
+    bound: u32,
+    expected: Option<usize>,
+) {
+    assert!(rt; weights.len() == askable.len() && bound <= total);
+    let (by_lanes, by_loop) = next_leaving_fewer_both_ways(weights, askable, total, 0, bound);
+    assert!(rt; by_lanes == expected && by_loop == expected);
+}
+
 /// Both searches for the last flag that is set find this one.
 fn last_is(rt: &impl Abort, flags: &[u8], expected: Option<usize>) {
     let (by_lanes, by_loop) = last_set_both_ways(flags);
@@ -65,6 +80,11 @@ fn searches(rt: HostRuntime) {
     best_is(&rt, &weights, &askable, most, leaves(2_147_483_647, 33));
     next_is(&rt, &weights, 0, most, Some(20));
     next_is(&rt, &weights, 21, most, None);
+    fewer_is(&rt, &weights[1..], &askable[1..], 5, 5, Some(0));
+    fewer_is(&rt, &weights[20..21], &askable[20..21], 5, 5, None);
+    fewer_is(&rt, &[most; 16], &[1; 16], 5, 5, None);
+    fewer_is(&rt, &[0; 16], &[1; 16], 5, 5, None);
+    fewer_is(&rt, &[5; 16], &[1; 16], 5, 5, Some(0));
     last_is(&rt, &askable, Some(39));
     askable[32..].fill(0);
     last_is(&rt, &askable, Some(31));
@@ -103,6 +123,15 @@ fn found_at(rt: &impl Abort, length: usize, place: usize) {
         leaves(3, place),
     );
     next_is(rt, &weights[..length], 0, 2, Some(place));
+    fewer_is(
+        rt,
+        &weights[..length],
+        &askable[..length],
+        5,
+        4,
+        Some(place),
+    );
+    fewer_is(rt, &weights[..length], &askable[..length], 5, 3, None);
     last_is(rt, &askable[..length], Some(place));
 }
 

@@ -2,7 +2,7 @@
 use Rattle.std.proofs.Common.{◌<◌, ◌∙◌, ◌≡◌, ◌≢◌, ◌≤◌, ℕ, ⊎_elim, All, List, None, Option, Some, ap, arith, refl, sym}
 use Rattle.std.proofs.lemmas.Bool.{cases_lt}
 use Rattle.weight_lanes.specs.{Places.IsSet, Places.left_at, declared.choice.Choice.Choice}
-use Rattle.weight_lanes.specs.Answers.{IsBest, IsLastSet, IsNext, IsNextWeightlessParent}
+use Rattle.weight_lanes.specs.Answers.{IsBest, IsLastSet, IsNext, IsNextWeightlessParent, IsNextWhere}
 
 pub one_next : (column : List ℕ) (from value : ℕ) (r s : Option ℕ) → IsNext column from value r → IsNext column from value s → r ≡ s
 one_next column from value None None is is' = refl
@@ -20,6 +20,16 @@ one_next_weightless_parent weights last from None None is is' = refl
 one_next_weightless_parent weights last from None (Some q) is is' = absurd (is.none.0 refl q is'.at_least is'.holds)
 one_next_weightless_parent weights last from (Some p) None is is' = absurd (is'.none.0 refl p is.at_least is.holds)
 one_next_weightless_parent weights last from (Some p) (Some q) is is' =
+    let a = is.least q is'.at_least is'.holds in
+    let b = is'.least p is.at_least is.holds in
+    let e : p ≡ q = omega arith in
+    ap (λ (x : ℕ). Some x) e
+
+pub one_next_where : (Q : ℕ → Type 0) (from : ℕ) (r s : Option ℕ) → IsNextWhere Q from r → IsNextWhere Q from s → r ≡ s
+one_next_where Q from None None is is' = refl
+one_next_where Q from None (Some q) is is' = absurd (is.none.0 refl q is'.at_least is'.holds)
+one_next_where Q from (Some p) None is is' = absurd (is'.none.0 refl p is.at_least is.holds)
+one_next_where Q from (Some p) (Some q) is is' =
     let a = is.least q is'.at_least is'.holds in
     let b = is'.least p is.at_least is.holds in
     let e : p ≡ q = omega arith in

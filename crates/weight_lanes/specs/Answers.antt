@@ -32,3 +32,10 @@ pub record IsLastSet (flags : List ℕ) (answer : Option ℕ) : Type 0 where
   pub none : IsNone answer ↔ All (λ flag. flag ≡ 0) flags
   pub set : IfSome answer (λ place. IsSet flags place)
   pub greatest : IfSome answer (λ place. (other : ℕ) → IsSet flags other → other ≤ place)
+
+-- the least place of at least `from` that has the property
+pub record IsNextWhere (Q : ℕ → Type 0) (from : ℕ) (answer : Option ℕ) : Type 0 where
+  pub none : IsNone answer ↔ ((place : ℕ) → from ≤ place → ¬ Q place)
+  pub holds : IfSome answer (λ place. Q place)
+  pub at_least : IfSome answer (λ place. from ≤ place)
+  pub least : IfSome answer (λ place. (other : ℕ) → from ≤ other → Q other → place ≤ other)

@@ -32,3 +32,9 @@ left_at weights total place = left_of total (slice_index weights place)
 pub record AreWeighed (weights askable : List ℕ) (total : ℕ) : Type 0 where
   pub at_least_one : (place : ℕ) → IsSet askable place → 1 ≤ slice_index weights place
   pub at_most_total : (place : ℕ) → IsSet askable place → slice_index weights place ≤ total
+
+-- the place may be asked about, and the worse answer there leaves fewer than `bound` of `total` suspects
+pub record LeavesFewer (weights askable : List ℕ) (total bound place : ℕ) : Type 0 where
+  pub inside : place < length weights
+  pub nonzero : slice_index askable place ≢ 0
+  pub fewer : left_at weights total place < bound

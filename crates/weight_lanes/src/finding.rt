@@ -1,11 +1,11 @@
-//! The next place that holds a value, the next call that weighs nothing and has calls below it, and the
-//! last place whose flag is set.
+//! The next place that holds a value, the next call that weighs nothing and has calls below it, the next
+//! one of which the worse answer leaves few suspects, and the last place whose flag is set.
 
 ghost use Rattle.std.specs.Prelude.{◌↔◌, ◌≡◌, ◌≤◌, ℕ, All, IfSome, IsNone, length};
-ghost use Rattle.weight_lanes.specs.Places.{Holds, IsSet, IsWeightlessParent};
+ghost use Rattle.weight_lanes.specs.Places.{Holds, IsSet, IsWeightlessParent, LeavesFewer};
 
 use crate::bits::{highest, lowest};
-use crate::lanes::{FLAGS, NUMBERS, equal_at, set_at, weightless_parents_at};
+use crate::lanes::{FLAGS, NUMBERS, equal_at, fewer_at, set_at, weightless_parents_at};
 use crate::plain;
 
 /// The least place of at least `from` that holds the value. None where there is none, also where
@@ -56,6 +56,38 @@ pub fn next_weightless_parent(weights: &[u32], last: &[u32], from: usize) -> Opt
         at += NUMBERS;
     }
     plain::next_weightless_parent(weights, last, at)
+}
+
+/// The least place of at least `from` that may be asked about and of which the worse answer leaves fewer
+/// than `bound` suspects. None where there is none, also where `from` is beyond the end.
+pub fn next_leaving_fewer(
+    weights: &[u32],
+    askable: &[u8],
+    total: u32,
+    from: usize,
+    bound: u32,
+) -> Option<usize>
+    requires same_length { length weights.now ≡ length askable.now }
+    requires at_most_total { bound ≤ total }
+    ensures none { IsNone result ↔ ((place : ℕ) → from ≤ place →
+        ¬ LeavesFewer weights.now askable.now total bound place) }
+    ensures fewer { IfSome result (λ place. LeavesFewer weights.now askable.now total bound place) }
+    ensures at_least { IfSome result (λ place. from ≤ place) }
+    ensures least { IfSome result (λ place. (other : ℕ) → from ≤ other →
+        LeavesFewer weights.now askable.now total bound other → place ≤ other) }
+{
+    if weights.len() < from {
+        return None;
+    }
+    let mut at = from;
+    'search: while NUMBERS <= weights.len() - at {
+        let hits = fewer_at(weights, askable, total, at, bound);
+        if hits != 0 {
+            return Some(at + lowest(hits));
+        }
+        at += NUMBERS;
+    }
+    plain::next_leaving_fewer(weights, askable, total, at, bound)
 }
 
 /// The greatest place whose flag is not 0. None where all are 0.

@@ -2,7 +2,7 @@
 
 ghost use Rattle.std.specs.Prelude.{if◌then◌else◌, ◌%◌, ◌+◌, ◌-◌, ◌==◌, ◌≡◌, ◌≢◌, ◌≤◌, length, max, min, slice_index};
 ghost use Rattle.weight_lanes.specs.Lanes.{HasLanes, HasNumber, MarksLanes, lane_number};
-ghost use Rattle.weight_lanes.specs.Places.{AreWeighed, IsWeightlessParent};
+ghost use Rattle.weight_lanes.specs.Places.{AreWeighed, IsWeightlessParent, LeavesFewer};
 
 use std::simd::prelude::*;
 
@@ -168,4 +168,22 @@ pub(crate) fn numbered_at(
     numbers_from(weights, askable, total, at)
         .simd_eq(u32x16::splat(number))
         .to_bitmask()
+}
+
+/// At which of the places from `at` on, of those that may be asked about, the worse answer leaves fewer
+/// than `bound` suspects.
+#[inline(always)]
+pub(crate) fn fewer_at(weights: &[u32], askable: &[u8], total: u32, at: usize, bound: u32) -> u64
+    requires in_weights { at + 16 ≤ length weights.now }
+    requires same_length { length weights.now ≡ length askable.now }
+    requires at_most_total { bound ≤ total }
+    ensures { MarksLanes (λ lane. LeavesFewer weights.now askable.now total bound (at + lane)) 16 result }
+{
+    // Lanes of weights beyond `total` wrap, to numbers from `total` on.
+    where_set(
+        flags_from(askable, at),
+        lefts(weights_from(weights, at), total),
+    )
+    .simd_lt(u32x16::splat(bound))
+    .to_bitmask()
 }

@@ -1,12 +1,12 @@
 //! Each search and its plain loop give one answer.
 
-ghost use Rattle.std.specs.Prelude.{◌≡◌, length};
-ghost use Rattle.weight_lanes.specs.Answers.{IsBest, IsLastSet, IsNext, IsNextWeightlessParent};
-ghost use Rattle.weight_lanes.specs.Places.{AreWeighed};
+ghost use Rattle.std.specs.Prelude.{◌≡◌, ◌≤◌, length};
+ghost use Rattle.weight_lanes.specs.Answers.{IsBest, IsLastSet, IsNext, IsNextWeightlessParent, IsNextWhere};
+ghost use Rattle.weight_lanes.specs.Places.{AreWeighed, LeavesFewer};
 
 use crate::choice::Choice;
 use crate::choosing::best;
-use crate::finding::{last_set, next_of, next_weightless_parent};
+use crate::finding::{last_set, next_leaving_fewer, next_of, next_weightless_parent};
 use crate::plain;
 
 /// What `best` and `plain::best` answer.
@@ -47,6 +47,24 @@ pub fn next_weightless_parent_both_ways(
 {
     let by_lanes = next_weightless_parent(weights, last, from);
     let by_loop = plain::next_weightless_parent(weights, last, from);
+    (by_lanes, by_loop)
+}
+
+/// What `next_leaving_fewer` and `plain::next_leaving_fewer` answer.
+pub fn next_leaving_fewer_both_ways(
+    weights: &[u32],
+    askable: &[u8],
+    total: u32,
+    from: usize,
+    bound: u32,
+) -> (Option<usize>, Option<usize>)
+    requires same_length { length weights.now ≡ length askable.now }
+    requires at_most_total { bound ≤ total }
+    ensures answer { IsNextWhere (LeavesFewer weights.now askable.now total bound) from result.0 }
+    ensures same { result.0 ≡ result.1 }
+{
+    let by_lanes = next_leaving_fewer(weights, askable, total, from, bound);
+    let by_loop = plain::next_leaving_fewer(weights, askable, total, from, bound);
     (by_lanes, by_loop)
 }
 

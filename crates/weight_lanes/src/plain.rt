@@ -1,7 +1,7 @@
 //! The searches as plain loops.
 
 ghost use Rattle.std.specs.Prelude.{◌<◌, ◌↔◌, ◌≡◌, ◌≢◌, ◌≤◌, ℕ, All, IfSome, IsNone, IsTrue, length};
-ghost use Rattle.weight_lanes.specs.Places.{AreWeighed, Holds, IsSet, IsWeightlessParent, left_at};
+ghost use Rattle.weight_lanes.specs.Places.{AreWeighed, Holds, IsSet, IsWeightlessParent, LeavesFewer, left_at};
 
 use crate::choice::{Choice, better, left_after};
 
@@ -68,6 +68,42 @@ pub fn next_weightless_parent(weights: &[u32], last: &[u32], from: usize) -> Opt
 {
     for place in from..weights.len() {
         if is_weightless_parent(weights, last, place) {
+            return Some(place);
+        }
+    }
+    None
+}
+
+/// Whether the place may be asked about, and the worse answer there leaves fewer than `bound` suspects.
+fn leaves_fewer(weights: &[u32], askable: &[u8], total: u32, bound: u32, place: usize) -> bool
+    requires inside { place < length weights.now }
+    requires same_length { length weights.now ≡ length askable.now }
+    ensures { IsTrue result ↔ LeavesFewer weights.now askable.now total bound place }
+{
+    let weight = weights[place];
+    askable[place] != 0 && weight.saturating_sub(1).max(total.saturating_sub(weight)) < bound
+}
+
+/// The least place of at least `from` that may be asked about and of which the worse answer leaves fewer
+/// than `bound` suspects. None where there is none, also where `from` is beyond the end.
+pub fn next_leaving_fewer(
+    weights: &[u32],
+    askable: &[u8],
+    total: u32,
+    from: usize,
+    bound: u32,
+) -> Option<usize>
+    requires same_length { length weights.now ≡ length askable.now }
+    requires at_most_total { bound ≤ total }
+    ensures none { IsNone result ↔ ((place : ℕ) → from ≤ place →
+        ¬ LeavesFewer weights.now askable.now total bound place) }
+    ensures fewer { IfSome result (λ place. LeavesFewer weights.now askable.now total bound place) }
+    ensures at_least { IfSome result (λ place. from ≤ place) }
+    ensures least { IfSome result (λ place. (other : ℕ) → from ≤ other →
+        LeavesFewer weights.now askable.now total bound other → place ≤ other) }
+{
+    for place in from..weights.len() {
+        if leaves_fewer(weights, askable, total, bound, place) {
             return Some(place);
         }
     }
