@@ -31,7 +31,7 @@ pub record Calm (r : Rule) {A : Type 0} (m : Step A) : Type 0 where
   pub turn : (done : List r.X) (j : Known) → r.Turn done j → r.Turn done (m j).known
   pub none : (j : Known) → In r.b (m j).broken → ⊥
 
-wrong_parts : (r : Rule) (done xs ys : List r.X) → Wrong r done (xs ++ ys) → Wrong r done xs ⊎ Wrong r (done ++ xs) ys
+pub wrong_parts : (r : Rule) (done xs ys : List r.X) → Wrong r done (xs ++ ys) → Wrong r done xs ⊎ Wrong r (done ++ xs) ys
 wrong_parts r done [] ys w = inr (subst (λ d. Wrong r d ys) (sym (append-nil done)) w)
 wrong_parts r done (x ∷ xs) ys (inl w) = inl (inl w)
 wrong_parts r done (x ∷ xs) ys (inr w) = elim (wrong_parts r (done ++ x ∷ []) xs ys w) [

@@ -198,3 +198,19 @@ label_part_law k here part before label after below same one =
       (λ w. contained b bs (ends.back (subst (λ (l : List ℕ). Wrong (rule_two p) [] l) (sym same)
           (one_wrong (rule_two p) [] before label after refl w)))),
     )
+
+or_true : (b : Bool) → (b || true) ≡ true
+or_true true = refl
+or_true false = refl
+
+-- a label that one before it is equal to
+pub labels_told : (k : Known) (here : Frame) (part : Option LabelPart) (before : List ℕ) (label : ℕ) (after : List ℕ) → here.region < length k.regions
+    → labels_of part ≡ before ++ label ∷ after → list_any (λ y. nat_eq (label_at k label) (label_at k y)) before ≡ true
+    → In (broken_at 2 label) (define_labels here part k).broken
+labels_told k here part before label after below same second =
+    let p : LabelPartOf = record { k = k; here = here; t = label } in
+    let begun : Turn p [] k = record { words = refl; there = below; labels = λ v. sym (or_none (is_some (declared_in k.regions here.region v))) } in
+    let ends = (part_goes p part).of [] k begun in
+    let bad = ap (λ b. is_some (declared_in k.regions here.region (label_at k label)) || b) second
+    ∙ or_true (is_some (declared_in k.regions here.region (label_at k label))) in
+    ends.back (subst (λ (l : List ℕ). Wrong (rule_two p) [] l) (sym same) (one_wrong (rule_two p) [] before label after refl bad))

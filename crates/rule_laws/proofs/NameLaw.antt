@@ -89,7 +89,7 @@ mutual
   indexes_go p end_of-NextDenoter = goes_nowhere tt
   indexes_go p (more_of-NextDenoter comma d rest) = goes_then (denoter_names d) (index_names rest) (denoter_goes p d) (λ _. indexes_go p rest)
 
-  fields_go : (p : Region) (w : Wanted) (f : Fields) → Goes (rule_two p) (field_names w f) (define_in_fields w p.region f)
+  pub fields_go : (p : Region) (w : Wanted) (f : Fields) → Goes (rule_two p) (field_names w f) (define_in_fields w p.region f)
   fields_go p w Empty = goes_nowhere tt
   fields_go p w (Fixed' fixed variants last) =
       goes_then (fixed_names w fixed) (held_names w variants) (fixed_goes p w fixed) (λ _. held_goes p w variants)
@@ -134,7 +134,7 @@ constants_go p [] = goes_nowhere tt
 constants_go p (d ∷ ds) = goes_then (d.name ∷ []) (constant_names ds)
     (define_goes p (record { def = Def.Constant d.name; token = d.name; end = d.semicolon })) (λ _. constants_go p ds)
 
-constant_part_goes : (p : Region) (c : Option ConstantPart) → Goes (rule_two p) (constants_of c) (define_constants p.region c)
+pub constant_part_goes : (p : Region) (c : Option ConstantPart) → Goes (rule_two p) (constants_of c) (define_constants p.region c)
 constant_part_goes p None = goes_nowhere tt
 constant_part_goes p (Some c) = constants_go p (constants_in c)
 
@@ -145,7 +145,7 @@ types_go p (d ∷ ds) = goes_then (d.name ∷ denoter_names d.denoter) (type_nam
     (goes_then (d.name ∷ []) (denoter_names d.denoter) (define_goes p (record { def = Def.TypeName d.name; token = d.name; end = d.semicolon }))
     (λ _. denoter_goes p d.denoter)) (λ _. types_go p ds)
 
-type_part_goes : (p : Region) (c : Option TypePart) → Goes (rule_two p) (types_of c) (define_types p.region c)
+pub type_part_goes : (p : Region) (c : Option TypePart) → Goes (rule_two p) (types_of c) (define_types p.region c)
 type_part_goes p None = goes_nowhere tt
 type_part_goes p (Some c) = types_go p (types_in c)
 
@@ -156,7 +156,7 @@ variables_go p (d ∷ ds) = goes_then (listed_names d.names ++ denoter_names d.d
     (goes_then (listed_names d.names) (denoter_names d.denoter) (names_go p NameKind.Variable d.names) (λ _. denoter_goes p d.denoter))
     (λ _. variables_go p ds)
 
-variable_part_goes : (p : Region) (c : Option VariablePart) → Goes (rule_two p) (variables_of c) (define_variables p.region c)
+pub variable_part_goes : (p : Region) (c : Option VariablePart) → Goes (rule_two p) (variables_of c) (define_variables p.region c)
 variable_part_goes p None = goes_nowhere tt
 variable_part_goes p (Some c) = variables_go p (variables_in c)
 
@@ -186,7 +186,7 @@ unfolding change
 row_calm p n r = record { turn = λ done j t. record { words = t.words; spellings = t.spellings; there = t.there; names = t.names }; none = λ j i. absurd i }
 
 -- one more label leaves the names
-label_turn : (p : Region) (done : List ℕ) (j : Known) (value token : ℕ) → Turn p done j → Turn p done (and_label j p.region value token)
+pub label_turn : (p : Region) (done : List ℕ) (j : Known) (value token : ℕ) → Turn p done j → Turn p done (and_label j p.region value token)
 label_turn p done j value token t =
     let rows = region_at j.regions p.region in
     let more = record rows { labels = rows.labels ++ (value, token) ∷ [] } in
@@ -302,7 +302,7 @@ unfolding define_next_formal
 formals_go p [] = goes_nowhere tt
 formals_go p (n ∷ ns) = goes_then (formal_names n.formal) (other_formal_names ns) (formal_goes p n.formal) (λ _. formals_go p ns)
 
-held_formals_go : (p : Region) (f : Option Formals) → Goes (rule_two p) (formals_names f) (define_held_formals p.region f)
+pub held_formals_go : (p : Region) (f : Option Formals) → Goes (rule_two p) (formals_names f) (define_held_formals p.region f)
 held_formals_go p None = goes_nowhere tt
 held_formals_go p (Some f) = goes_then (formal_names (first_formal f)) (other_formal_names (other_formals f)) (formal_goes p (first_formal f))
     (λ _. formals_go p (other_formals f))

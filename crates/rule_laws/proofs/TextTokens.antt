@@ -1,11 +1,15 @@
 -- The tokens of a text are counted, so none stands twice.
-use Rattle.std.proofs.Common.{◌++◌, ◌+◌, ◌<◌, ◌∷◌, ◌≡◌, ◌≤◌, [], ℕ, List, arith, inl, inr, length, refl, subst, suc, sym}
-use Rattle.std.proofs.lemmas.List.{length-append}
+use Rattle.std.proofs.Common.{◌++◌, ◌+◌, ◌<◌, ◌∷◌, ◌≡◌, ◌≤◌, [], ℕ, List, ap, arith, inl, inr, length, refl, subst, suc, sym}
+use Rattle.std.proofs.lemmas.List.{length-append, length-map}
+use Rattle.pas_lexer.specs.Lexed.{Lexed}
 use Rattle.grammar.specs.Nodes.{Item, Leaf, Node, Nothing, Pair, spell}
 use Rattle.grammar.specs.declared.terminals.Terminal.{Terminal}
-use Rattle.pas_tree.specs.Blocks.{tree_node}
+use Rattle.pas_tree.specs.{Blocks.tree_node, declared.blocks.Tree.Tree}
 use Rattle.pas_phrases.specs.Items.{items_from, numbered}
-use Rattle.pas_parser.specs.Kinds.{terminals_of}
+use Rattle.pas_parser.specs.Kinds.{terminal_of, terminals_of}
+use Rattle.check_steps.specs.Words.{known_at_start, names_of, word_of}
+use Rattle.code_checker.specs.Declarations.{IsTextOf}
+use Rattle.rule_laws.proofs.Every.{Every}
 use Rattle.rule_laws.specs.{TextLaws.TokensDiffer, Tokens.Has, Tokens.IsDistinct}
 
 -- their numbers count on from one
@@ -68,3 +72,31 @@ differ (Pair a b) n c =
 
 pub text_law : TokensDiffer
 text_law tokens t e = differ (tree_node t) 0 (subst (Counted 0) (sym e) (all_counted (terminals_of tokens)))
+
+-- ---- and they are among the first ones
+
+below : (size : ℕ) (x : Node) (n : ℕ) → n + length (spell x) ≤ size → Counted n (spell x) → Every (λ m. m < size) x
+below size (Leaf item) n fits c = let a = c.0 in record { is = omega (arith, fits, a) }
+below size Nothing n fits c = tt
+below size (Pair a b) n fits c =
+    let parts = halves n (spell a) (spell b) c in
+    let all = length-append (spell a) (spell b) in
+    (below size a n (omega (arith, fits, all)) parts.0, below size b (n + length (spell a)) (omega (arith, fits, all)) parts.1)
+
+length_numbered : (n : ℕ) (ks : List Terminal) → length (numbered n ks) ≡ length ks
+length_numbered n [] = refl
+length_numbered n (k ∷ ks) = ap suc (length_numbered (n + 1) ks)
+
+length_items : (ks : List Terminal) → length (items_from ks 0) ≡ length ks
+unfolding items_from
+length_items ks = length_numbered 0 ks
+
+pub text_tokens : (l : Lexed) (t : Tree) → IsTextOf l t → Every (λ n. n < length (known_at_start l).words) (tree_node t)
+text_tokens l t text =
+    let ks = terminals_of l.tokens in
+    let spelled = ap (λ (is : List Item). length is) text.spelled in
+    let items = length_items ks in
+    let kinds : length ks ≡ length l.tokens = length-map l.tokens (λ t. terminal_of t.kind) in
+    let words : length (known_at_start l).words ≡ length l.tokens = length-map l.tokens (word_of (names_of l) l.source) in
+    below (length (known_at_start l).words) (tree_node t) 0 (omega (arith, spelled, items, kinds, words))
+    (subst (Counted 0) (sym text.spelled) (all_counted ks))

@@ -10,4 +10,5 @@ pub mod NameLaws
 pub mod RegionNames
 pub mod ResultLaws
 pub mod TextLaws
+pub mod TextParts
 pub mod Tokens

@@ -1,10 +1,11 @@
 //! The laws, each the contract of a call that does nothing.
 
-ghost use Rattle.rule_laws.specs.{LabelLaws.BlocksTellLabels, Laws.PartsTellRuleEight, TextLaws.TokensDiffer};
+ghost use Rattle.rule_laws.specs.{LabelLaws.BlocksTellLabels, Laws.PartsTellRuleEight};
 ghost use Rattle.rule_laws.specs.CaseLaws.{CasesTellEqualConstants, VariantsTellEqualConstants};
 ghost use Rattle.rule_laws.specs.NameLaws.{BlocksTellNames, HeadingsTellFormals, LabelPartsTellLabels};
 ghost use Rattle.rule_laws.specs.NameLaws.{PartsTellSecondHeadings, ProgramsTellParameters, RecordsTellFields};
 ghost use Rattle.rule_laws.specs.ResultLaws.{FunctionsTellAssignments};
+ghost use Rattle.rule_laws.specs.TextLaws.{TextsTellFields, TextsTellNames, TokensDiffer};
 
 /// No token stands twice in the tree of a text.
 pub fn tokens_of_a_text_differ()
@@ -48,6 +49,18 @@ pub fn names_are_defined_once()
 /// So of the fields of a record, those of all its variants.
 pub fn fields_are_defined_once()
     ensures { RecordsTellFields }
+{}
+
+/// In a text, of the fields of each record type, those of all its variants, each breaks rule 2 whose name one before it
+/// has.
+pub fn fields_of_a_text_differ()
+    ensures { TextsTellFields }
+{}
+
+/// So of the constants, types, variables, procedures, functions and labels of the program's block, and of those of each
+/// procedure and function together with its formal parameters, but for what has the name of a forward heading.
+pub fn names_of_a_text_differ()
+    ensures { TextsTellNames }
 {}
 
 /// So of the formal parameters of a heading.
