@@ -3,7 +3,7 @@ import { briefOf } from './card_view.js';
 import { byId } from './dom.js';
 import { RANK } from './engine.js';
 import { Looking } from './look_view.js';
-import { lastOnOutput } from './session.js';
+import { lastOnSeveral } from './session.js';
 
 export class Answers {
   // `onTurn` is called once an answer has shown what comes next.
@@ -24,36 +24,68 @@ export class Answers {
     return this.turn((dialog) => dialog.say(line));
   }
 
-  // Says that something that a call left is wrong. The card with its button is gone then; the keys go on from the next one.
-  async sayWrong(call, name) {
-    await this.say(`slice ${call} ${name}`);
-    if (document.activeElement === document.body) byId('card').querySelector('h2')?.focus({ preventScroll: true });
+  // Says a line by something that is gone then; the keys go on from the next card.
+  async sayAndGoOn(line) {
+    await this.say(line);
+    const { activeElement } = document;
+    if (activeElement === document.body || activeElement.closest('[hidden]') !== null) byId('card').querySelector('h2')?.focus({ preventScroll: true });
   }
 
-  // Takes back the answer of this number, with all that it left out.
+  // Says that something that a call left is wrong.
+  sayWrong(call, name) {
+    return this.sayAndGoOn(`slice ${call} ${name}`);
+  }
+
+  // Takes back the answer of this number, with all its entries.
   takeBack(number) {
     return this.turn((dialog) => dialog.takeBack(number));
   }
 
   // An answer to the question: `right`, `wrong`, `unknown`, `trust`, or `back`.
   answer(word) {
-    const { dialog } = this.desk;
-    const onOutput = lastOnOutput(dialog.entries);
-    if (word === 'back') return onOutput === null ? this.say('back') : this.takeBack(onOutput);
+    const { desk } = this;
+    const { dialog } = desk;
+    const onSeveral = lastOnSeveral(dialog.entries);
+    if (word === 'back') return onSeveral === null ? this.say('back') : this.takeBack(onSeveral);
     const call = dialog.questionCall;
     if (call < 0) return undefined;
-    return this.say(word === 'trust' ? `trust #${dialog.tree.routine[call]}` : `${word} ${call}`);
+    if (word === 'trust') return this.say(`trust #${dialog.tree.routine[call]}`);
+    return desk.isForAll ? this.sayAndGoOn(`shared ${word} ${call}`) : this.say(`${word} ${call}`);
   }
 
-  // The line on which the call that is asked about was made: it stands in the trace of the call that made it.
-  async findCallLine() {
+  // Whether an answer is for all calls that were asked the same.
+  setForAll(isForAll) {
+    const { desk } = this;
+    desk.isForAll = isForAll && desk.dialog.canShare;
+    desk.render();
+  }
+
+  // By a key, which goes there, too, so that it is heard.
+  switchForAll() {
+    const { desk } = this;
+    if (!desk.dialog.canShare) return;
+    byId('forAll').focus();
+    this.setForAll(!desk.isForAll);
+  }
+
+  // What a question shows besides its card: the line on which its call was made, which stands in the trace of the call that made it,
+  // and which calls were asked the same.
+  async findMore() {
     const { desk } = this;
     const { dialog } = desk;
     const { shown } = dialog;
     const call = dialog.report?.call ?? -1;
     if (call <= 0 || dialog.tree === null) return;
-    const isThere = await dialog.fetch([{ kind: 'trace', call: dialog.tree.parent[call] }], RANK.later);
+    const isThere = await dialog.fetch([{ kind: 'trace', call: dialog.tree.parent[call] }, ...dialog.asksAlike], RANK.later);
     if (isThere && dialog.shown === shown && desk.chosen < 0) desk.render();
+  }
+
+  // Looks for them where that was not done at once.
+  async findAlike() {
+    const { desk } = this;
+    const { shown } = desk.dialog;
+    const isThere = await desk.dialog.fetch(desk.dialog.asksAlike);
+    if (isThere && desk.dialog.shown === shown) desk.render();
   }
 
   // Shows a call of the tree with its card and trace; -1 closes it.

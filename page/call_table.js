@@ -95,6 +95,9 @@ function nesting(parent) {
   return { last, depth };
 }
 
+// Whether no other call is of the same routine.
+export const isAlone = ({ routine }, call) => routine.indexOf(routine[call]) === call && routine.lastIndexOf(routine[call]) === call;
+
 export const nameOf = (tree, call) => tree.names[tree.routine[call]] ?? '';
 
 // The marks by the entries that stand: the last judgement on a call counts, and counts more than trust. `leftOut` are the calls

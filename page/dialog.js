@@ -1,19 +1,22 @@
 // The dialog with the command: it runs a session, says lines and asks for cards and traces. It knows nothing of the page,
 // and holds nothing but the session's lines and what the command printed for them.
-import { accusedOf, markBy, suspectsOf } from './call_table.js';
+import { accusedOf, isAlone, markBy, suspectsOf } from './call_table.js';
 import { cardOf, stateOf } from './card.js';
 import { RANK } from './engine.js';
-import { callsIn, entriesOf, keep, leavesOut, linesBack, setAside } from './session.js';
+import { callsIn, entriesOf, isOnSeveral, keep, lastOnSeveral, linesBack, setAside } from './session.js';
 
-// No variable has this name, and no call this number; the replies tell whether the command knows the lines `state`, `carry` and
-// `slice`.
-const PROBES = [{ kind: 'state', call: 0, name: '.' }, { kind: 'carry', call: 999_999_999, onto: 0 }, { kind: 'slice', call: 999_999_999, name: '.' }];
+// No variable has this name, and no call this number; the replies tell whether the command knows the lines `state`, `carry`, `slice`
+// and `alike`.
+const PROBES = [{ kind: 'state', call: 0, name: '.' }, { kind: 'carry', call: 999_999_999, onto: 0 }, { kind: 'slice', call: 999_999_999, name: '.' },
+  { kind: 'alike', call: 999_999_999 }];
 const isKnown = (answer) => answer.kind === 'refused' && answer.text !== 'not understood';
-const TAKEN = /^(entry \d+|entries \d+ to \d+|back \d+|noted \d+)$/;
+const TAKEN = /^(entry \d+|entries \d+ to \d+|back \d+|taken back \d+|noted \d+)$/;
 const SAVED = 'page.session';
 // An answer that made more entries than these, and was the last one, is forgotten where it is taken back: each line for an entry
 // would be said anew in each turn.
 const MOST_BACK = 1000;
+// So many entries the command holds.
+const MOST_ENTRIES = 100_000;
 // A turn that takes no longer is asked for more than what must be.
 const QUICK_MS = 2500;
 
@@ -39,12 +42,14 @@ export class Dialog {
     this.knowsState = false;
     this.knowsCarry = false;
     this.knowsSlice = false;
+    this.knowsAlike = false;
     this.cost = { time: 0, memory: 0 };
     this.cards = new Map();
     this.traces = new Map();
     this.states = new Map();
     this.looks = new Map();
     this.carried = new Map();
+    this.alike = new Map();
   }
 
   get report() {
@@ -71,14 +76,15 @@ export class Dialog {
     if (this.session !== null && this.session.lines.length > 0) setAside();
     this.clear();
     this.session = session;
-    const came = await this.turn(session.lines, [{ kind: 'tree' }, ...PROBES], session.lines.some(leavesOut));
+    const came = await this.turn(session.lines, [{ kind: 'tree' }, ...PROBES], session.lines.some(isOnSeveral));
     if (this.session !== session) return;
     if (!this.failed(came)) {
-      const [tree, state, carry, slice] = came.answers;
+      const [tree, state, carry, slice, alike] = came.answers;
       this.tree = tree.kind === 'tree' ? tree.tree : null;
       this.knowsState = isKnown(state);
       this.knowsCarry = isKnown(carry);
       this.knowsSlice = isKnown(slice);
+      this.knowsAlike = isKnown(alike);
       this.took(came);
     }
     this.onChange();
@@ -89,7 +95,7 @@ export class Dialog {
     if (this.isBusy || this.shown === null) return;
     const { session } = this;
     const lines = [said].flat();
-    const came = await this.turn([...session.lines, ...lines], [], lines.some(leavesOut));
+    const came = await this.turn([...session.lines, ...lines], [], lines.some(isOnSeveral));
     if (this.session !== session) return;
     if (!this.failed(came)) {
       const refused = lines.map((line, at) => came.replies[session.lines.length + at] ?? '').find((reply) => !TAKEN.test(reply));
@@ -100,11 +106,12 @@ export class Dialog {
     this.onChange();
   }
 
-  // Takes back the answer of this number, with all that it left out.
+  // Takes back the answer of this number, with all its entries.
   async takeBack(number) {
     const { session } = this;
     const lines = linesBack(this.entries, number);
-    if (lines.length <= MOST_BACK || !leavesOut(session.lines.at(-1))) return this.say(lines);
+    const isLast = isOnSeveral(session.lines.at(-1) ?? '') && lastOnSeveral(this.entries) === number;
+    if (lines.length <= MOST_BACK || !isLast) return this.say(lines);
     const came = await this.turn(session.lines.slice(0, -1), [], false);
     if (this.session !== session) return undefined;
     if (!this.failed(came)) {
@@ -115,7 +122,7 @@ export class Dialog {
     return this.onChange();
   }
 
-  // One turn; with `isNews`, the session is saved as well, since that tells which calls a line left out.
+  // One turn; with `isNews`, the session is saved as well, since that tells on which calls a line made entries.
   async turn(lines, asks, isNews) {
     this.isBusy = true;
     // It runs while the page is painted.
@@ -169,10 +176,10 @@ export class Dialog {
     return this.cost.time < QUICK_MS;
   }
 
-  // Cards and traces of calls hang on the run alone, so each is asked for once. Whether they are there.
+  // Cards and traces of calls, and which were asked the same, hang on the run alone, so each is asked for once. Whether they are there.
   async fetch(asks, rank = RANK.asked) {
-    const isMissing = (ask) => (ask.kind === 'show' ? !this.cards.has(ask.call) : !this.traces.has(ask.call));
-    const missing = asks.filter(isMissing);
+    const held = { show: this.cards, trace: this.traces, alike: this.alike };
+    const missing = asks.filter(({ kind, call }) => !held[kind].has(call));
     if (missing.length === 0 || this.session === null) return true;
     const { session } = this;
     const came = await this.engine.ask(this.turnOf([], missing), rank);
@@ -181,8 +188,36 @@ export class Dialog {
       const answer = came.answers[at];
       if (answer.kind === 'show') this.cards.set(ask.call, cardOf(answer.text));
       if (answer.kind === 'trace') this.traces.set(ask.call, answer.trace);
+      if (ask.kind === 'alike') this.tookAlike(ask.call, answer);
     });
     return true;
+  }
+
+  // What is told of one call holds of all that were asked the same; where there is too much to compare, of none.
+  tookAlike(asked, { calls = null }) {
+    for (const call of calls !== null && calls.length <= MOST_ENTRIES ? calls : [asked]) this.alike.set(call, calls);
+  }
+
+  // What is to be fetched to know which calls were asked the same as the one that is asked about: nothing where that is known, or
+  // no other call is of its routine.
+  get asksAlike() {
+    const call = this.questionCall;
+    const isOpen = this.knowsAlike && call >= 0 && this.tree !== null && !this.alike.has(call) && !isAlone(this.tree, call);
+    return isOpen ? [{ kind: 'alike', call }] : [];
+  }
+
+  // The calls that were asked the same as the one that is asked about, with that one, as far as it is known.
+  get askedTheSame() {
+    return this.alike.get(this.questionCall) ?? [];
+  }
+
+  // How many other calls that are, and whether there is room for an answer for all of them.
+  get others() {
+    return Math.max(0, this.askedTheSame.length - 1);
+  }
+
+  get canShare() {
+    return this.others > 0 && this.entries.length + this.askedTheSame.length <= MOST_ENTRIES;
   }
 
   // What cells of this name held before and after a call, or the reply where there are none. It hangs on the run alone, too.

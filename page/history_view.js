@@ -1,7 +1,8 @@
 // The answers so far, each to look at or to take back.
 import { button, fold, make, plural } from './dom.js';
 import { nameOf } from './call_table.js';
-import { OUTPUT_SAID, SAID_OF } from './words.js';
+import { answerOf } from './session.js';
+import { OUTPUT_SAID, SAID_OF, sharedSaid } from './words.js';
 
 // The entry that each session begins with: something is wrong, or nobody would ask.
 export const isGiven = (entry) => entry.number === 1 && entry.kind === 'wrong' && entry.call === 0;
@@ -30,17 +31,18 @@ const callView = (call, tree, context) => button('.link', { onclick: () => conte
 // What an answer says to be wrong: a variable, or what a word stands for.
 export const wrongView = ({ output, isVariable }) => (isVariable ? null : OUTPUT_SAID[output]) ?? make('code', output);
 
-// The calls that an answer left out, each to look at or to be asked about after all.
-function leftOutView(leftOut, tree, context) {
-  const isThere = leftOut.filter((entry) => entry.standing && entry.call !== undefined);
+// The other calls that an answer is for or that it left out, each to look at or to be asked about after all.
+function othersView({ sharedWith }, others, tree, context) {
+  const isThere = others.filter((entry) => entry.standing && entry.call !== undefined);
   if (isThere.length === 0) return null;
   const askAgain = ({ number, call }) => button('.small', { onclick: () => context.takeBack(number), 'aria-label': `Ask about it after all: ${nameOf(tree, call)}, call ${call}` }, 'ask about it');
-  return fold('.noting', `${plural(isThere.length, 'call')} left out`, () => make('ul.leftOut',
+  const said = sharedWith === undefined ? `${plural(isThere.length, 'call')} left out` : sharedSaid(isThere.length);
+  return fold('.noting', said, () => make(sharedWith === undefined ? 'ul.leftOut' : 'ul.shared',
     isThere.slice(0, MOST_MORE).map((entry) => make('li', callView(entry.call, tree, context), ' ', askAgain(entry))),
     isThere.length > MOST_MORE ? make('li.quiet', `and ${plural(isThere.length - MOST_MORE, 'more call')}`) : null));
 }
 
-function entryView(entry, leftOut, tree, context) {
+function entryView(entry, others, tree, context) {
   const isTrust = entry.kind === 'trust';
   const name = isTrust ? (tree.names[entry.routine] ?? `#${entry.routine}`) : nameOf(tree, entry.call);
   const look = { onclick: () => context.choose(entry.call), title: 'Look at this call' };
@@ -49,18 +51,18 @@ function entryView(entry, leftOut, tree, context) {
   const takeBack = { onclick: () => context.takeBack(entry.number), 'aria-label': `Take back: ${what} ${SAID_OF[entry.kind]}` };
   return make(`li${entry.standing ? '' : '.gone'}`, { value: entry.number },
     make(`span.sign.${isTrust ? 'trusted' : entry.kind}`, { 'aria-hidden': 'true' }), about, ` ${SAID_OF[entry.kind]}`, entry.output === undefined ? null : [': ', wrongView(entry)], isGiven(entry) && entry.standing ? ', to begin with' : '',
-    entry.standing ? button('.small', takeBack, 'take back') : make('span.quiet', ' taken back'), leftOutView(leftOut, tree, context), noteView(entry, context));
+    entry.standing ? button('.small', takeBack, 'take back') : make('span.quiet', ' taken back'), othersView(entry, others, tree, context), noteView(entry, context));
 }
 
-// What was left out stands with the answer that left it out. Of very many answers the last ones are seen at once.
+// The other entries of an answer stand with it. Of very many answers the last ones are seen at once.
 export function historyView(entries, tree, context) {
-  const leftOut = new Map();
-  for (const entry of entries.filter((it) => it.leftOutBy !== undefined)) {
-    if (!leftOut.has(entry.leftOutBy)) leftOut.set(entry.leftOutBy, []);
-    leftOut.get(entry.leftOutBy).push(entry);
+  const others = new Map();
+  for (const entry of entries.filter((it) => answerOf(it) !== undefined)) {
+    if (!others.has(answerOf(entry))) others.set(answerOf(entry), []);
+    others.get(answerOf(entry)).push(entry);
   }
-  const answers = entries.filter((entry) => entry.leftOutBy === undefined);
-  const views = (some) => some.map((entry) => entryView(entry, leftOut.get(entry.number) ?? [], tree, context));
+  const answers = entries.filter((entry) => answerOf(entry) === undefined);
+  const views = (some) => some.map((entry) => entryView(entry, others.get(entry.number) ?? [], tree, context));
   const before = answers.slice(0, -MOST_SHOWN);
   return make('ol.history', before.length === 0 ? null : make('li.earlier', fold('.more', `${plural(before.length, 'answer')} before`, () => make('ol.history', views(before.slice(-MOST_MORE))))),
     views(answers.slice(-MOST_SHOWN)));

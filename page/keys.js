@@ -18,12 +18,12 @@ function keysOf(desk, answers) {
   const goTo = (pane, id) => () => { desk.showPane(pane); byId(id).focus(); };
   const answer = (word) => () => answers.answer(word);
   return {
-    r: answer('right'), w: answer('wrong'), d: answer('unknown'), t: answer('trust'), b: answer('back'),
+    r: answer('right'), w: answer('wrong'), d: answer('unknown'), t: answer('trust'), b: answer('back'), a: () => answers.switchForAll(),
     '/': goTo('calls', 'query'), c: goTo('calls', 'tree'), q: goTo('question', 'middle'), s: goTo('source', 'source'), '?': () => openHelp(desk),
   };
 }
 
-const isText = (target) => target.matches('textarea, input, select');
+const isText = (target) => target.matches('textarea, input:not([type="checkbox"]), select');
 
 // Ctrl+Enter runs, Escape leaves a text, and the other keys are letters that are not typed into one.
 function pressed(event, keys, programs) {
@@ -64,6 +64,7 @@ export function connect(desk, { programs, answers, finder, print }) {
   for (const tab of document.querySelectorAll('.tabs button')) whenPressed(tab, () => desk.showPane(tab.dataset.pane));
   desk.examples.forEach((example, at) => byId('examples').append(new Option(example.title, at)));
   byId('examples').addEventListener('change', () => { if (byId('examples').value !== '') programs.pickExample(Number(byId('examples').value)); });
+  byId('forAll').addEventListener('change', () => answers.setForAll(byId('forAll').checked));
   for (const id of ['input', 'budget']) byId(id).addEventListener('input', () => programs.edited());
   byId('query').addEventListener('input', later(120, () => finder.find()));
   byId('find').addEventListener('submit', (event) => { event.preventDefault(); finder.find(); byId('tree').focus(); });

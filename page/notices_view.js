@@ -2,8 +2,8 @@
 import { nameOf } from './call_table.js';
 import { button, make, withCode } from './dom.js';
 import { wrongView } from './history_view.js';
-import { leavesOut, leftOutBy } from './session.js';
-import { leftOutSaid, replySaid, statusSaid } from './words.js';
+import { isShared, leavesOut, leftOutBy, sharedWith } from './session.js';
+import { SAID_OF, leftOutSaid, replySaid, sharedSaid, statusSaid } from './words.js';
 
 const CONTEXT_CHARACTERS = 60;
 
@@ -49,6 +49,15 @@ function leftOutNotice({ session, entries, tree }, { takeBack }) {
     leftOutSaid(leftOutBy(entries, number).length, tree.last[call] > call), ' ', button('.small', { onclick: () => takeBack(number) }, 'Take this back'));
 }
 
+// For how many calls the last answer was, if it was one for all that were asked the same; or null.
+function sharedNotice({ session, entries, tree }, { takeBack }) {
+  if (tree === null || !isShared(session.lines.at(-1) ?? '')) return null;
+  const { sharedWith: number } = entries.at(-1);
+  const { call, kind } = entries.find((entry) => entry.number === number);
+  return notice('', `Call ${call} of `, make('code', nameOf(tree, call)), ` ${SAID_OF[kind]}. Your answer is ${sharedSaid(sharedWith(entries, number).length)}. `,
+    button('.small', { onclick: () => takeBack(number) }, 'Take this back'));
+}
+
 // `isStale`: the editor holds another text than the session.
 export function noticesOf(dialog, isStale, refusal, acts) {
   const { problem, note, session, isBusy } = dialog;
@@ -59,8 +68,7 @@ export function noticesOf(dialog, isStale, refusal, acts) {
     notices.push(notice('', 'These answers were given on another text of the program. Where a question reads as it did, its answer is offered.'));
   }
   if (note !== '') notices.push(notice('', replySaid(note)));
-  const leftOut = isBusy || dialog.shown === null ? null : leftOutNotice(dialog, acts);
-  if (leftOut !== null) notices.push(leftOut);
+  if (!isBusy && dialog.shown !== null) notices.push(...[leftOutNotice(dialog, acts), sharedNotice(dialog, acts)].filter((it) => it !== null));
   if (isStale && dialog.shown !== null) notices.push(staleNotice(session, acts));
   if (!dialog.isKept) notices.push(notice('', 'This browser cannot keep your answers: save them before you close the page.'));
   return notices;

@@ -27,6 +27,7 @@ const context = {
   cardContext: (call) => ({ ...context, looking: answers.looking(call), sayWrong: desk.dialog.knowsSlice ? (name) => answers.sayWrong(call, name) : null }),
   say: (line) => answers.say(line),
   takeBack: (number) => answers.takeBack(number),
+  findAlike: () => answers.findAlike(),
   close: () => answers.choose(-1),
   showLine: (line) => { desk.showPane('source'); desk.source.show(line); },
   lineText: (line) => desk.source.lineText(line),
@@ -40,12 +41,12 @@ const painter = new Painter(desk, context, {
   goOn: (kept) => programs.goOnWith(kept), putBack: () => programs.putBack(), takeBack: (number) => answers.takeBack(number),
 });
 
-// What follows a question: both answers are computed ahead; then come the line of its call, and for the tree of a small run what each
-// call was given and returned.
+// What follows a question: both answers are computed ahead; then come the line of its call and the calls that were asked the same, and
+// for the tree of a small run what each call was given and returned.
 async function afterTurn() {
   desk.dialog.thinkAhead();
   if (!desk.dialog.isQuick) return;
-  await answers.findCallLine();
+  await answers.findMore();
   if (finder.isSmall) await finder.loadBriefs(RANK.later);
 }
 

@@ -1,4 +1,5 @@
 // What is seen: the question or what stands in its place, the answers, the calls, and the marks beside the source.
+import { alikeKnown, alikeView } from './alike_view.js';
 import { nameOf } from './call_table.js';
 import { button, byId, make } from './dom.js';
 import { historyView, isGiven } from './history_view.js';
@@ -9,7 +10,7 @@ import { refusalOf } from './refusal.js';
 import { keptBefore } from './session.js';
 import { lineOfCall } from './trace.js';
 import { offerView, storyView, waitingView, welcomeView } from './welcome_view.js';
-import { counted, endOf } from './words.js';
+import { KEPT_SAID, counted, endOf, forAllSaid } from './words.js';
 
 export class Painter {
   // `context` is what the parts of the middle may do, see page.js; `acts` has `open`, `run`, `pick`, `goOn`, `putBack` and `takeBack`.
@@ -110,19 +111,30 @@ export class Painter {
   }
 
   // A card is made anew only where it says something new, so that what was opened in it stays open and the focus stays in it.
-  // The line on which its call was made comes later, and is put in alone.
+  // The line on which its call was made and the calls that were asked the same come later, and are put in alone.
   paintCard() {
-    const { context } = this;
-    const { dialog, source } = this.desk;
+    const { context, desk } = this;
+    const { dialog, source } = desk;
     const { call = -1 } = dialog.report;
     const card = [dialog.session.lines, call].join(' ');
     const isAsk = dialog.questionCall >= 0;
     if (card !== this.shownCard) {
       this.shownCard = card;
+      desk.isForAll = false;
       byId('card').replaceChildren(isAsk ? questionView(dialog, source.outline, context) : resultView(dialog, context));
     } else if (isAsk) {
       byId('card').querySelector('.where').replaceWith(whereView(dialog.cards.get(call), dialog, context));
+      this.paintAlike();
     }
+  }
+
+  paintAlike() {
+    const { dialog } = this.desk;
+    const shown = byId('card').querySelector('.alike');
+    if (shown === null || shown.dataset.known === alikeKnown(dialog)) return;
+    const view = alikeView(dialog, this.context);
+    shown.replaceWith(view);
+    byId('said').textContent = view.querySelector('p')?.textContent ?? '';
   }
 
   // What a reader that does not see the page is told of a new question or verdict.
@@ -152,6 +164,19 @@ export class Painter {
     trust.setAttribute('aria-label', `Trust ${trusted}`);
     trust.title = `All calls of ${trusted} count as right`;
     trust.replaceChildren(make('u', 'T'), `rust ${trusted}`);
+    this.paintForAll(isAsk && dialog.canShare ? dialog.others : 0);
+  }
+
+  // The box to tick where other calls were asked the same.
+  paintForAll(others) {
+    const { isForAll } = this.desk;
+    byId('forAllBox').hidden = others === 0;
+    byId('forAll').checked = isForAll;
+    const [first, ...rest] = forAllSaid(others);
+    byId('forAllSaid').replaceChildren(make('u', first), rest.join(''));
+    for (const [word, said] of Object.entries(KEPT_SAID)) {
+      document.querySelector(`#answers [data-say="${word}"]`).setAttribute('aria-label', isForAll ? `${said}, for all ${counted(others + 1)} calls` : said);
+    }
   }
 
   paintTree() {

@@ -1,4 +1,5 @@
 // What stands in the middle: the question with its card, or the verdict, and what is left to ask.
+import { alikeView } from './alike_view.js';
 import { cardParts } from './card_view.js';
 import { compareView } from './compare_view.js';
 import { button, make, plural } from './dom.js';
@@ -86,6 +87,7 @@ export function questionView(dialog, outline, context) {
     commentView(routine),
     keptView(dialog.report, context),
     compareView(dialog, context),
+    alikeView(dialog, context),
     cardParts(card, context.cardContext(card.call)));
 }
 

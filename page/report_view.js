@@ -3,14 +3,14 @@ import { cardParts } from './card_view.js';
 import { make } from './dom.js';
 import { nameOf } from './call_table.js';
 import { wrongView } from './history_view.js';
-import { leftOutBy } from './session.js';
-import { SAID_OF, leftOutSaid } from './words.js';
+import { answerOf, leftOutBy, sharedWith } from './session.js';
+import { SAID_OF, leftOutSaid, sharedSaid } from './words.js';
 import { verdictView } from './verdict_view.js';
 
 const MOST_CARDS = 200;
 
-// The answers that stand; what one left out is told with it.
-const answersIn = (dialog) => dialog.entries.filter((entry) => entry.standing && entry.leftOutBy === undefined);
+// The answers that stand; the other entries of one are told with it.
+const answersIn = (dialog) => dialog.entries.filter((entry) => entry.standing && answerOf(entry) === undefined);
 
 // The calls of which a report has the cards.
 export function callsInReport(dialog) {
@@ -27,11 +27,17 @@ function leftOutView({ number, call }, { entries, tree }) {
   return make('p', leftOutSaid(count, tree.last[call] > call));
 }
 
+// For how many other calls an answer is, in the words that follow it.
+function sharedView({ number }, { entries }) {
+  const count = sharedWith(entries, number).filter((entry) => entry.standing).length;
+  return count === 0 ? null : ` (${sharedSaid(count)})`;
+}
+
 function entryView(entry, dialog, context) {
   const isTrust = entry.kind === 'trust';
   const name = isTrust ? dialog.tree.names[entry.routine] : nameOf(dialog.tree, entry.call);
   const card = isTrust ? undefined : dialog.cards.get(entry.call);
-  return make('section.entry', make('h3', `${entry.number}. `, make('code', name), isTrust ? '' : `, call ${entry.call},`, ` ${SAID_OF[entry.kind]}`, entry.output === undefined ? null : [': ', wrongView(entry)]),
+  return make('section.entry', make('h3', `${entry.number}. `, make('code', name), isTrust ? '' : `, call ${entry.call},`, ` ${SAID_OF[entry.kind]}`, entry.output === undefined ? null : [': ', wrongView(entry)], sharedView(entry, dialog)),
     entry.output === undefined ? null : leftOutView(entry, dialog),
     entry.note === undefined ? null : make('p.noted', entry.note),
     card === undefined ? null : cardParts(card, context.cardContext(entry.call)));

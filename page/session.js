@@ -22,51 +22,94 @@ const firstEntries = (saved, isRepliesOnly) => (saved === null || isRepliesOnly 
 // By the number of each entry of a saved session, the call that it is on; a routine's has none.
 export const callsIn = (saved) => [undefined, ...entriesIn(saved).map((entry) => entry.call)];
 
+const SHARED = /^shared (right|wrong|unknown) (\d+)$/;
+
 function saidBy(line) {
   const judged = /^(right|wrong|unknown) (\d+)$/.exec(line);
   if (judged !== null) return { kind: judged[1], call: Number(judged[2]) };
   const sliced = /^slice (\d+) (.+)$/.exec(line);
   if (sliced !== null) return { kind: 'wrong', call: Number(sliced[1]), output: sliced[2] };
+  const shared = SHARED.exec(line);
+  if (shared !== null) return { kind: shared[1], call: Number(shared[2]) };
   const trusted = /^trust #(\d+)$/.exec(line);
   return trusted === null ? null : { kind: 'trust', routine: Number(trusted[1]) };
 }
 
-const REPLY = /^(entry|entries|back|noted) (\d+)(?: to (\d+))?$/;
+const REPLY = /^(entry|entries|back|taken back|noted) (\d+)(?: to (\d+))?$/;
 
-// Whether a line leaves calls out. Its reply does not tell which; the session does, once it is saved.
+// Whether a line leaves calls out, and whether it answers for all calls that were asked the same.
 export const leavesOut = (line) => line.startsWith('slice ');
+export const isShared = (line) => SHARED.test(line);
+
+// Whether a line makes entries on several calls. Its reply does not tell on which; the session does, once it is saved.
+export const isOnSeveral = (line) => leavesOut(line) || isShared(line);
+
+// The entries that a line made, from a number to the last one, each with its number.
+function madeBy(line, number, last, calls) {
+  const said = saidBy(line);
+  if (said === null) return [];
+  const numbers = Array.from({ length: last - number + 1 }, (_, at) => number + at);
+  if (!isShared(line)) return numbers.map((it) => [it, it === number ? said : { kind: 'right', call: calls[it], leftOutBy: number }]);
+  const own = numbers.find((it) => calls[it] === said.call) ?? number;
+  return numbers.map((it) => [it, { kind: said.kind, call: calls[it], sharedWith: own }]);
+}
+
+// The calls that were asked the same as one, as far as an answer for all of them has told.
+function callsSharedWith(entries, call) {
+  const answer = entries.find((entry) => entry.sharedWith !== undefined && entry.call === call);
+  return new Set(answer === undefined ? [call] : entries.filter((entry) => entry.sharedWith === answer.sharedWith).map((entry) => entry.call));
+}
+
+// Takes back what stands on the calls that were asked the same as one.
+function takeBackShared(entries, call) {
+  const calls = callsSharedWith(entries, call);
+  for (const entry of entries) if (calls.has(entry.call)) entry.standing = false;
+}
 
 // All entries by the lines and the reply that each got: `number`, `kind`, `call` or `routine`, whether it stands, and the
 // `note` on it, if it has one. An answer on a wrong output has the `output`; each call that it left out has an entry of its own,
-// with its number as `leftOutBy`.
+// with its number as `leftOutBy`. Of an answer for all calls that were asked the same, each entry has as `sharedWith` the number of
+// the one on the call that was asked about.
 export function entriesOf(session, replies, isRepliesOnly = false) {
   const entries = new Map(firstEntries(session.saved, isRepliesOnly).map((entry) => [entry.number, entry]));
   const put = (number, entry) => entries.set(number, { number, ...entry, standing: true });
   session.lines.forEach((line, at) => {
     const [, word = '', ...numbers] = REPLY.exec(replies[at] ?? '') ?? [];
     const [number, last] = numbers.map(Number);
-    const said = word.startsWith('entr') ? saidBy(line) : null;
-    if (said !== null) put(number, said);
-    if (word === 'entries') for (let it = number + 1; it <= last; it += 1) put(it, { kind: 'right', call: session.calls[it], leftOutBy: number });
+    if (word.startsWith('entr')) for (const [it, entry] of madeBy(line, number, last || number, session.calls)) put(it, entry);
+    if (word === 'taken back') takeBackShared([...entries.values()], Number(line.split(' ').at(-1)));
     if (word === 'noted' && entries.has(number)) entries.get(number).note = line.replace(/^note \d+ /, '').trim();
     if (word === 'back' && entries.has(number)) entries.get(number).standing = false;
   });
   return [...entries.values()];
 }
 
-// The lines that take back an answer, with what it left out, the last entry first.
+// The lines that take back an answer with all its entries, the last one first. One line is enough for all calls that were asked the
+// same, where no other answer on any of them stands.
 export function linesBack(entries, number) {
-  return entries.filter((entry) => entry.standing && (entry.number === number || entry.leftOutBy === number)).map((entry) => `back ${entry.number}`).reverse();
+  const isOwn = (entry) => entry.number === number || entry.leftOutBy === number || entry.sharedWith === number;
+  const own = entries.filter((entry) => entry.standing && isOwn(entry));
+  const { sharedWith, call } = own.at(-1) ?? {};
+  if (sharedWith === number && own.length > 1 && call !== undefined) {
+    const calls = callsSharedWith(entries, call);
+    if (!entries.some((entry) => entry.standing && !isOwn(entry) && calls.has(entry.call))) return [`shared back ${call}`];
+  }
+  return own.map((entry) => `back ${entry.number}`).reverse();
 }
 
-// The number of the last answer, where that is one on a wrong output; or null.
-export function lastOnOutput(entries) {
+// The number of the last answer, where that made entries on several calls, or left none out; or null.
+export function lastOnSeveral(entries) {
   const last = entries.filter((entry) => entry.standing).at(-1);
-  return last?.leftOutBy ?? (last?.output === undefined ? null : last.number);
+  return last?.leftOutBy ?? last?.sharedWith ?? (last?.output === undefined ? null : last.number);
 }
 
-// The entries that an answer on a wrong output made for the calls that it left out.
+// The entries that an answer on a wrong output made for the calls that it left out, and those that one for all calls that were asked
+// the same made for the others.
 export const leftOutBy = (entries, number) => entries.filter((entry) => entry.leftOutBy === number);
+export const sharedWith = (entries, number) => entries.filter((entry) => entry.sharedWith === number && entry.number !== number);
+
+// The answer that an entry belongs to, where it is not an answer of its own; or undefined.
+export const answerOf = (entry) => entry.leftOutBy ?? (entry.sharedWith === entry.number ? undefined : entry.sharedWith);
 
 // ---- what the browser keeps, so that a page that is closed loses no answer
 

@@ -150,9 +150,10 @@ function answersOf(bytes, from, asks) {
 
 function answerOf(bytes, from, to, ask) {
   if (from >= to) return { kind: 'none' };
-  const isRefused = bytes[from] !== BLANK && !/^(\d|call )/.test(latin(bytes.subarray(from, from + 5)));
+  const isRefused = bytes[from] !== BLANK && !/^(\d|call |alike)/.test(latin(bytes.subarray(from, from + 5)));
   if (isRefused) return { kind: 'refused', text: cut(bytes, from, to, RAW_BYTES).trimEnd() };
   if (ask.kind === 'tree') return { kind: 'tree', tree: treeOf(bytes, from, to) };
+  if (ask.kind === 'alike') return alikeOf(cut(bytes, from, to, CARD_BYTES).trimEnd());
   if (ask.kind === 'carry') return carryOf(cut(bytes, from, to, RAW_BYTES).trimEnd(), ask);
   if (ask.kind === 'trace') return { kind: 'trace', trace: traceOf(bytes, from, to), text: cut(bytes, from, to, RAW_BYTES) };
   return { kind: ask.kind, text: cut(bytes, from, to, CARD_BYTES), isCut: to - from > CARD_BYTES };
@@ -162,6 +163,13 @@ function answerOf(bytes, from, to, ask) {
 function carryOf(text, { call, onto }) {
   if (text === `call ${call} carries to call ${onto}`) return { kind: 'carry', carries: true };
   return text === `call ${call} does not carry to call ${onto}` ? { kind: 'carry', carries: false } : { kind: 'refused', text };
+}
+
+// The calls that were asked the same; no other text is taken for an answer to that.
+function alikeOf(text) {
+  const [word, ...calls] = text.split(' ');
+  const isTold = word === 'alike' && calls.length > 0 && calls.every((it) => /^\d+$/.test(it));
+  return isTold ? { kind: 'alike', calls: calls.map(Number) } : { kind: 'refused', text };
 }
 
 export const commandOf = (ask) => {

@@ -32,7 +32,7 @@ export function offerView(kept, { goOn, close }) {
 
 const KEYS = [
   ['R', 'right: the call did what it should'], ['W', 'wrong: it did not'], ['D', 'don\u2019t know: ask about others'], ['T', 'trust this routine: all its calls are right'],
-  ['B', 'take back the last answer'], ['/', 'find a call'], ['C', 'go to the calls; arrows move, Enter opens'], ['Q', 'go to the question'], ['S', 'go to the program; Escape leaves it'],
+  ['A', 'the answer is for all calls that were asked the same'], ['B', 'take back the last answer'], ['/', 'find a call'], ['C', 'go to the calls; arrows move, Enter opens'], ['Q', 'go to the question'], ['S', 'go to the program; Escape leaves it'],
   ['Ctrl+Enter', 'run the program'],
 ];
 
@@ -52,6 +52,7 @@ export function helpView(isProved, close) {
     make('p', 'A card tells what a call looked at. What it should have looked at and did not is not there.'),
     make('p', 'Of all that a call left, you may see that one value is wrong. Press \u201cwrong\u201d beside it: the call counts as wrong, and the calls below it that had no part in that value are left out, so that less is asked. '
       + 'Press it only beside what is there and wrong. Where something is missing, press Wrong below the card: the call that forgot it had no part in what is there, and would be left out.'),
+    make('p', 'Where a routine was called several times on the same values, the question says so. Tick the box beside the answers, and your answer is for all these calls.'),
     make('h3', 'Keys'),
     make('table.keys', make('tbody', KEYS.map(([key, said]) => make('tr', make('th', { scope: 'row' }, make('kbd', key)), make('td', said))))),
     trustedView(isProved),

@@ -58,6 +58,23 @@ export function leftOutSaid(count, hasCalls) {
   return count === 0 ? 'No call could be left out.' : `${counted(count)} ${count === 1 ? 'call' : 'calls'} below had no part in that, and ${count === 1 ? 'is' : 'are'} left out.`;
 }
 
+// Calls that were asked the same as the one that is asked about, and how many of them were judged already.
+export const othersSaid = (count, canShare) => [count === 1 ? 'Another call was asked just the same: it was given and found the same, so it did the same.'
+  : `${counted(count)} other calls were asked just the same: they were given and found the same, so they did the same.`,
+canShare ? `Your answer can be for ${count === 1 ? 'both' : `all ${counted(count + 1)}`}.` : 'But there is no room for so many answers.'].join(' ');
+
+const JUDGED = { right: 'judged right', wrong: 'judged wrong', unknown: 'left open' };
+
+// `marks` has how many of `count` calls have each mark.
+export const judgedSaid = (marks, count) => Object.entries(marks).map(([mark, judged]) => (count === 1 ? ` It was ${JUDGED[mark]} before.`
+  : ` ${counted(judged)} of them ${judged === 1 ? 'was' : 'were'} ${JUDGED[mark]} before.`)).join('');
+
+// The words beside the box that is ticked so that an answer is for them, too; the first letter is a key.
+export const forAllSaid = (count) => (count === 1 ? 'Also for the other call that was asked the same' : `Also for the ${counted(count)} other calls that were asked the same`);
+
+// What an answer for all of them is told by.
+export const sharedSaid = (count) => (count === 1 ? 'also for 1 other call that was asked the same' : `also for ${counted(count)} other calls that were asked the same`);
+
 export const KEPT_SAID = { right: 'Right', wrong: 'Wrong', unknown: 'Don\u2019t know' };
 export const SAID_OF = { right: 'is right', wrong: 'is wrong', unknown: 'could not be judged', trust: 'is trusted' };
 
@@ -114,7 +131,7 @@ const REPLIES = [
   [/^not understood/, 'A note has 1 to 100 letters, digits and signs, without accents.'],
   [/^nothing stands/, 'There is no answer to take back.'],
   [/^entry (\d+) does not stand/, 'This answer was taken back before.'],
-  [/^book is full/, 'No more answers can be held.'],
+  [/^book is full/, 'There is no room for this: 100,000 answers can be held.'],
 ];
 
 export function replySaid(reply) {

@@ -6,7 +6,8 @@
 $0 == "" { next }
 
 /^(right|wrong|unknown|back)( [0-9]+)?$/ { found = 1; exit }
-/^(show|trace) [0-9]+$/ { found = 1; exit }
+/^shared (right|wrong|unknown)( [0-9]+)?$/ { found = 1; exit }
+/^(show|trace|alike|shared back) [0-9]+$/ { found = 1; exit }
 /^(trust|save) [^ ]+$/ { found = 1; exit }
 /^(same|tree|quit)$/ { found = 1; exit }
 /^(note|slice|state) [0-9]+ / { found = 1; exit }

@@ -6,7 +6,7 @@ import { markBy, suspectsOf, treeOf } from '../call_table.js';
 import { cardOf, wordsOf } from '../card.js';
 import { offerOf } from '../compare.js';
 import { Dialog } from '../dialog.js';
-import { callsIn, entriesOf, lastOnOutput, leftOutBy, linesBack, newSession } from '../session.js';
+import { callsIn, entriesOf, lastOnSeveral, leftOutBy, linesBack, newSession } from '../session.js';
 import { digest } from '../transcript.js';
 import { leftOutSaid, replySaid } from '../words.js';
 
@@ -68,13 +68,13 @@ test('where the calls are not known, the entries are there all the same', () => 
 test('it is taken back with what it left out, and that alone as well', () => {
   const entries = entriesOf(session(...LINES), ENTRIES);
   assert.deepEqual(linesBack(entries, 2), ['back 3', 'back 2']);
-  assert.deepEqual([linesBack(entries, 3), linesBack(entries, 4), lastOnOutput(entries)], [['back 3'], ['back 4'], null]);
+  assert.deepEqual([linesBack(entries, 3), linesBack(entries, 4), lastOnSeveral(entries)], [['back 3'], ['back 4'], null]);
   const onlySlice = entriesOf(session('slice 1 x'), ['entries 2 to 3']);
-  assert.equal(lastOnOutput(onlySlice), 2);
+  assert.equal(lastOnSeveral(onlySlice), 2);
   const oneLess = entriesOf(session('slice 1 x', 'back 3'), ['entries 2 to 3', 'back 3']);
-  assert.deepEqual([linesBack(oneLess, 2), lastOnOutput(oneLess)], [['back 2'], 2]);
+  assert.deepEqual([linesBack(oneLess, 2), lastOnSeveral(oneLess)], [['back 2'], 2]);
   const none = entriesOf(session('slice 1 x', 'back 3', 'back 2', 'back 1'), ['entries 2 to 3', 'back 3', 'back 2', 'back 1']);
-  assert.deepEqual([none.map((entry) => entry.standing), lastOnOutput(none), lastOnOutput([])], [[false, false, false], null, null]);
+  assert.deepEqual([none.map((entry) => entry.standing), lastOnSeveral(none), lastOnSeveral([])], [[false, false, false], null, null]);
 });
 
 test('a call that was left out counts as right, is told from one that was judged, and is offered for no comparison', () => {

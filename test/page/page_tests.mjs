@@ -52,6 +52,22 @@ begin
 end.
 `;
 
+// Neither call of `a` looks at what was in x.
+const TWICE = `program z;
+var x: integer;
+procedure a;
+begin x := 0 end;
+begin x := 1; a; x := 2; a end.
+`;
+
+// Calls 1 to 5 of `dot` do the same work, and call 6 prints something else.
+const DOTS = `program dots(output);
+var i: integer;
+procedure dot(c: char);
+begin write(c) end;
+begin for i := 1 to 5 do dot('.'); dot(',') end.
+`;
+
 // Call 1 of `half` was made by the program, and call 3, which has the same card, by `halve`.
 const HALVES = `program halves(output);
 var x: integer;
@@ -445,6 +461,111 @@ export const TESTS = {
     await t.page.resize(DESK);
   },
 
+  async 'one answer for many calls'(t) {
+    const offer = () => seen(t, '#question .alike p');
+    const found = () => t.page.until('document.querySelector("#question .alike p") !== null', 20);
+    const known = () => t.page.until('(document.querySelector("#question .alike")?.dataset.known ?? "") !== ""', 20);
+    const box = () => t.page.value('(() => { const it = document.querySelector("#forAll"); return it.checkVisibility() ? [it.checked, it.labels[0].textContent.trim()] : null; })()');
+    const signs = () => t.page.value('[...document.querySelectorAll("#tree .row .sign")].map((it) => it.textContent)');
+    const answers = () => t.page.value('[...document.querySelectorAll(".history > li")].map((it) => it.className)');
+    const BOTH = 'Another call was asked just the same: it was given and found the same, so it did the same. Your answer can be for both.';
+    await t.fresh();
+    await ran(t, 'z.pas', TWICE);
+    await found();
+    t.equal('the question says that another call was asked the same', [await asked(t), await offer()], ['a', [BOTH]]);
+    t.equal('and offers one answer for both, which nobody gives unasked', await box(), [false, 'Also for the other call that was asked the same']);
+    await t.picture('9-alike');
+    await accessible(t, 'an offer for another call');
+    await t.page.click('#question .alike summary');
+    await t.page.until('document.querySelector("#question .alike li")?.checkVisibility()');
+    t.equal('it names the call', await seen(t, '#question .alike li'), ['a call 2']);
+    await t.page.click('#forAll');
+    t.equal('each answer says for how many', await t.page.value('[...document.querySelectorAll("#answers [data-say]")].map((it) => it.getAttribute("aria-label"))'),
+      ['Right, for all 2 calls', 'Wrong, for all 2 calls', 'Don\u2019t know, for all 2 calls', 'Trust a']);
+    t.equal('and what was opened stays open', await seen(t, '#question .alike li'), ['a call 2']);
+    await t.picture('9-alike-ticked');
+    await accessible(t, 'an answer for both');
+    await t.page.click(button('right'));
+    await calm(t, 1);
+    t.equal('one press marks both', [await verdict(t), await signs()], ['z', ['\u2717', '\u2713', '\u2713']]);
+    t.equal('which is said', await seen(t, '.notice'), ['Call 1 of a is right. Your answer is also for 1 other call that was asked the same. Take this back']);
+    t.equal('and is one answer', (await seen(t, '.history > li')).map((it) => it.replace(/ ?add a note$/, '').replace(/ ?take back/, ' take back')),
+      ['the program z is wrong, to begin with take back', 'a call 1 is right take back also for 1 other call that was asked the same']);
+    await t.picture('9-alike-answered');
+    await accessible(t, 'one answer for two calls');
+    const saved = await t.download('#save');
+    t.equal('all is saved', JSON.parse(saved.bytes).entries.map((it) => `${it.kind} ${it.call}`), ['wrong 0', 'right 1', 'right 2']);
+    const native = await t.native({ source: TWICE, console: 'shared right 1\nsave page.session\nquit\n' });
+    if (native !== null) t.equal('as the native program saves it', saved.bytes, native.saved.toString());
+    await t.reload();
+    await t.page.click('#notices button.main');
+    await calm(t, 1);
+    t.equal('after a reload as before', [await verdict(t), await signs(), await answers()], ['z', ['\u2717', '\u2713', '\u2713'], ['', '']]);
+    await t.page.press('b');
+    await calm(t, 2);
+    await found();
+    t.equal('taken back at once', [await asked(t), await signs(), await answers(), await box()], ['a', ['\u2717', '\u00b7', '\u00b7'], ['', 'gone'], [false, 'Also for the other call that was asked the same']]);
+    await t.page.press('r');
+    await calm(t, 3);
+    await found();
+    t.equal('without it an answer is for one', [await signs(), await offer()], [['\u2717', '\u2713', '\u00b7'], [`${BOTH} It was judged right before.`]]);
+    await t.page.press('a');
+    t.equal('a key ticks it', [await box(), await t.page.value('document.activeElement.id')], [[true, 'Also for the other call that was asked the same'], 'forAll']);
+    await t.page.press('w');
+    await calm(t, 4);
+    t.equal('and the keys of answers are for both', [await signs(), await answers()], [['\u2717', '\u2717', '\u2717'], ['', 'gone', '', '']]);
+    t.holds('they go on from the verdict', await t.page.value('document.activeElement.matches("#card h2")'));
+    await t.page.click('.notice button.small');
+    await calm(t, 6);
+    t.equal('what was answered before stays where it is taken back', await signs(), ['\u2717', '\u2713', '\u00b7']);
+
+    await ran(t, 'dots.pas', DOTS);
+    await found();
+    const asks = await t.page.value('Number(document.querySelector("#question").dataset.call)');
+    t.equal('several other calls', [(await offer())[0].split(':')[0], await box()], ['4 other calls were asked just the same', [false, 'Also for the 4 other calls that were asked the same']]);
+    await t.page.press('q');
+    await tabTo(t, '#forAll');
+    await t.page.press(' ');
+    await t.page.press('d');
+    await calm(t, 1);
+    await known();
+    t.equal('all five are left open, by keys alone', [await signs(), asks < 6], [['\u2717', '?', '?', '?', '?', '?', '\u00b7'], true]);
+    await t.page.value('window.print = () => { window.printed = true; }');
+    await t.page.click('#print');
+    await t.page.until('window.printed === true');
+    t.equal('on paper it is one answer', await t.page.value('[...document.querySelectorAll("#report .entry > h3")].map((it) => it.textContent)'),
+      ['1. dots, call 0, is wrong', '2. dot, call 1, could not be judged (also for 4 other calls that were asked the same)']);
+    t.equal('a call that is like no other has no offer', [await t.page.value('document.querySelector("#question").dataset.call'), await offer(), await box()], ['6', [], null]);
+    await t.page.click('.history > li:nth-child(2) .noting summary');
+    await t.page.until('document.querySelector(".history .shared li")?.checkVisibility()');
+    t.equal('the others are listed', (await seen(t, '.history .shared li')).length, 4);
+    await t.picture('9-alike-list');
+    await accessible(t, 'a list of those asked the same');
+    await t.page.click('.history .shared li:last-child button.small');
+    await calm(t, 2);
+    t.equal('one of them after all', (await signs()).filter((it) => it === '?').length, 4);
+    await t.page.resize(PHONE);
+    await t.page.click(button('back'));
+    await calm(t, 3);
+    await found();
+    t.equal('the rest at once', (await signs()).filter((it) => it === '?').length, 0);
+    await t.picture('9-alike-phone');
+    await accessible(t, 'an offer on a phone');
+    await t.page.resize(DESK);
+
+    await ran(t, 'share.pas', SHARE);
+    await found();
+    await t.page.click('#forAll');
+    await t.page.press('r');
+    await calm(t, 1);
+    await known();
+    t.equal('of three calls two are answered for, and the third is asked about', [await signs(), await t.page.value('document.querySelector("#question").dataset.call'), await offer(), await box()],
+      [['\u2717', '\u2713', '\u2713', '\u00b7'], '3', [], null]);
+    await t.page.click('.notice button.small');
+    await calm(t, 2);
+    t.equal('which the notice takes back', [await signs(), await box()], [['\u2717', '\u00b7', '\u00b7', '\u00b7'], [false, 'Also for the other call that was asked the same']]);
+  },
+
   async 'one wrong value'(t) {
     const wrongs = (within = '#question') => t.page.value(`[...document.querySelectorAll('${within} [data-wrong]')].filter((it) => it.checkVisibility()).map((it) => it.dataset.wrong)`);
     const sign = (call) => t.page.value(`(() => { const it = document.querySelector('#tree .row[data-call="${call}"] .sign'); return [it.textContent, it.title]; })()`);
@@ -486,7 +607,7 @@ export const TESTS = {
     await calm(t, 4);
     t.equal('by keys', [await asked(t), (await sign(2))[0], (await sign(3))[0], (await sign(4))[0]], ['b', '\u2013', '\u00b7', '\u2013']);
     await t.page.click('.history > li:nth-child(3) .noting summary');
-    await t.page.until('document.querySelector(".leftOut") !== null');
+    await t.page.until('document.querySelector(".history .leftOut li")?.checkVisibility()');
     t.equal('the calls that were left out', await seen(t, '.leftOut li'), ['a call 2 ask about it', 'c call 4 ask about it']);
     await t.picture('9-wrong-list');
     await accessible(t, 'a list of those left out');
@@ -765,6 +886,11 @@ export const TESTS = {
     await t.page.until('document.querySelector("#tree .row[data-call=\\"499999\\"]") !== null', 10);
     await t.page.value('document.querySelector("#tree").scrollTop /= 2');
     await t.page.until('[...document.querySelectorAll("#tree .row")].some((it) => Math.abs(Number(it.dataset.call) - 250000) < 100)', 10);
+    // Where a turn takes long, calls that were asked the same are looked for once that is asked for.
+    if (await t.page.value('document.querySelector("#question .alike button") !== null')) await t.page.click('#question .alike button');
+    await t.page.until('document.querySelector("#question .alike p") !== null', 240);
+    t.equal('too many calls were asked the same', [(await seen(t, '#question .alike p'))[0].replace(/:.*so they did the same/, ''), await t.page.value('document.querySelector("#forAll").checkVisibility()')],
+      ['499,998 other calls were asked just the same. But there is no room for so many answers.', false]);
     await t.page.press('r');
     await calm(t, 1, 240);
     t.holds('an answer comes', (await t.page.value('document.querySelectorAll("#tree .row").length')) > 0);

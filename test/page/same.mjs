@@ -25,7 +25,7 @@ const DATA = fileURLToPath(new URL('../../crates/worked_cases/data', import.meta
 const MOST_AT_ONCE = 8, SAVED = 'page.session';
 // An instance that took more serves no further case.
 const MOST_KEPT = 1 << 29;
-const LARGE_LINES = 'tree\nwrong 1\nback\ntrace 0\nslice 1 way\nslice 0 gives\nsave page.session\nquit\n';
+const LARGE_LINES = 'tree\nwrong 1\nback\ntrace 0\nslice 1 way\nslice 0 gives\nalike 1\nshared right 1\nshared back 1\nsave page.session\nquit\n';
 
 // The native program with the case's files, under the names that the module has for them.
 function native(program, given) {

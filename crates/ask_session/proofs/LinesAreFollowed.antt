@@ -1,28 +1,31 @@
 -- The entries after lines are those that the acts of the lines make.
-use Rattle.std.proofs.Common.{if◌then◌else◌, ◌++◌, ◌+◌, ◌∙◌, ◌∷◌, ◌≡◌, [], ℕ, Bool, Err, List, None, Ok, Option, Result, Some, ap, false, length, nat_le}
-use Rattle.std.proofs.Common.{nat_lt, option_map, refl, subst, true}
+use Rattle.std.proofs.Common.{if◌then◌else◌, ◌++◌, ◌+◌, ◌-◌, ◌==◌, ◌∙◌, ◌∷◌, ◌≡◌, ◌⊎◌, [], ℕ, Bool, Err, List, None, Ok, Option, Result, Some, ap, false, fold}
+use Rattle.std.proofs.Common.{inl, inr, length, nat_le, nat_lt, option_map, refl, slice_get, slice_set, subst, suc, sym, true, zero}
 use Rattle.std.specs.List.{filter_map}
 use Rattle.answer_book.specs.Answers.{judge_answer, take_back_answer, take_back_last_answer, trust_answer}
-use Rattle.answer_book.specs.Entries.{entries_with, said_by, standing_answers}
+use Rattle.answer_book.specs.Entries.{entries_with, entries_without, entry_at, is_standing, is_standing_entry, said_by, standing_answers, with_taken_back}
 use Rattle.answer_book.specs.declared.entries.{BookFault.BookFault, Entry.Entry, Judgement.Judgement}
 use Rattle.answer_book.specs.declared.entries.BookFault.TheVariants as faults
 use Rattle.answer_book.specs.declared.entries.What.{What, TheVariants.Judged, TheVariants.Trusted}
 use Rattle.optimal_query.proofs.GivenEntriesStand.{follow_given}
 use Rattle.optimal_query.proofs.StandUnlessTakenBack.{Follow, as_many, follow_command, follow_made, said_alike}
 use Rattle.optimal_query.specs.{Laws.state_in, Search.Search, Search.search_with, Search.search_without, declared.state.SearchState.SearchState}
-use Rattle.optimal_query.specs.Accepted.{CommandAct, Made, acts_giving, and_then, is_taken_back, number_made, standing_after}
+use Rattle.optimal_query.specs.Accepted.{CommandAct, Made, acts_giving, and_then, entries_after, is_taken_back, number_made, standing_after}
 use Rattle.optimal_query.specs.Standing.{Command, Judge, TakeBack, TakeBackLast, Trust, after_command, if_accepted, search_taken_back}
 use Rattle.optimal_query.specs.declared.state.SearchState.TheVariants.{Ask, Found, Narrowed, NothingWrong, Unclear}
+use Rattle.answer_reuse.specs.{Classes.class_of, Shared.judged_each, Shared.standing_alike}
 use Rattle.dialog_replies.specs.{Instructions.instruction_of, Said.KeptReplies, Said.Said, Said.kept_on}
-use Rattle.dialog_replies.specs.Replies.{LineOutcome, adds, adds_all, command_outcome, is_made, judges_as_kept, judges_asked, judges_same, outcome, says_all}
-use Rattle.dialog_replies.specs.Replies.{slices_by, slices_output, takes_back, takes_back_last, trust_outcome, trusts_named}
+use Rattle.dialog_replies.specs.Replies.{LineOutcome, adds, adds_all, alike_text, command_outcome, if_compared, is_made, judges_as_kept, judges_asked}
+use Rattle.dialog_replies.specs.Replies.{judges_class, judges_class_asked, judges_same, outcome, replied, says_all, slices_by, slices_output, takes_back}
+use Rattle.dialog_replies.specs.Replies.{takes_back_class, takes_back_last, takes_each_back, tells_alike, trust_outcome, trusts_named, with_classes}
 use Rattle.dialog_replies.specs.Slices.{all_answer, entries_with_all, slice_answers}
 use Rattle.dialog_replies.specs.Subject.{Subject, book_of, calls_recorded, routine_named, state_after}
 use Rattle.dialog_replies.specs.declared.{instructions.DialogCommand.DialogCommand, instructions.Instruction.Instruction, slices.SliceOf.SliceOf}
 use Rattle.dialog_replies.specs.declared.slices.SliceOf.TheVariants as slices
 use Rattle.ask_session.specs.{Dialog.is_too_long, Dialog.said_after_line, Turned.said_through}
-use Rattle.ask_session.specs.LineActs.{EntriesFollowLines, act_by, acts_after_instruction, acts_after_line, acts_after_lines, acts_by_slice, acts_if_room}
-use Rattle.ask_session.specs.LineActs.{acts_making, acts_of_slice, judgement_kept, judgement_on}
+use Rattle.ask_session.specs.LineActs.{EntriesFollowLines, act_by, acts_after_instruction, acts_after_line, acts_after_lines, acts_by_classes, acts_by_slice}
+use Rattle.ask_session.specs.LineActs.{acts_if_room, acts_judging_alike, acts_judging_asked, acts_making, acts_of_slice, acts_on_alike, acts_taking_back}
+use Rattle.ask_session.specs.LineActs.{acts_taking_back_alike, judgement_kept, judgement_on}
 
 -- the answers that stand, by the acts
 pub said_after : {acts : List CommandAct} {entries : List Entry} → Follow acts entries → standing_answers entries ≡ standing_after acts
@@ -39,6 +42,35 @@ makes_all : (acts : List CommandAct) (entries : List Entry) → Follow acts entr
 makes_all acts entries before [] = before
 makes_all acts entries before (what ∷ whats) =
     makes_all (acts ++ Made (number_made acts + 1) what ∷ []) (entries_with entries what) (follow_made acts entries what before) whats
+
+some_same : {X : Type 0} {x y : X} → Some x ≡ Some y → x ≡ y
+some_same e = cc
+
+none_some : {X : Type 0} {x : X} → None ≡ Some x → ⊥
+none_some e = cc
+
+-- an entry that does not stand stays as it is when it is taken back
+same_set : (entries : List Entry) (place : ℕ) (entry : Entry) → slice_get entries place ≡ Some entry → entry.standing ≡ false
+    → slice_set entries place (record entry { standing = false }) ≡ entries
+same_set [] place entry at none = refl
+same_set (e ∷ entries) zero entry at none =
+    let same : e ≡ entry = some_same at in
+    ap (λ (f : Entry). f ∷ entries) ((λ i. record { what = entry.what; standing = sym none i }) ∙ sym same)
+same_set (e ∷ entries) (suc place) entry at none = ap (λ (l : List Entry). e ∷ l) (same_set entries place entry at none)
+
+stays_if : (entries : List Entry) (place : ℕ) (found : Option Entry) → (found ≡ None) ⊎ (found ≡ slice_get entries place)
+    → is_standing_entry found ≡ false → with_taken_back entries place found ≡ entries
+stays_if entries place None which none = refl
+stays_if entries place (Some entry) (inl absent) none = absurd (none_some (sym absent))
+stays_if entries place (Some entry) (inr at) none = same_set entries place entry (sym at) none
+
+stays : (entries : List Entry) (number : ℕ) → is_standing entries number ≡ false → entries_without entries number ≡ entries
+stays entries number none = stays_if entries (number - 1) (entry_at entries number) (which (number == 0)) none
+  where
+    which : (b : Bool) → ((if b then None else slice_get entries (number - 1)) ≡ None)
+        ⊎ ((if b then None else slice_get entries (number - 1)) ≡ slice_get entries (number - 1))
+    which true = inl refl
+    which false = inr refl
 
 module _ (s : Subject) where
   -- a search with these entries
@@ -62,6 +94,21 @@ module _ (s : Subject) where
       → (search_taken_back answer (search_of said.entries)).book.entries ≡ (takes_back_last s said answer).said.entries
   takes_last_as said (Ok number) = refl
   takes_last_as said (Err fault) = refl
+
+  -- entries that are taken back, each by a command of its own
+  taken_by : (entries : List Entry) (number : ℕ) (standing : Bool) → is_standing entries number ≡ standing
+      → (if_accepted {X = Unit {0}} (if standing then Ok tt else Err (faults.NotStanding number)) (search_without (search_of entries) number)
+      (search_of entries)).book.entries ≡ entries_without entries number
+  taken_by entries number true is = refl
+  taken_by entries number false is = sym (stays entries number is)
+
+  takes_each : (acts : List CommandAct) (entries : List Entry) → Follow acts entries → (numbers : List ℕ)
+      → Follow (acts_taking_back s acts numbers) (fold entries_without entries numbers)
+  takes_each acts entries before [] = before
+  takes_each acts entries before (number ∷ numbers) =
+      takes_each (and_then acts (act_by s acts (Some (TakeBack number)))) (entries_without entries number)
+      (subst (λ (now : List Entry). Follow (and_then acts (act_by s acts (Some (TakeBack number)))) now)
+      (taken_by entries number (is_standing entries number) refl) (follow_command acts (search_of entries) (TakeBack number) before)) numbers
 
   -- ---- one instruction
 
@@ -144,6 +191,52 @@ module _ (s : Subject) where
         both_ways (nat_lt call (calls_recorded s)) (acts_by_slice s acts call (s.slice call name)) acts _ _
         (sliced_by call name (s.slice call name)) before
 
+    -- ---- a line on calls that are alike
+
+    by_classes : (told : Option (List ℕ)) (made : List ℕ → List CommandAct) (goes : List ℕ → LineOutcome)
+        → ((classes : List ℕ) → Follow (made classes) (goes classes).said.entries)
+        → Follow (acts_by_classes told acts made) (if_compared said told goes).said.entries
+    by_classes (Some classes) made goes each = each classes
+    by_classes None made goes each = before
+
+    on_alike : (call : ℕ) (made : List ℕ → List CommandAct) (goes : List ℕ → LineOutcome)
+        → ((classes : List ℕ) → Follow (made classes) (goes classes).said.entries)
+        → Follow (acts_on_alike s acts call made) (with_classes s said call goes).said.entries
+    on_alike call made goes each =
+        both_ways (nat_lt call (calls_recorded s)) (acts_by_classes s.classes acts made) acts _ _ (by_classes s.classes made goes each) before
+
+    told_by : (told : Option (List ℕ)) (call : ℕ) → Follow acts (if_compared said told (λ classes. replied said (alike_text classes call))).said.entries
+    told_by (Some classes) call = before
+    told_by None call = before
+
+    told_alike : (call : ℕ) → Follow acts (tells_alike s said call).said.entries
+    told_alike call = either (nat_lt call (calls_recorded s)) _ _ (told_by s.classes call) before
+
+    judged_alike : (judgement : Judgement) (call : ℕ) → Follow (acts_judging_alike s acts judgement call) (judges_class s said judgement call).said.entries
+    judged_alike judgement call =
+        on_alike call (λ classes. acts_if_room acts (judged_each judgement (class_of classes call)))
+        (λ classes. says_all s said (judged_each judgement (class_of classes call))) (λ classes. said_all (judged_each judgement (class_of classes call)))
+
+    judged_alike_asked : (judgement : Judgement) (state : SearchState)
+        → Follow (acts_judging_asked s acts judgement state) (judges_class_asked s said judgement state).said.entries
+    judged_alike_asked judgement (Ask call weight suspects left) = judged_alike judgement call
+    judged_alike_asked judgement (Found call) = before
+    judged_alike_asked judgement (Narrowed call) = before
+    judged_alike_asked judgement NothingWrong = before
+    judged_alike_asked judgement Unclear = before
+
+    taken_or_none : (numbers : List ℕ) → Follow (acts_taking_back s acts numbers) (takes_each_back s said numbers).said.entries
+    taken_or_none [] = before
+    taken_or_none (number ∷ numbers) = takes_each acts said.entries before (number ∷ numbers)
+
+    taken_alike : (call : ℕ) → Follow (acts_taking_back_alike s acts call) (takes_back_class s said call).said.entries
+    taken_alike call =
+        on_alike call (λ classes. acts_taking_back s acts (standing_alike (entries_after acts) classes call))
+        (λ classes. takes_each_back s said (standing_alike said.entries classes call))
+        (λ classes. subst (λ (entries : List Entry). Follow (acts_taking_back s acts (standing_alike entries classes call))
+        (takes_each_back s said (standing_alike said.entries classes call)).said.entries) before.entries_are
+        (taken_or_none (standing_alike said.entries classes call)))
+
     by_dialog : (c : DialogCommand) → Follow (acts_after_instruction s said.replies acts (Instruction.Command c)) (command_outcome s said c).said.entries
     unfolding command_outcome
     by_dialog DialogCommand.Nothing = before
@@ -168,6 +261,13 @@ module _ (s : Subject) where
     by_dialog (DialogCommand.State call name) = before
     by_dialog (DialogCommand.Trace call) = before
     by_dialog (DialogCommand.Slice call name) = sliced call name
+    by_dialog (DialogCommand.Alike call) = told_alike call
+    by_dialog (DialogCommand.JudgeAlike judgement None) =
+        subst (λ (answers : List What). Follow (acts_judging_asked s acts judgement (state_in s.tree answers))
+        (judges_class_asked s said judgement (state_after s said.entries)).said.entries) (said_after before)
+        (judged_alike_asked judgement (state_after s said.entries))
+    by_dialog (DialogCommand.JudgeAlike judgement (Some call)) = judged_alike judgement call
+    by_dialog (DialogCommand.TakeBackAlike call) = taken_alike call
     by_dialog (DialogCommand.Carry call onto) = before
     by_dialog DialogCommand.Tree = before
     by_dialog DialogCommand.Other = before
@@ -234,6 +334,30 @@ module _ (s : Subject) where
   slice_keeps said call name slices.NoOutput = refl
   slice_keeps said call name slices.TooMany = refl
 
+  compared_keeps : (said : Said) (told : Option (List ℕ)) (goes : List ℕ → LineOutcome) → ((classes : List ℕ) → (goes classes).said.replies ≡ said.replies)
+      → (if_compared said told goes).said.replies ≡ said.replies
+  compared_keeps said (Some classes) goes each = each classes
+  compared_keeps said None goes each = refl
+
+  alike_keeps : (said : Said) (call : ℕ) (goes : List ℕ → LineOutcome) → ((classes : List ℕ) → (goes classes).said.replies ≡ said.replies)
+      → (with_classes s said call goes).said.replies ≡ said.replies
+  alike_keeps said call goes each = either_keeps said (nat_lt call (calls_recorded s)) _ _ (compared_keeps said s.classes goes each) refl
+
+  judged_keeps : (said : Said) (judgement : Judgement) (call : ℕ) → (judges_class s said judgement call).said.replies ≡ said.replies
+  judged_keeps said judgement call = alike_keeps said call (λ classes. says_all s said (judged_each judgement (class_of classes call)))
+      (λ classes. all_keeps said (judged_each judgement (class_of classes call)) (all_answer said.entries (judged_each judgement (class_of classes call))))
+
+  judged_asked_keeps : (said : Said) (judgement : Judgement) (state : SearchState) → (judges_class_asked s said judgement state).said.replies ≡ said.replies
+  judged_asked_keeps said judgement (Ask call weight suspects left) = judged_keeps said judgement call
+  judged_asked_keeps said judgement (Found call) = refl
+  judged_asked_keeps said judgement (Narrowed call) = refl
+  judged_asked_keeps said judgement NothingWrong = refl
+  judged_asked_keeps said judgement Unclear = refl
+
+  taken_keeps : (said : Said) (numbers : List ℕ) → (takes_each_back s said numbers).said.replies ≡ said.replies
+  taken_keeps said [] = refl
+  taken_keeps said (number ∷ numbers) = refl
+
   command_keeps : (said : Said) (c : DialogCommand) → (command_outcome s said c).said.replies ≡ said.replies
   unfolding command_outcome
   command_keeps said DialogCommand.Nothing = refl
@@ -250,6 +374,12 @@ module _ (s : Subject) where
   command_keeps said (DialogCommand.Trace call) = refl
   command_keeps said (DialogCommand.Slice call name) =
       either_keeps said (nat_lt call (calls_recorded s)) _ _ (slice_keeps said call name (s.slice call name)) refl
+  command_keeps said (DialogCommand.Alike call) = alike_keeps said call (λ classes. replied said (alike_text classes call)) (λ classes. refl)
+  command_keeps said (DialogCommand.JudgeAlike judgement None) = judged_asked_keeps said judgement (state_after s said.entries)
+  command_keeps said (DialogCommand.JudgeAlike judgement (Some call)) = judged_keeps said judgement call
+  command_keeps said (DialogCommand.TakeBackAlike call) =
+      alike_keeps said call (λ classes. takes_each_back s said (standing_alike said.entries classes call))
+      (λ classes. taken_keeps said (standing_alike said.entries classes call))
   command_keeps said (DialogCommand.Carry call onto) = refl
   command_keeps said DialogCommand.Tree = refl
   command_keeps said DialogCommand.Other = refl

@@ -7,6 +7,7 @@ use Rattle.optimal_query.specs.{Accepted.standing_after, Laws.state_in}
 use Rattle.optimal_query.specs.Accepted.{CommandAct, Made, act_of, acts_giving, and_then, entries_after, number_made}
 use Rattle.optimal_query.specs.Standing.{Command, Judge, TakeBack, TakeBackLast, Trust}
 use Rattle.optimal_query.specs.declared.state.SearchState.{SearchState, TheVariants.Ask}
+use Rattle.answer_reuse.specs.{Classes.class_of, Shared.judged_each, Shared.standing_alike}
 use Rattle.dialog_replies.specs.{Instructions.instruction_of, Slices.slice_answers, declared.slices.SliceOf.SliceOf}
 use Rattle.dialog_replies.specs.Said.{KeptReplies, Said, kept_on}
 use Rattle.dialog_replies.specs.Subject.{Subject, calls_recorded, routine_named}
@@ -60,10 +61,44 @@ abbrev pub acts_of_slice : Subject → List CommandAct → (call : ℕ) → (nam
 acts_of_slice s acts call name =
     if nat_lt call (calls_recorded s) then acts_by_slice s acts call (s.slice call name) else acts
 
+-- ---- so does one that judges all calls that are alike to one; or it takes such judgements back
+
+abbrev pub acts_by_classes : (classes : Option (List ℕ)) → List CommandAct → (List ℕ → List CommandAct)
+    → List CommandAct
+acts_by_classes None acts goes = acts
+acts_by_classes (Some classes) acts goes = goes classes
+
+abbrev pub acts_on_alike : Subject → List CommandAct → (call : ℕ) → (List ℕ → List CommandAct) → List CommandAct
+acts_on_alike s acts call goes = if nat_lt call (calls_recorded s) then acts_by_classes s.classes acts goes else acts
+
+abbrev pub acts_judging_alike : Subject → List CommandAct → Judgement → (call : ℕ) → List CommandAct
+acts_judging_alike s acts judgement call =
+    acts_on_alike s acts call (λ classes. acts_if_room acts (judged_each judgement (class_of classes call)))
+
+abbrev pub acts_judging_asked : Subject → List CommandAct → Judgement → SearchState → List CommandAct
+acts_judging_asked s acts judgement (Ask call weight suspects left) = acts_judging_alike s acts judgement call
+acts_judging_asked s acts judgement state = acts
+
+-- each entry as it is by a command of its own
+abbrev pub acts_taking_back : Subject → List CommandAct → (numbers : List ℕ) → List CommandAct
+acts_taking_back s acts [] = acts
+acts_taking_back s acts (number ∷ numbers) =
+    acts_taking_back s (and_then acts (act_by s acts (Some (TakeBack number)))) numbers
+
+abbrev pub acts_taking_back_alike : Subject → List CommandAct → (call : ℕ) → List CommandAct
+acts_taking_back_alike s acts call = acts_on_alike s acts call
+    (λ classes. acts_taking_back s acts (standing_alike (entries_after acts) classes call))
+
 -- these acts and those of an instruction
 abbrev pub acts_after_instruction : Subject → KeptReplies → List CommandAct → Instruction → List CommandAct
 acts_after_instruction s kept acts (Instruction.Command (DialogCommand.Slice call name)) =
     acts_of_slice s acts call name
+acts_after_instruction s kept acts (Instruction.Command (DialogCommand.JudgeAlike judgement None)) =
+    acts_judging_asked s acts judgement (state_in s.tree (standing_after acts))
+acts_after_instruction s kept acts (Instruction.Command (DialogCommand.JudgeAlike judgement (Some call))) =
+    acts_judging_alike s acts judgement call
+acts_after_instruction s kept acts (Instruction.Command (DialogCommand.TakeBackAlike call)) =
+    acts_taking_back_alike s acts call
 acts_after_instruction s kept acts instruction = and_then acts (act_by s acts (command_in s kept acts instruction))
 
 -- these acts and those of a line

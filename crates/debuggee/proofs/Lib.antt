@@ -9,5 +9,6 @@ pub mod HeapCellsHaveBlocks
 pub mod CellsHaveNames
 pub mod CardsLeaveOut
 pub mod TracesHaveLines
+pub mod ClassesOfRuns
 pub mod SlicesOfRuns
 pub mod SlicesTold

@@ -2,9 +2,10 @@
 use Rattle.std.specs.Prelude.{[], ℕ, List, None, Some, length, map}
 use Rattle.core_program.specs.{ProgramRows.name_of, Replay.Replayed, Run.run, Run.way_out}
 use Rattle.call_tree.specs.Recording.{lasts_of, parents_of, routines_of}
-use Rattle.body_replay.specs.{Agreement.carries, Replays.kept_event, Replays.work_of}
+use Rattle.body_replay.specs.{Agreement.carries, Replays.kept_event, Replays.records_of, Replays.work_of}
 use Rattle.question_text.specs.{States.has_cell, States.state_text, Traces.trace_text, Trees.tree_text}
 use Rattle.question_text.specs.Cards.{Recorded, card, question}
+use Rattle.answer_reuse.specs.Classes.{compared}
 use Rattle.dialog_replies.specs.Subject.{Subject}
 use Rattle.debuggee.specs.{Execution.Execution, Slicing.slice_named}
 
@@ -21,8 +22,8 @@ trace h k =
     trace_of_work h.recorded k (work_of p (run p h.supply.input h.supply.budget) k)
 
 -- the columns of its calls, the routines of its program by number and name, the cards, questions and traces of its
--- calls, the lines on the cells before and after each, which calls had a part in an output of each, whether one may
--- stand where another was entered, and the lines of all calls with what is said of each
+-- calls, the lines on the cells before and after each, which calls had a part in an output of each, which are alike,
+-- whether one may stand where another was entered, and the lines of all calls with what is said of each
 abbrev pub subject_of : Execution → Subject
 subject_of h = record {
   tree = record {
@@ -38,6 +39,7 @@ subject_of h = record {
   has_cell = has_cell h.recorded;
   state = state_text h.recorded;
   slice = slice_named h;
+  classes = compared (records_of (run h.recorded.program h.supply.input h.supply.budget));
   carries = carries (run h.recorded.program h.supply.input h.supply.budget);
   marked = tree_text h.recorded.program h.recorded.calls;
 }

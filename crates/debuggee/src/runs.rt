@@ -8,6 +8,7 @@ ghost use Rattle.debuggee.specs.Told.{AreTold, counts_once, history_of};
 
 use crate::slicing::output_of_word;
 use answer_book::BookFault;
+use answer_reuse::{ClassFault, Classes};
 use body_replay::{Trace, carries, replay};
 use call_tree::{Calls, Mark};
 use cell_names::{NameFinder, PlacedParts};
@@ -153,6 +154,14 @@ impl<'a> Debugged for Debuggee<'a> {
         match self.output_named(alloc, call, name)? {
             Some(output) => self.slice_of(alloc, call, output),
             None => Ok(SliceOf::NoOutput),
+        }
+    }
+
+    fn classes(&self, alloc: Global) -> Result<Option<Classes>, Memory> {
+        match Classes::new(alloc, &self.program, &self.history) {
+            Ok(classes) => Ok(Some(classes)),
+            Err(ClassFault::TooMany(_)) => Ok(None),
+            Err(ClassFault::Memory) => Err(AllocError),
         }
     }
 

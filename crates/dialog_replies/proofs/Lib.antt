@@ -1,3 +1,4 @@
+pub mod AlikeInTurn
 pub mod ColumnsOfCalls
 mod EntriesInTurn
 mod FitsTheRun

@@ -31,6 +31,17 @@ abbrev pub carry_in : (call onto : List ℕ) → Instruction
 carry_in call onto =
     with_number (number_of call) (λ call. with_number (number_of onto) (λ onto. ask.Command (commands.Carry call onto)))
 
+-- a judgement on the call that is asked about and on all calls alike to it
+abbrev pub shared_in : Keyword → Instruction
+shared_in (key.Judge judgement) = ask.Command (commands.JudgeAlike judgement None)
+shared_in keyword = ask.Command commands.Other
+
+-- on a call of this number and on all calls alike to it; or such judgements are taken back
+abbrev pub shared_on : Keyword → (call : ℕ) → Instruction
+shared_on (key.Judge judgement) call = ask.Command (commands.JudgeAlike judgement (Some call))
+shared_on key.Back call = ask.Command (commands.TakeBackAlike call)
+shared_on keyword call = ask.Command commands.Other
+
 -- a cell's name is the rest of a line without blanks at its ends, since it may have blanks inside, as `a[' ']`
 abbrev pub rest_in : (rest : List ℕ) → List ℕ
 rest_in rest = before_blanks (after_blanks rest)
@@ -55,6 +66,9 @@ instruction_by key.Slice (call ∷ name ∷ names) rest =
     with_number (number_of call) (λ number. ask.Command (commands.Slice number (rest_in rest)))
 instruction_by key.Trace (call ∷ []) rest = with_number (number_of call) (λ number. ask.Command (commands.Trace number))
 instruction_by key.Carry (call ∷ onto ∷ []) rest = carry_in call onto
+instruction_by key.Alike (call ∷ []) rest = with_number (number_of call) (λ number. ask.Command (commands.Alike number))
+instruction_by key.Shared (word ∷ []) rest = shared_in (keyword_of word)
+instruction_by key.Shared (word ∷ call ∷ []) rest = with_number (number_of call) (shared_on (keyword_of word))
 instruction_by key.Tree [] rest = ask.Command commands.Tree
 instruction_by key.Save (file ∷ []) rest = save_in file
 instruction_by key.Same [] rest = ask.Command commands.Same

@@ -1,5 +1,5 @@
 -- How a search keeps what a dialog is about.
-use Rattle.std.specs.Prelude.{◌<◌, ◌≡◌, [], ℕ, List, Some, length}
+use Rattle.std.specs.Prelude.{◌<◌, ◌≡◌, [], ℕ, List, None, Option, Some, length}
 use Rattle.std.specs.{BTreeMap.get, Ordering.nat_cmp}
 use Rattle.call_tree.specs.Recording.{Recording}
 use Rattle.optimal_query.specs.Search.{Search}
@@ -19,6 +19,11 @@ abbrev pub AreDigestsOf : Subject → Digests → Type 0
 AreDigestsOf s digests =
     (call : ℕ) (digest : List ℕ) → get nat_cmp digests.made call ≡ Some digest → digest ≡ digest_on s call
 
+-- these are the classes of alike calls, one for each call; there are none before they are asked for
+abbrev pub AreClassesOf : Subject → Option (List ℕ) → Type 0
+AreClassesOf s (Some classes) = (s.classes ≡ Some classes) × (length classes ≡ calls_recorded s)
+AreClassesOf s None = Unit {0}
+
 -- what was said in a dialog
 abbrev pub said_in_dialog : Dialog → Said
 said_in_dialog d = record { entries = d.debug.book.entries; notes = d.notes; replies = d.replies }
@@ -27,6 +32,7 @@ said_in_dialog d = record { entries = d.debug.book.entries; notes = d.notes; rep
 pub record IsDialogOf (s : Subject) (d : Dialog) : Type 0 where
   pub search : IsSearchOf s d.debug
   pub digests : AreDigestsOf s d.digests
+  pub classes : AreClassesOf s d.classes
 
 -- these are the calls of the run: there is one at least, all were left, and each is of a routine
 pub record AreCallsOf (s : Subject) (run : Recording) : Type 0 where

@@ -1,3 +1,4 @@
+pub mod Alike
 pub mod Fit
 pub mod Instructions
 pub mod Kept

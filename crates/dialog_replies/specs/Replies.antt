@@ -1,16 +1,18 @@
 -- What each line of the dialog is replied, and the entries after it.
 use Rattle.std.specs.Prelude.{if◌then◌else◌, ◌&&◌, ◌++◌, [], ℕ, Bool, Err, List, None, Ok, Option, Result, Some, codes}
-use Rattle.std.specs.Prelude.{decimal, length, nat_le, nat_lt}
+use Rattle.std.specs.Prelude.{decimal, flat_map, length, nat_le, nat_lt}
 use Rattle.answer_book.specs.Answers.{judge_answer, take_back_answer, take_back_last_answer, trust_answer}
 use Rattle.answer_book.specs.Entries.{entries_with, entries_without, standing_answers}
 use Rattle.answer_book.specs.declared.entries.{BookFault.BookFault, Entry.Entry, Judgement.Judgement}
 use Rattle.answer_book.specs.declared.entries.What.{What, TheVariants.Judged, TheVariants.Trusted}
 use Rattle.optimal_query.specs.declared.state.SearchState.{SearchState, TheVariants.Ask}
+use Rattle.answer_reuse.specs.{Classes.class_of, Shared.judged_each, Shared.number_taken, Shared.standing_alike}
 use Rattle.kept_replies.specs.Notes.{with_note}
-use Rattle.dialog_replies.specs.{Said.Said, Said.kept_on, Start.gives_replies_alone, Start.said_at_start, Texts.report}
-use Rattle.dialog_replies.specs.{Texts.tree_text, declared.slices.SliceOf.SliceOf, declared.start.Start.Start}
+use Rattle.dialog_replies.specs.{Alike.entries_without_all, Said.Said, Said.kept_on, Texts.report, Texts.tree_text}
 use Rattle.dialog_replies.specs.Slices.{all_answer, entries_with_all, slice_answers}
+use Rattle.dialog_replies.specs.Start.{gives_replies_alone, said_at_start}
 use Rattle.dialog_replies.specs.Subject.{Subject, book_of, calls_recorded, routine_named, state_after}
+use Rattle.dialog_replies.specs.declared.{slices.SliceOf.SliceOf, start.Start.Start}
 use Rattle.dialog_replies.specs.declared.instructions.{DialogCommand.DialogCommand, Instruction.Instruction}
 use Rattle.dialog_replies.specs.declared.slices.SliceOf.TheVariants as slices
 
@@ -167,6 +169,54 @@ slices_output s said call name =
     if nat_lt call (calls_recorded s) then slices_by s said call name (s.slice call name)
     else replied said (no_call call)
 
+-- ---- one answer for calls that are alike
+
+-- what is replied where there is a call of this number, and not too much to compare
+abbrev pub if_compared : Said → Option (List ℕ) → (List ℕ → LineOutcome) → LineOutcome
+if_compared said (Some classes) goes = goes classes
+if_compared said None goes = replied said (codes "too many to compare\n")
+
+abbrev pub with_classes : Subject → Said → (call : ℕ) → (List ℕ → LineOutcome) → LineOutcome
+with_classes s said call goes =
+    if nat_lt call (calls_recorded s) then if_compared said s.classes goes else replied said (no_call call)
+
+-- the calls that are alike to a call, with that call itself
+abbrev pub numbered : ℕ → List ℕ
+numbered call = codes " " ++ decimal call
+
+abbrev pub alike_text : (classes : List ℕ) → (call : ℕ) → List ℕ
+alike_text classes call = codes "alike" ++ flat_map numbered (class_of classes call) ++ codes "\n"
+
+abbrev pub tells_alike : Subject → Said → (call : ℕ) → LineOutcome
+tells_alike s said call = with_classes s said call (λ classes. replied said (alike_text classes call))
+
+-- a judgement on each of them
+abbrev pub judges_class : Subject → Said → Judgement → (call : ℕ) → LineOutcome
+judges_class s said judgement call =
+    with_classes s said call (λ classes. says_all s said (judged_each judgement (class_of classes call)))
+
+abbrev pub judges_class_asked : Subject → Said → Judgement → SearchState → LineOutcome
+judges_class_asked s said judgement (Ask call weight suspects left) = judges_class s said judgement call
+judges_class_asked s said judgement state = replied said (codes "no question\n")
+
+-- the entries with these numbers are taken back
+abbrev pub taken_text : Subject → Said → (taken : ℕ) → List ℕ
+taken_text s said taken = codes "taken back " ++ decimal taken ++ codes "\n" ++ report s said
+
+abbrev pub takes_all : Subject → Said → (numbers : List ℕ) → Result ℕ BookFault → LineOutcome
+takes_all s said numbers (Ok taken) =
+    replied (with_entries_now said (entries_without_all said.entries numbers (Ok taken)))
+    (taken_text s (with_entries_now said (entries_without_all said.entries numbers (Ok taken))) taken)
+takes_all s said numbers (Err why) = replied said (book_fault_text why)
+
+-- each judgement that stands on one of them is taken back
+abbrev pub takes_each_back : Subject → Said → (numbers : List ℕ) → LineOutcome
+takes_each_back s said numbers = takes_all s said numbers (number_taken numbers)
+
+abbrev pub takes_back_class : Subject → Said → (call : ℕ) → LineOutcome
+takes_back_class s said call =
+    with_classes s said call (λ classes. takes_each_back s said (standing_alike said.entries classes call))
+
 unfoldable pub command_outcome : Subject → Said → DialogCommand → LineOutcome
 command_outcome s said DialogCommand.Nothing = replied said []
 command_outcome s said (DialogCommand.Judge judgement None) = judges_asked s said judgement (state_after s said.entries)
@@ -183,6 +233,11 @@ command_outcome s said (DialogCommand.Show call) = replied said (card_or_none s 
 command_outcome s said (DialogCommand.State call name) = replied said (state_or_none s call name)
 command_outcome s said (DialogCommand.Trace call) = replied said (trace_or_none s call)
 command_outcome s said (DialogCommand.Slice call name) = slices_output s said call name
+command_outcome s said (DialogCommand.Alike call) = tells_alike s said call
+command_outcome s said (DialogCommand.JudgeAlike judgement None) =
+    judges_class_asked s said judgement (state_after s said.entries)
+command_outcome s said (DialogCommand.JudgeAlike judgement (Some call)) = judges_class s said judgement call
+command_outcome s said (DialogCommand.TakeBackAlike call) = takes_back_class s said call
 command_outcome s said (DialogCommand.Carry call onto) = replied said (carry_or_none s call onto)
 command_outcome s said DialogCommand.Tree = replied said (tree_text s said.entries)
 command_outcome s said DialogCommand.Other = replied said (codes "not understood\n")

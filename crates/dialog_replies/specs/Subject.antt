@@ -12,8 +12,8 @@ use Rattle.dialog_replies.specs.declared.slices.SliceOf.{SliceOf}
 -- its card, the question about it, which says neither its number nor the call that made it, the lines of its trace,
 -- whether a cell has a name before or after it, and the lines on the cells of a name;
 -- of which calls an output had a part in an output of a call, which has a name;
--- whether the record of a call may be put in place of its run where another call was entered; and the lines of all
--- calls, with a mark for each
+-- the least call that is alike to each, if there is not too much to compare; whether the record of a call may be put in
+-- place of its run where another call was entered; and the lines of all calls, with a mark for each
 pub record Subject : Type 0 where
   pub tree : CallTree
   pub routines : ℕ
@@ -24,6 +24,7 @@ pub record Subject : Type 0 where
   pub has_cell : (call : ℕ) → (name : List ℕ) → Bool
   pub state : (call : ℕ) → (name : List ℕ) → List ℕ
   pub slice : (call : ℕ) → (name : List ℕ) → SliceOf (ℕ → Bool)
+  pub classes : Option (List ℕ)
   pub carries : (call onto : ℕ) → Bool
   pub marked : List Mark → List ℕ
 

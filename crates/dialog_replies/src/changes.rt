@@ -23,7 +23,12 @@ use std::alloc::Global;
 struct Uncounted;
 
 /// A text of these parts: words, a number, and words.
-fn numbered_text(alloc: Global, before: &[u8], number: u32, after: &[u8]) -> Result<Bytes, Memory>
+pub fn numbered_text(
+    alloc: Global,
+    before: &[u8],
+    number: u32,
+    after: &[u8],
+) -> Result<Bytes, Memory>
     ensures { IfOk result (λ text. text ≡ before.now ++ decimal number ++ after.now) }
 {
     let mut text = Bytes::new(alloc);
@@ -202,7 +207,7 @@ fn entries_line(alloc: Global, first: u32, last: u32) -> Result<Bytes, Memory>
 }
 
 /// The reply to new entries, of which these numbers are the first and the last: the numbers, and a report.
-fn entries_made<D: Debugged>(
+pub fn entries_made<D: Debugged>(
     alloc: Global,
     run: &D,
     dialog: &mut Dialog,

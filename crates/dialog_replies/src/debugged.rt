@@ -2,12 +2,13 @@
 ghost use Rattle.std.specs.Prelude.{◌<◌, ◌≡◌, [], IfOk, false, length};
 ghost use Rattle.edge_ports.specs.Printouts.{Prints};
 ghost use Rattle.optimal_query.specs.Search.{answers_in};
-ghost use Rattle.dialog_replies.specs.{Kept.AreCallsOf, Kept.IsSearchOf, Prepared.IsSliceOf, Prepared.Prepared};
+ghost use Rattle.dialog_replies.specs.{Prepared.IsSliceOf, Prepared.Prepared, Subject.Subject, Subject.calls_recorded};
+ghost use Rattle.dialog_replies.specs.Kept.{AreCallsOf, AreClassesOf, IsSearchOf};
 ghost use Rattle.dialog_replies.specs.Slices.{all_answer, entries_after_all, slice_answers};
-ghost use Rattle.dialog_replies.specs.Subject.{Subject, calls_recorded};
 
 use crate::slices::SliceOf;
 use answer_book::BookFault;
+use answer_reuse::Classes;
 use call_tree::{Calls, Mark};
 use edge_ports::{Memory, Printer};
 use optimal_query::Debug;
@@ -66,6 +67,11 @@ pub trait Debugged {
     ) -> Result<SliceOf<Self::Slice>, Memory>
         requires { call < calls_recorded (subject self.now) }
         ensures { IfOk result (IsSliceOf (prepared self.now) call ((subject self.now).slice call name.now)) };
+
+    /// The classes of alike calls: none where there is too much to compare.
+    fn classes(&self, alloc: Global) -> Result<Option<Classes>, Memory>
+        ensures told { IfOk result (λ classes. classes ≡ (subject self.now).classes) }
+        ensures each { IfOk result (AreClassesOf (subject self.now)) };
 
     /// Judges a call wrong, and then each call right, by rising number, that had no part in the output that is sliced:
     /// it stands below that call, nothing is said of it, and the slice has no output of it, but one of the call that

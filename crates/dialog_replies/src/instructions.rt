@@ -3,7 +3,7 @@ ghost use Rattle.std.specs.Prelude.{◌∷◌, ◌≡◌, [], ℕ, IsTrue, List}
 ghost use Rattle.kept_replies.specs.Notes.{is_note};
 ghost use Rattle.dialog_replies.specs.{Numbers.number_of, Words.after_word, Words.words};
 ghost use Rattle.dialog_replies.specs.Instructions.{carry_in, instruction_by, instruction_of, note_by, rest_in};
-ghost use Rattle.dialog_replies.specs.Instructions.{save_in, trust_in, with_number};
+ghost use Rattle.dialog_replies.specs.Instructions.{save_in, shared_in, shared_on, trust_in, with_number};
 ghost use Rattle.dialog_replies.specs.declared.instructions.DialogCommand.TheVariants as commands;
 ghost use Rattle.dialog_replies.specs.declared.instructions.Instruction.TheVariants as ask;
 ghost use Rattle.dialog_replies.specs.declared.keywords.Keyword.TheVariants as key;
@@ -126,6 +126,13 @@ pub enum DialogCommand<'a> {
     /// `slice K NAME`: the call of this number went wrong by the output of this name, and each call below it that had
     /// no part in that is left out of the search.
     Slice(u32, Name<'a>),
+    /// `alike K`: which calls are alike to the call of this number.
+    Alike(u32),
+    /// `shared right`, `shared wrong` and `shared unknown`: a judgement on the call of this number, or on the one that
+    /// is asked about, and on all calls that are alike to it.
+    JudgeAlike(Judgement, Option<u32>),
+    /// `shared back K`: to take back each judgement that stands on a call alike to the call of this number.
+    TakeBackAlike(u32),
     /// `carry K J`: whether the record of the call of the first number may be put in place of its run where the call of
     /// the second number was entered.
     Carry(u32, u32),
@@ -150,6 +157,8 @@ fn alone<'a>(keyword: Keyword) -> Instruction<'a>
         | Keyword::State
         | Keyword::Trace
         | Keyword::Slice
+        | Keyword::Alike
+        | Keyword::Shared
         | Keyword::Carry
         | Keyword::Save
         | Keyword::Note
@@ -177,6 +186,31 @@ fn save<'a>(file: &'a [u8]) -> Instruction<'a>
     }
 }
 
+/// What `shared` asks for with this keyword after it.
+fn shared<'a>(keyword: Keyword) -> Instruction<'a>
+    ensures { result ≡ shared_in keyword }
+{
+    match keyword {
+        Keyword::Judge(judgement) => Instruction::Command(DialogCommand::JudgeAlike(
+            judgement, None,
+        )),
+        _ => Instruction::Command(DialogCommand::Other),
+    }
+}
+
+/// What `shared` asks for with this keyword after it and then the number of a call.
+fn shared_on<'a>(keyword: Keyword, call: u32) -> Instruction<'a>
+    ensures { result ≡ shared_on keyword call }
+{
+    match keyword {
+        Keyword::Judge(judgement) => {
+            Instruction::Command(DialogCommand::JudgeAlike(judgement, Some(call)))
+        }
+        Keyword::Back => Instruction::Command(DialogCommand::TakeBackAlike(call)),
+        _ => Instruction::Command(DialogCommand::Other),
+    }
+}
+
 /// What a keyword asks for with this word after it.
 fn with_operand<'a>(keyword: Keyword, operand: &'a [u8]) -> Instruction<'a>
     ensures { (rest : List ℕ) → result ≡ instruction_by keyword (operand.now ∷ []) rest }
@@ -199,6 +233,11 @@ fn with_operand<'a>(keyword: Keyword, operand: &'a [u8]) -> Instruction<'a>
             Some(call) => Instruction::Command(DialogCommand::Trace(call)),
             None => Instruction::Command(DialogCommand::Other),
         },
+        Keyword::Alike => match number_in(operand) {
+            Some(call) => Instruction::Command(DialogCommand::Alike(call)),
+            None => Instruction::Command(DialogCommand::Other),
+        },
+        Keyword::Shared => shared(keyword_in(operand)),
         Keyword::Save => save(operand),
         Keyword::State
         | Keyword::Slice
@@ -283,6 +322,16 @@ fn carry_alone<'a>(call: &[u8], onto: &[u8], after: &[u8]) -> Instruction<'a>
     }
 }
 
+/// What `shared` asks for with two words or more after it: the first two, and what follows them.
+fn shared_alone<'a>(word: &[u8], call: &[u8], after: &[u8]) -> Instruction<'a>
+    ensures { (rest : List ℕ) → result ≡ instruction_by key.Shared (word.now ∷ call.now ∷ words after.now) rest }
+{
+    match (number_in(call), first_word(after)) {
+        (Some(call), None) => shared_on(keyword_in(word), call),
+        _ => Instruction::Command(DialogCommand::Other),
+    }
+}
+
 /// What a keyword asks for with more than one word after it: the first, and what follows it; the second, and what
 /// follows that.
 fn with_more<'a>(
@@ -299,7 +348,9 @@ fn with_more<'a>(
         Keyword::Slice => slice(operand, rest),
         Keyword::Note => note(operand, rest),
         Keyword::Carry => carry_alone(operand, second, after),
+        Keyword::Shared => shared_alone(operand, second, after),
         Keyword::Judge(_)
+        | Keyword::Alike
         | Keyword::Trust
         | Keyword::Back
         | Keyword::Show

@@ -1,6 +1,6 @@
 //! The first word of a line.
 ghost use Rattle.std.specs.Prelude.{◌≡◌};
-ghost use Rattle.dialog_replies.specs.Keywords.{keyword_of};
+ghost use Rattle.dialog_replies.specs.Keywords.{call_keyword, keyword_of, session_keyword};
 
 use answer_book::Judgement;
 
@@ -21,6 +21,10 @@ pub enum Keyword {
     Trace,
     /// `slice`.
     Slice,
+    /// `alike`.
+    Alike,
+    /// `shared`.
+    Shared,
     /// `carry`.
     Carry,
     /// `tree`.
@@ -37,6 +41,44 @@ pub enum Keyword {
     Other,
 }
 
+/// The keyword that a word on the session, its marks or its notes is.
+fn session_keyword(word: &[u8]) -> Keyword
+    ensures { result ≡ session_keyword word.now }
+{
+    if word == b"tree".as_slice() {
+        Keyword::Tree
+    } else if word == b"save".as_slice() {
+        Keyword::Save
+    } else if word == b"note".as_slice() {
+        Keyword::Note
+    } else if word == b"quit".as_slice() {
+        Keyword::Quit
+    } else {
+        Keyword::Other
+    }
+}
+
+/// The keyword that a word is which neither judges nor takes back.
+fn call_keyword(word: &[u8]) -> Keyword
+    ensures { result ≡ call_keyword word.now }
+{
+    if word == b"show".as_slice() {
+        Keyword::Show
+    } else if word == b"state".as_slice() {
+        Keyword::State
+    } else if word == b"trace".as_slice() {
+        Keyword::Trace
+    } else if word == b"slice".as_slice() {
+        Keyword::Slice
+    } else if word == b"alike".as_slice() {
+        Keyword::Alike
+    } else if word == b"carry".as_slice() {
+        Keyword::Carry
+    } else {
+        session_keyword(word)
+    }
+}
+
 /// The keyword that a word is. Letter case counts.
 pub fn keyword_in(word: &[u8]) -> Keyword
     ensures { result ≡ keyword_of word.now }
@@ -47,31 +89,15 @@ pub fn keyword_in(word: &[u8]) -> Keyword
         Keyword::Judge(Judgement::Wrong)
     } else if word == b"unknown".as_slice() {
         Keyword::Judge(Judgement::Unknown)
+    } else if word == b"same".as_slice() {
+        Keyword::Same
     } else if word == b"trust".as_slice() {
         Keyword::Trust
     } else if word == b"back".as_slice() {
         Keyword::Back
-    } else if word == b"show".as_slice() {
-        Keyword::Show
-    } else if word == b"state".as_slice() {
-        Keyword::State
-    } else if word == b"trace".as_slice() {
-        Keyword::Trace
-    } else if word == b"slice".as_slice() {
-        Keyword::Slice
-    } else if word == b"carry".as_slice() {
-        Keyword::Carry
-    } else if word == b"tree".as_slice() {
-        Keyword::Tree
-    } else if word == b"save".as_slice() {
-        Keyword::Save
-    } else if word == b"same".as_slice() {
-        Keyword::Same
-    } else if word == b"note".as_slice() {
-        Keyword::Note
-    } else if word == b"quit".as_slice() {
-        Keyword::Quit
+    } else if word == b"shared".as_slice() {
+        Keyword::Shared
     } else {
-        Keyword::Other
+        call_keyword(word)
     }
 }

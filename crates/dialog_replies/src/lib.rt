@@ -3,6 +3,7 @@
 //! through a port.
 #![tactic(auto)]
 
+mod alike;
 mod calls;
 mod changes;
 mod debugged;

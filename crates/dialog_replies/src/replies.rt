@@ -8,6 +8,7 @@ ghost use Rattle.dialog_replies.specs.Replies.{judges_as_kept, judges_asked, jud
 ghost use Rattle.dialog_replies.specs.Replies.{opening_of, slices_by, slices_output, state_or_none, trace_or_none};
 ghost use Rattle.dialog_replies.specs.Subject.{calls_recorded, routine_named, state_after};
 
+use crate::alike::{alike_of, judge_alike_asked, judge_alike_of, take_back_alike_of};
 use crate::calls::{routine_named, write_number};
 use crate::changes::{
     judge, leave_out, note, refused, take_back, take_back_last, text_of, text_reply, trust,
@@ -372,6 +373,14 @@ pub fn answer<D: Debugged>(
         DialogCommand::State(call, name) => state_of(alloc, run, call, name.bytes()),
         DialogCommand::Trace(call) => trace_of(alloc, run, call),
         DialogCommand::Slice(call, name) => slice_of(alloc, run, dialog, call, name.bytes()),
+        DialogCommand::Alike(call) => alike_of(alloc, run, dialog, call),
+        DialogCommand::JudgeAlike(judgement, None) => {
+            judge_alike_asked(alloc, run, dialog, judgement)
+        }
+        DialogCommand::JudgeAlike(judgement, Some(call)) => {
+            judge_alike_of(alloc, run, dialog, judgement, call)
+        }
+        DialogCommand::TakeBackAlike(call) => take_back_alike_of(alloc, run, dialog, call),
         DialogCommand::Carry(call, onto) => carry_of(alloc, run, call, onto),
         DialogCommand::Tree => tree_of(alloc, run, &dialog.debug),
         DialogCommand::Other => text_reply(alloc, b"not understood\n"),

@@ -56,6 +56,7 @@ fn resume_session<'a, D: Debugged>(
             notes: Notes::new(alloc),
             replies,
             digests: no_digests(alloc),
+            classes: None,
         })
     } else {
         let debug = resume_with(alloc, run, session.entries.as_slice())?;
@@ -65,6 +66,7 @@ fn resume_session<'a, D: Debugged>(
             notes,
             replies,
             digests: no_digests(alloc),
+            classes: None,
         })
     }
 }
@@ -90,6 +92,7 @@ pub fn resume<'a, D: Debugged>(
                 notes: Notes::new(alloc),
                 replies: Replies::new(alloc),
                 digests: no_digests(alloc),
+                classes: None,
             })
         }
     }

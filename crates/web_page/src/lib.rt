@@ -5,8 +5,6 @@
 mod outside;
 mod request;
 mod take;
-#[cfg(test)]
-mod tests;
 mod turn;
 
 pub use take::{out_of_memory, take_turn};

@@ -1,6 +1,6 @@
-//! What no clause says: that memory suffices.
-use crate::{NamedFile, PageTurn, take_turn};
+//! What no clause says of a turn in a page: that memory suffices.
 use std::alloc::Global;
+use web_page::{NamedFile, PageTurn, take_turn};
 
 const CHANGE: &[u8] =
     b"program change;\nvar coins: integer;\nprocedure fifty;\nbegin coins := coins + 50 end;\nprocedure twenty;\n\

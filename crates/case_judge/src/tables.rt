@@ -2,96 +2,107 @@
 
 use crate::answers::{Answer, append_answer};
 use crate::escapes::unescaped;
-use crate::rows::{Judged, is_row};
+use crate::rows::{Judged, append_all, append_shown, is_row};
 use crate::sources::SOURCE_BYTES;
-use anyhow::{Context, Result, bail, ensure};
 use check_steps::Def;
 use code_checker::declare_source;
 use core_program::rows::{Mode, NameRow, Row, TypeRow};
 use decl_checker::{Scopes, find, find_in};
-use std::alloc::Global;
+use std::alloc::{AllocError, Global};
+use std::fmt::Display;
 
 /// Tries each question of a file. A line `source: SOURCE` has the source of the questions after it, each a line
 /// `QUESTION: ANSWER`.
-pub(crate) fn try_tables(alloc: Global, text: &str, judged: &mut Judged) -> Result<()> {
-    let mut scopes = None;
-    for line in text.lines() {
+pub(crate) fn try_tables(alloc: Global, text: &str, judged: &mut Judged) -> Result<(), AllocError> {
+    let mut parts = text.split("\nsource: ");
+    let _note = parts.next();
+    for part in parts {
+        let (written, questions) = part.split_once('\n').unwrap_or((part, ""));
+        try_source(alloc, written, questions, judged)?;
+    }
+    Ok(())
+}
+
+/// Tries the questions about a source with escapes.
+fn try_source(
+    alloc: Global,
+    written: &str,
+    questions: &str,
+    judged: &mut Judged,
+) -> Result<(), AllocError> {
+    let source = unescaped(alloc, written)?;
+    if SOURCE_BYTES < source.len() {
+        return judged.judge(written, b"its tables", b"too long");
+    }
+    match declare_source(alloc, &source) {
+        Ok(scopes) => ask(alloc, &scopes, questions, judged),
+        Err(fault) => refuse(alloc, written, &fault, judged),
+    }
+}
+
+/// Counts the source as a row that failed, since it is refused.
+fn refuse<T: Display>(
+    alloc: Global,
+    written: &str,
+    fault: &T,
+    judged: &mut Judged,
+) -> Result<(), AllocError> {
+    let mut seen = Vec::new(alloc);
+    append_shown(fault, &mut seen)?;
+    judged.judge(written, b"its tables", &seen)
+}
+
+/// Tries questions about tables.
+fn ask(
+    alloc: Global,
+    scopes: &Scopes,
+    questions: &str,
+    judged: &mut Judged,
+) -> Result<(), AllocError> {
+    for line in questions.lines() {
         if is_row(line) {
-            try_line(alloc, line, &mut scopes, judged).context(line)?;
+            let (question, wanted) = line.split_once(": ").unwrap_or((line, ""));
+            let mut seen = Vec::new(alloc);
+            append_seen(scopes, question, &mut seen)?;
+            judged.judge(question, wanted.as_bytes(), &seen)?;
         }
     }
     Ok(())
 }
 
-/// Takes a source, or tries a question.
-fn try_line(
-    alloc: Global,
-    line: &str,
-    scopes: &mut Option<Scopes>,
-    judged: &mut Judged,
-) -> Result<()> {
-    let (question, wanted) = line
-        .split_once(": ")
-        .context("a question, a colon, a blank and an answer are wanted")?;
-    if question == "source" {
-        *scopes = Some(declared(alloc, wanted)?);
-        return Ok(());
-    }
-    let scopes = scopes
-        .as_ref()
-        .context("a question before the first source")?;
-    let mut seen = Vec::new(alloc);
-    append_seen(scopes, question, &mut seen)?;
-    judged.judge(question, wanted.as_bytes(), &seen)
-}
-
-/// The tables of a source with escapes.
-fn declared(alloc: Global, written: &str) -> Result<Scopes> {
-    let source = unescaped(alloc, written)?;
-    ensure!(source.len() <= SOURCE_BYTES, "the source is too long");
-    Ok(declare_source(alloc, &source)?)
-}
-
 /// Appends the answer to a question: a word, and a number after all but `routines`, with a name or a field after it
 /// where there are two things to ask about.
-fn append_seen(scopes: &Scopes, question: &str, seen: &mut Vec<u8>) -> Result<()> {
-    if question == "routines" {
-        return append_answer(number_answer(Some(scopes.routines())), seen);
-    }
-    let (word, rest) = question.split_once(' ').context("no question")?;
+fn append_seen(scopes: &Scopes, question: &str, seen: &mut Vec<u8>) -> Result<(), AllocError> {
+    let (word, rest) = question.split_once(' ').unwrap_or((question, ""));
     let (number, last) = rest.split_once(' ').unwrap_or((rest, ""));
-    let number: u32 = number.parse()?;
+    let number: u32 = number.parse().unwrap_or(u32::MAX);
     match word {
-        "routine" if last.is_empty() => Ok(seen.extend_from_slice(scopes.name(number))?),
-        _ if last.is_empty() => append_answer(about_one(scopes, word, number)?, seen),
-        _ => append_answer(about_two(scopes, word, number, last)?, seen),
+        "routine" => append_all(&[scopes.name(number)], seen),
+        _ => append_answer(answer(scopes, word, number, last), seen),
     }
 }
 
-/// The answer to a question about one number.
-fn about_one(scopes: &Scopes, word: &str, number: u32) -> Result<Answer> {
-    let program = scopes.program();
+/// The answer to a question about a number, and a name or a field after it.
+fn answer(scopes: &Scopes, word: &str, number: u32, last: &str) -> Answer {
     match word {
-        "type" => Ok(type_answer(program.type_row(number))),
-        "name" => Ok(name_answer(program.row(number))),
-        "region" => Ok(number_answer(scopes.region(number))),
-        "size_of" => Ok(number_answer(Some(scopes.size_of(number)))),
-        "frame" => Ok(number_answer(Some(scopes.frame(number)))),
-        "result" => {
-            let routine = program.routine(number).context("no routine")?;
-            Ok(number_answer(routine.result))
-        }
-        _ => bail!("no question about one number"),
+        "find" => def_answer(find(scopes, number, last.as_bytes())),
+        "find_in" => def_answer(find_in(scopes, number, last.as_bytes())),
+        "type" => type_answer(scopes.program().type_row(number)),
+        "name" => name_answer(scopes.program().row(number)),
+        _ => number_answer(number_of(scopes, word, number, last)),
     }
 }
 
-/// The answer to a question about a number and a name or a field.
-fn about_two(scopes: &Scopes, word: &str, number: u32, last: &str) -> Result<Answer> {
+/// The number that answers a question.
+fn number_of(scopes: &Scopes, word: &str, number: u32, last: &str) -> Option<u32> {
     match word {
-        "find" => Ok(def_answer(find(scopes, number, last.as_bytes()))),
-        "find_in" => Ok(def_answer(find_in(scopes, number, last.as_bytes()))),
-        "offset_of" => Ok(number_answer(Some(scopes.offset_of(number, last.parse()?)))),
-        _ => bail!("no question about two"),
+        "routines" => Some(scopes.routines()),
+        "region" => scopes.region(number),
+        "size_of" => Some(scopes.size_of(number)),
+        "frame" => Some(scopes.frame(number)),
+        "result" => scopes.program().routine(number)?.result,
+        "offset_of" => Some(scopes.offset_of(number, last.parse().unwrap_or(u32::MAX))),
+        _ => None,
     }
 }
 

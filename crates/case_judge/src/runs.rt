@@ -2,19 +2,17 @@
 
 use crate::answers::{Answer, append_answer};
 use crate::escapes::unescaped;
-use crate::rows::Judged;
+use crate::rows::{Judged, append_all, append_shown};
 use crate::sections::{Section, lines, sections};
 use crate::sources::SOURCE_BYTES;
-use anyhow::{Context, Result, ensure};
 use call_tree::Calls;
 use cell_value::{Kind, Touch, Value, WayOut, Which};
 use code_checker::check_tokens;
 use core_program::Program;
 use effect_log::Log;
-use pas_lexer::lex;
+use pas_lexer::{Tokens, lex};
 use program_run::{History, run};
-use std::alloc::Global;
-use std::io::Write;
+use std::alloc::{AllocError, Global};
 
 /// The budget of a run where a case does not say it.
 const BUDGET: u32 = 1_000_000;
@@ -42,10 +40,15 @@ struct Subject<'a> {
 /// steps and the entries of the log that the call and those below it made; and a line `written ADDRESS = VALUE` for
 /// some addresses, with what was last written there, `?` for the undefined value and `none` for nothing. A `note` is
 /// not read.
-pub(crate) fn try_runs(alloc: Global, text: &str, judged: &mut Judged) -> Result<()> {
-    let mut subject = None;
+pub(crate) fn try_runs(alloc: Global, text: &str, judged: &mut Judged) -> Result<(), AllocError> {
+    let mut subject = Subject {
+        name: "",
+        source: "",
+        input: "",
+        budget: BUDGET,
+    };
     for section in &sections(alloc, text)? {
-        take_section(alloc, section, &mut subject, judged).context(section.heading)?;
+        take_section(alloc, section, &mut subject, judged)?;
     }
     Ok(())
 }
@@ -54,71 +57,92 @@ pub(crate) fn try_runs(alloc: Global, text: &str, judged: &mut Judged) -> Result
 fn take_section<'a>(
     alloc: Global,
     section: &Section<'a>,
-    subject: &mut Option<Subject<'a>>,
+    subject: &mut Subject<'a>,
     judged: &mut Judged,
-) -> Result<()> {
-    if let Some(name) = section.heading.strip_prefix("case ") {
-        *subject = Some(Subject {
-            name,
-            source: "",
-            input: "",
-            budget: BUDGET,
-        });
-        return Ok(());
-    }
-    let subject = subject.as_mut().context("a section before the first case")?;
+) -> Result<(), AllocError> {
     match section.heading {
         "source" => subject.source = section.text,
         "input" => subject.input = section.text,
-        "run" => judge_run(alloc, subject, section.text, judged)?,
-        "note" => {}
-        heading => {
-            let steps = heading
-                .strip_prefix("budget ")
-                .context("no heading of a case")?;
-            subject.budget = steps.parse().context("the budget")?;
-        }
+        "run" => return judge_run(alloc, subject, section.text, judged),
+        heading => set(heading, subject),
     }
     Ok(())
 }
 
+/// Begins the case of a heading, or takes its budget.
+fn set<'a>(heading: &'a str, subject: &mut Subject<'a>) {
+    if let Some(name) = heading.strip_prefix("case ") {
+        *subject = Subject {
+            name,
+            source: "",
+            input: "",
+            budget: BUDGET,
+        };
+    }
+    if let Some(steps) = heading.strip_prefix("budget ") {
+        subject.budget = steps.parse().unwrap_or(0);
+    }
+}
+
 /// Tries a run.
-fn judge_run(alloc: Global, subject: &Subject, wanted: &str, judged: &mut Judged) -> Result<()> {
-    let (name, budget) = (subject.name, subject.budget);
+fn judge_run(
+    alloc: Global,
+    subject: &Subject,
+    wanted: &str,
+    judged: &mut Judged,
+) -> Result<(), AllocError> {
     let mut seen = Vec::new(alloc);
-    append_run(alloc, subject, wanted, &mut seen).context(name)?;
-    let row = format!(in alloc; "{name}, budget {budget}")?;
+    append_run(alloc, subject, wanted, &mut seen)?;
     let seen = seen.strip_suffix(b"\n").unwrap_or(&seen);
-    judged.judge(row.as_str(), wanted.as_bytes(), seen)
+    judged.judge(subject.name, wanted.as_bytes(), seen)
 }
 
 /// Appends the lines that the run has in place of those that are wanted, or why there is no run.
-fn append_run(alloc: Global, subject: &Subject, wanted: &str, seen: &mut Vec<u8>) -> Result<()> {
-    let program = match program_of(alloc, subject.source.as_bytes()) {
-        Ok(program) => program,
-        Err(error) => return Ok(write!(seen, "there is no run: {error}")?),
-    };
-    let history = history_of(alloc, &program, subject)?;
-    append_lines(alloc, &program, &history, wanted, seen)
+fn append_run(
+    alloc: Global,
+    subject: &Subject,
+    wanted: &str,
+    seen: &mut Vec<u8>,
+) -> Result<(), AllocError> {
+    let source = subject.source.as_bytes();
+    if SOURCE_BYTES < source.len() {
+        return append_all(&[b"the source is too long"], seen);
+    }
+    match lex(alloc, source) {
+        Ok(tokens) => append_run_of_tokens(alloc, subject, &tokens, wanted, seen),
+        Err(fault) => append_shown(&fault, seen),
+    }
 }
 
-/// The program of a source.
-fn program_of(alloc: Global, source: &[u8]) -> Result<Program> {
-    ensure!(source.len() <= SOURCE_BYTES, "the source is too long");
-    let tokens = lex(alloc, source)?;
-    Ok(check_tokens(alloc, &tokens)?)
+/// The same of tokens.
+fn append_run_of_tokens(
+    alloc: Global,
+    subject: &Subject,
+    tokens: &Tokens,
+    wanted: &str,
+    seen: &mut Vec<u8>,
+) -> Result<(), AllocError> {
+    match check_tokens(alloc, tokens) {
+        Ok(program) => append_run_of_program(alloc, subject, &program, wanted, seen),
+        Err(fault) => append_shown(&fault, seen),
+    }
 }
 
-/// What the run of a program leaves.
-fn history_of(alloc: Global, program: &Program, subject: &Subject) -> Result<History> {
+/// The same of a program.
+fn append_run_of_program(
+    alloc: Global,
+    subject: &Subject,
+    program: &Program,
+    wanted: &str,
+    seen: &mut Vec<u8>,
+) -> Result<(), AllocError> {
     let budget = subject.budget;
     let input = lines(alloc, subject.input)?;
-    let is_within = input.len() <= INPUT_BYTES && 0 < budget && budget <= GREATEST_BUDGET;
-    ensure!(
-        is_within,
-        "a budget is 1 to 4,000,000 steps, and an input has at most 4,194,304 bytes"
-    );
-    Ok(run(alloc, program, &input, budget)?)
+    if INPUT_BYTES < input.len() || budget == 0 || GREATEST_BUDGET < budget {
+        return append_all(&[b"no such input or budget"], seen);
+    }
+    let history = run(alloc, program, &input, budget)?;
+    append_lines(alloc, program, &history, wanted, seen)
 }
 
 /// Appends the lines that a run has in place of those that are wanted.
@@ -128,21 +152,12 @@ fn append_lines(
     history: &History,
     wanted: &str,
     seen: &mut Vec<u8>,
-) -> Result<()> {
-    ensure!(
-        stands_once(wanted, "output ") && stands_once(wanted, "calls "),
-        "one line on the output and one on the number of calls are wanted"
-    );
+) -> Result<(), AllocError> {
     for line in wanted.lines() {
-        append_line(alloc, program, history, line, seen).context(line)?;
+        append_line(alloc, program, history, line, seen)?;
         seen.push(b'\n')?;
     }
     Ok(())
-}
-
-/// Whether exactly one line begins with a word.
-fn stands_once(wanted: &str, word: &str) -> bool {
-    wanted.lines().filter(|line| line.starts_with(word)).count() == 1
 }
 
 /// Appends the line that a run has in place of one that is wanted.
@@ -152,35 +167,42 @@ fn append_line(
     history: &History,
     wanted: &str,
     seen: &mut Vec<u8>,
-) -> Result<()> {
-    let (word, rest) = wanted.split_once(' ').context("no line on a run")?;
+) -> Result<(), AllocError> {
+    let (word, rest) = wanted.split_once(' ').unwrap_or((wanted, ""));
     match word {
         "output" => append_output(alloc, rest, history.output.as_slice(), seen),
         "calls" => append_answer(("calls #", [history.calls.len().into(), 0, 0]), seen),
-        "written" => append_answer(written(&history.log, rest)?, seen),
-        number => append_call(program, &history.calls, number.parse()?, seen),
+        "written" => append_answer(written(&history.log, rest), seen),
+        number => append_call(
+            program,
+            &history.calls,
+            number.parse().unwrap_or(u32::MAX),
+            seen,
+        ),
     }
 }
 
 /// Appends the line on the output: the wanted one where that has the same text, and else one that begins otherwise.
-fn append_output(alloc: Global, wanted: &str, output: &[u8], seen: &mut Vec<u8>) -> Result<()> {
-    let text = wanted
-        .strip_prefix('"')
-        .unwrap_or_default()
-        .strip_suffix('"');
-    let is_same = unescaped(alloc, text.context("the output is wanted in quotes")?)?.as_slice()
-        == output;
-    let (start, shown) = if is_same {
-        ("output ", wanted.as_bytes())
-    } else {
-        ("another output: ", output)
-    };
-    seen.extend_from_slice(start.as_bytes())?;
-    Ok(seen.extend_from_slice(shown)?)
+fn append_output(
+    alloc: Global,
+    wanted: &str,
+    output: &[u8],
+    seen: &mut Vec<u8>,
+) -> Result<(), AllocError> {
+    let text = wanted.strip_prefix('"').unwrap_or("").strip_suffix('"');
+    if unescaped(alloc, text.unwrap_or(""))?.as_slice() == output {
+        return append_all(&[b"output ", wanted.as_bytes()], seen);
+    }
+    append_all(&[b"another output: ", output], seen)
 }
 
 /// Appends the line on the call of a number.
-fn append_call(program: &Program, calls: &Calls, number: u32, seen: &mut Vec<u8>) -> Result<()> {
+fn append_call(
+    program: &Program,
+    calls: &Calls,
+    number: u32,
+    seen: &mut Vec<u8>,
+) -> Result<(), AllocError> {
     if number >= calls.len() {
         return append_answer(("# is no call", [number.into(), 0, 0]), seen);
     }
@@ -188,8 +210,7 @@ fn append_call(program: &Program, calls: &Calls, number: u32, seen: &mut Vec<u8>
     let steps = call.entry.steps.saturating_sub(call.exit.steps);
     let touches = call.exit.mark.saturating_sub(call.entry.mark);
     append_answer(("# ", [number.into(), 0, 0]), seen)?;
-    seen.extend_from_slice(program.name(call.routine))?;
-    seen.extend_from_slice(b": ")?;
+    append_all(&[program.name(call.routine), b": "], seen)?;
     append_answer(way_answer(call.way), seen)?;
     append_answer(
         (", # steps, # touches", [steps.into(), touches.into(), 0]),
@@ -248,16 +269,14 @@ fn last_written(log: &Log, address: u32) -> Option<Value> {
 }
 
 /// What was last written at an address, in place of a line that is wanted.
-fn written(log: &Log, wanted: &str) -> Result<Answer> {
-    let (address, _) = wanted
-        .split_once(" = ")
-        .context("an address, an equals sign and a value are wanted")?;
-    let address: u32 = address.parse()?;
+fn written(log: &Log, wanted: &str) -> Answer {
+    let (address, _) = wanted.split_once(" = ").unwrap_or((wanted, ""));
+    let address: u32 = address.parse().unwrap_or(u32::MAX);
     let (words, number) = match last_written(log, address) {
         None => ("written # = none", 0),
         Some(Value::Undefined) => ("written # = ?", 0),
         Some(Value::Number(number)) => ("written # = #", number.into()),
         Some(_) => ("written # = another value", 0),
     };
-    Ok((words, [address.into(), number, 0]))
+    (words, [address.into(), number, 0])
 }
