@@ -5,6 +5,9 @@ ghost use Rattle.answer_book.specs.Marks.{mark_by};
 use call_tree::Mark;
 use thiserror::Error;
 
+/// The most entries of a book, counting those that were taken back.
+pub const MOST_ENTRIES: u32 = 100_000;
+
 /// What is said of one call.
 #[derive(Clone, Copy, Debug, PartialEq, Eq)]
 pub enum Judgement {

@@ -3,7 +3,7 @@ ghost use Rattle.std.specs.Prelude.{◌++◌, ◌<◌, ◌∷◌, ◌≡◌, [],
 ghost use Rattle.answer_book.specs.Links.{AreLinked, IsLastOn, links_found, links_with, no_links, place_of};
 
 use crate::entries::{Entry, What};
-use crate::entry_list::{EntryList, MOST_ENTRIES};
+use crate::entry_list::{EntryList, ROOM};
 use cell_value::Memory;
 use std::alloc::Global;
 use std::marker::Model;
@@ -66,7 +66,7 @@ impl EntryLinks {
     pub fn new(alloc: Global, subject: Subject, chains: u32) -> Result<EntryLinks, Memory>
         ensures { IfOk result (λ links. links ≡ no_links subject chains) }
     {
-        let before = Vec::with_capacity(alloc, MOST_ENTRIES)?;
+        let before = Vec::with_capacity(alloc, ROOM)?;
         let last = vec![in alloc; 0; chains as usize]?;
         Ok(EntryLinks {
             subject,

@@ -4,13 +4,13 @@ ghost use Rattle.answer_book.specs.{Answers.next_number, Spoken.entry_judgement}
 ghost use Rattle.answer_book.specs.Entries.{entries_without, entry_at, entry_saying, first_entries, is_standing};
 ghost use Rattle.answer_book.specs.Links.{judgement_at, was_taken_back};
 
-use crate::entries::{BookFault, Entry, Judgement, What};
+use crate::entries::{BookFault, Entry, Judgement, MOST_ENTRIES, What};
 use cell_value::Memory;
 use std::alloc::Global;
 use std::marker::Model;
 
-/// The most entries that a book has.
-pub(crate) const MOST_ENTRIES: usize = 100_000;
+/// How many entries there is room for.
+pub(crate) const ROOM: usize = MOST_ENTRIES as usize;
 
 /// At most 100,000 entries, with room for all of them from the start. Clauses see the list.
 #[derive(Drop)]
@@ -44,7 +44,7 @@ impl EntryList {
     pub(crate) fn empty(alloc: Global) -> Result<EntryList, Memory>
         ensures { IfOk result (λ entries. entries ≡ []) }
     {
-        let items = Vec::with_capacity(alloc, MOST_ENTRIES)?;
+        let items = Vec::with_capacity(alloc, ROOM)?;
         Ok(EntryList { items })
     }
 
@@ -109,7 +109,7 @@ impl EntryList {
         ensures answer { result ≡ next_number self.now }
         ensures room { OnOk result (length self.now < 100000) }
     {
-        if self.items.len() >= MOST_ENTRIES {
+        if self.items.len() >= ROOM {
             return Err(BookFault::Full);
         }
         Ok(self.len() + 1)

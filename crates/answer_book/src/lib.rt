@@ -9,5 +9,5 @@ mod entry_list;
 mod judged_calls;
 
 pub use book::Book;
-pub use entries::{BookFault, Entry, Judgement, What};
+pub use entries::{BookFault, Entry, Judgement, MOST_ENTRIES, What};
 pub use entry_list::EntryList;

@@ -8,14 +8,9 @@ ghost use Rattle.body_replay.specs.ByRows.{HasRoomAt, MeetsTheSame};
 
 use crate::kept_state::KeptState;
 use call_tree::{Call, Calls};
-use cell_value::{Items, Seen, Value, WayOut};
+use cell_value::{Items, MOST_CALLS, MOST_DEPTH, Seen, Value, WayOut};
 use effect_log::{Footprint, Reads};
 use persistent_store::Store;
-
-/// The most calls of a run, and the greatest depth of one.
-const MOST_CALLS: u32 = 500_000;
-
-const MOST_DEPTH: u32 = 99_999;
 
 /// Whether a call ended by itself, by a jump or by a fault: neither for want of steps nor at a limit.
 pub(crate) fn ended_by_itself(way: WayOut) -> bool

@@ -10,20 +10,8 @@ use edge_ports::Bytes;
 use effect_log::Log;
 use eval_ops::Machine;
 use persistent_store::Store;
-use program_run::History;
+use program_run::{History, copy_items};
 use std::alloc::Global;
-
-/// A copy of the items of an input.
-pub(crate) fn copy_items(alloc: Global, items: &Items) -> Result<Items, Memory>
-    ensures same { IfOk result (λ copy. copy ≡ items.now) }
-    ensures few { IfOk result (λ copy. length copy < 4294967296) }
-{
-    let mut copy = Items::new(alloc);
-    'items: for i in 0..items.len() {
-        copy.push(items.at(i))?;
-    }
-    Ok(copy)
-}
 
 /// A machine in the state before a call, by its row of the table of a run. Its log is empty.
 pub(crate) fn machine_before(alloc: Global, run: &History, row: &Call) -> Result<Machine, Memory>

@@ -12,17 +12,14 @@ ghost use Rattle.body_replay.specs.ByRows.{IsEffectOf, applied};
 
 use crate::agreement::{ended_by_itself, has_room, meets_the_same};
 use crate::applied::change_cells;
-use crate::kept_state::{KeptState, copy_items, keep_state, machine_before};
+use crate::kept_state::{KeptState, keep_state, machine_before};
 use call_tree::Call;
-use cell_value::{Memory, Steps};
+use cell_value::{HEAP_END, Memory, Steps};
 use core_program::Program;
 use edge_ports::Bytes;
 use effect_log::{Footprint, Log, effect};
-use program_run::History;
+use program_run::{History, copy_items};
 use std::alloc::Global;
-
-/// The first address after the heap.
-const HEAP_END: u32 = 1_048_576;
 
 /// The effect of a call, by its row of the table of a run.
 fn effect_of(alloc: Global, log: &Log, row: &Call) -> Result<Footprint, Memory>

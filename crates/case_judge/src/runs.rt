@@ -4,24 +4,15 @@ use crate::answers::{Answer, append_answer};
 use crate::escapes::unescaped;
 use crate::rows::{Judged, append_all, append_shown};
 use crate::sections::{Section, lines, sections};
-use crate::sources::SOURCE_BYTES;
 use call_tree::Calls;
 use cell_value::{Kind, Touch, Value, WayOut, Which};
 use code_checker::check_tokens;
 use core_program::Program;
+use debug_cli::{BUDGET, INPUT_BYTES, MOST_STEPS};
 use effect_log::Log;
-use pas_lexer::{Tokens, lex};
+use pas_lexer::{MAX_SOURCE_BYTES, Tokens, lex};
 use program_run::{History, run};
 use std::alloc::{AllocError, Global};
-
-/// The budget of a run where a case does not say it.
-const BUDGET: u32 = 1_000_000;
-
-/// The greatest budget of a run.
-const GREATEST_BUDGET: u32 = 4_000_000;
-
-/// The greatest length of an input, in bytes.
-const INPUT_BYTES: usize = 4_194_304;
 
 /// A source, its input, and the budget of its next run.
 #[derive(Clone, Copy)]
@@ -105,7 +96,7 @@ fn append_run(
     seen: &mut Vec<u8>,
 ) -> Result<(), AllocError> {
     let source = subject.source.as_bytes();
-    if SOURCE_BYTES < source.len() {
+    if MAX_SOURCE_BYTES < source.len() {
         return append_all(&[b"the source is too long"], seen);
     }
     match lex(alloc, source) {
@@ -138,7 +129,7 @@ fn append_run_of_program(
 ) -> Result<(), AllocError> {
     let budget = subject.budget;
     let input = lines(alloc, subject.input)?;
-    if INPUT_BYTES < input.len() || budget == 0 || GREATEST_BUDGET < budget {
+    if INPUT_BYTES < input.len() as u64 || budget == 0 || MOST_STEPS < budget {
         return append_all(&[b"no such input or budget"], seen);
     }
     let history = run(alloc, program, &input, budget)?;

@@ -6,11 +6,8 @@ use crate::files::File;
 use crate::rows::{Judged, append_all, append_shown, is_row};
 use crate::sections::Section;
 use code_checker::{ProgramFault, check_tokens, declare_source};
-use pas_lexer::{Tokens, lex};
+use pas_lexer::{MAX_SOURCE_BYTES, Tokens, lex};
 use std::alloc::{AllocError, Global};
-
-/// The greatest length of a source, in bytes.
-pub(crate) const SOURCE_BYTES: usize = 1_048_576;
 
 /// Who says whether a source is taken.
 #[derive(Clone, Copy)]
@@ -104,7 +101,7 @@ fn append_seen(
 
 /// Appends what breaks a rule that can be told from the declarations of a source.
 fn append_declared(alloc: Global, source: &[u8], seen: &mut Vec<u8>) -> Result<(), AllocError> {
-    if SOURCE_BYTES < source.len() {
+    if MAX_SOURCE_BYTES < source.len() {
         return append_all(&[b"too long"], seen);
     }
     match declare_source(alloc, source) {
@@ -123,7 +120,7 @@ fn append_read(
     source: &[u8],
     seen: &mut Vec<u8>,
 ) -> Result<(), AllocError> {
-    if SOURCE_BYTES < source.len() {
+    if MAX_SOURCE_BYTES < source.len() {
         return append_all(&[b"too long"], seen);
     }
     match lex(alloc, source) {

@@ -3,11 +3,11 @@
 use crate::answers::{Answer, append_answer};
 use crate::escapes::unescaped;
 use crate::rows::{Judged, append_all, append_shown, is_row};
-use crate::sources::SOURCE_BYTES;
 use check_steps::Def;
 use code_checker::declare_source;
 use core_program::rows::{Mode, NameRow, Row, TypeRow};
 use decl_checker::{Scopes, find, find_in};
+use pas_lexer::MAX_SOURCE_BYTES;
 use std::alloc::{AllocError, Global};
 use std::fmt::Display;
 
@@ -31,7 +31,7 @@ fn try_source(
     judged: &mut Judged,
 ) -> Result<(), AllocError> {
     let source = unescaped(alloc, written)?;
-    if SOURCE_BYTES < source.len() {
+    if MAX_SOURCE_BYTES < source.len() {
         return judged.judge(written, b"its tables", b"too long");
     }
     match declare_source(alloc, &source) {

@@ -2,11 +2,10 @@
 ghost use Rattle.std.specs.{Prelude.◌≡◌, Prelude.IfSome, Option.option_map};
 ghost use Rattle.command_words.specs.Meaning.{IsBudget, budget_meant, budget_spelled};
 
+use cell_value::MOST_STEPS;
+
 /// The steps that a run may take where no budget is given.
 pub const BUDGET: u32 = 1_000_000;
-
-/// The most steps that a budget may give.
-pub const MOST_STEPS: u32 = 4_000_000;
 
 /// The most digits in which a budget is spelled.
 const MOST_DIGITS: usize = 7;

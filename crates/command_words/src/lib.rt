@@ -7,6 +7,7 @@ mod command;
 mod made;
 mod request;
 
-pub use budget::{BUDGET, MOST_STEPS};
+pub use budget::BUDGET;
+pub use cell_value::MOST_STEPS;
 pub use made::MOST_MADE;
 pub use request::{Asked, Request, WordFault, read_words};

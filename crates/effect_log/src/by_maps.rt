@@ -89,8 +89,8 @@ pub fn effect_of_few(
         given,
     } = found;
     Ok(Footprint {
-        reads: Reads { items: reads },
-        changes: Changes { items: changes },
+        reads,
+        changes,
         made,
         looked,
         taken,

@@ -1,22 +1,17 @@
 //! Maps of what is found of each cell while the log is gone over.
-ghost use Rattle.std.specs.Prelude.{if◌then◌else◌, ◌==◌, ◌≡◌, ◌≤◌, ℕ, IfOk, None, OnOk, Some, vec_len};
+ghost use Rattle.std.specs.Prelude.{if◌then◌else◌, ◌==◌, ◌≡◌, ◌≤◌, ℕ, IfOk, None, OnOk, Some};
 ghost use Rattle.cell_value.specs.Effects.{is_shared, listed};
 ghost use Rattle.effect_log.specs.Passing.{found_at};
 
-use cell_value::Memory;
+use cell_value::{HEAP_END, List, Memory, STACK_END};
 use std::alloc::Global;
 use std::collections::BTreeMap;
-
-/// The first address of the heap, and the first after it.
-const HEAP_START: u32 = 524_288;
-
-const HEAP_END: u32 = 1_048_576;
 
 /// Whether a call whose frame begins at `base` shares the address with its caller.
 pub(crate) fn is_shared_cell(base: u32, addr: u32) -> bool
     ensures { result ≡ is_shared base addr }
 {
-    addr < HEAP_END && (addr < base || HEAP_START <= addr)
+    addr < HEAP_END && (addr < base || STACK_END <= addr)
 }
 
 /// Sets the value at an address.
@@ -38,12 +33,11 @@ pub(crate) fn find<V: Copy>(map: &BTreeMap<u32, V>, addr: u32) -> Option<V>
 pub(crate) fn in_order<V: Copy>(
     alloc: Global,
     map: &BTreeMap<u32, V>,
-) -> Result<Vec<(u32, V)>, Memory>
+) -> Result<List<(u32, V)>, Memory>
     requires { (addr : ℕ) → 1048576 ≤ addr → found_at map.now addr ≡ None }
-    ensures all { IfOk result (λ v. v.items ≡ listed (found_at map.now)) }
-    ensures few { IfOk result (λ v. vec_len v ≤ 1048576) }
+    ensures { IfOk result (λ items. items ≡ listed (found_at map.now)) }
 {
-    let mut items = Vec::new(alloc);
+    let mut items = List::new(alloc);
     for (addr, value) in map {
         items.push((*addr, *value))?;
     }

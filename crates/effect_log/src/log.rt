@@ -1,5 +1,5 @@
 //! The log, sixteen bytes an entry.
-ghost use Rattle.std.specs.Prelude.{◌++◌, ◌<◌, ◌∷◌, ◌≡◌, [], IfSome, OnErr, OnOk, Some, length, slice_get};
+ghost use Rattle.std.specs.Prelude.{◌++◌, ◌<◌, ◌∷◌, ◌≡◌, [], IfSome, OnErr, OnOk, Some, length, slice_get, true};
 ghost use Rattle.effect_log.specs.Entries.{IsEntryOf, IsWithin, touch_of};
 
 use cell_value::{Memory, Touch, Value};
@@ -9,7 +9,7 @@ use std::mem::size_of;
 
 /// A touch as the log keeps it: a variant for each kind of touch and of value. Since a set takes 32 bytes
 /// and nearly no touch has one, a touch with a set stands aside, and its entry has its place there.
-#[derive(Clone, Copy)]
+#[derive(Clone, Copy, PartialEq, Eq)]
 enum Entry {
     ReadUndefined(u32),
     ReadNumber(u32, i64),
@@ -121,6 +121,13 @@ fn touch_at(aside: &[Touch], entry: Entry) -> Touch
     }
 }
 
+/// Whether two entries are the same.
+fn same_entry(one: Entry, other: Entry) -> bool
+    ensures { result ≡ true → one ≡ other }
+{
+    one == other
+}
+
 /// The touches of a run, in order: at most 8,000,000. Clauses see it as the list of them. An entry takes
 /// 16 bytes, and one that holds a set 48 more.
 #[derive(Drop)]
@@ -188,5 +195,15 @@ impl Log {
         ensures found { slice_get self.now i ≡ Some result }
     {
         touch_at(&self.aside, self.entries[i as usize])
+    }
+
+    /// Whether the touches at two places below the number of entries are seen to be the same by their entries alone.
+    /// Of touches with sets it says so only at one and the same place.
+    pub fn is_same_entry(&self, one: u32, other: u32) -> bool
+        requires one { one < length self.now }
+        requires other { other < length self.now }
+        ensures same { result ≡ true → slice_get self.now one ≡ slice_get self.now other }
+    {
+        same_entry(self.entries[one as usize], self.entries[other as usize])
     }
 }

@@ -1,19 +1,15 @@
 //! What has been found in the log so far.
 ghost use Rattle.std.specs.Prelude.{if◌then◌else◌, ◌+◌, ◌<◌, ◌==◌, ◌^◌, ◌≡◌, ◌≤◌, [], ℕ, IfOk, List, OnOk};
-ghost use Rattle.cell_value.specs.Effects.{IsCountable, is_shared, made_by, taken_by};
+ghost use Rattle.cell_value.specs.Effects.{IsCountable, made_by, taken_by};
 ghost use Rattle.cell_value.specs.declared.entries.Touch.{Touch as LogTouch};
 ghost use Rattle.effect_log.specs.Marks.{MarksCells, PagesHold, PagesTakeIn, answer_mark, block_mark, change_mark};
 ghost use Rattle.effect_log.specs.Marks.{read_mark};
 
 use crate::cells::{Cell, Pages};
+use crate::cells_found::is_shared_cell;
 use cell_value::{Memory, Touch};
 use edge_ports::Bytes;
 use std::alloc::Global;
-
-/// The first address of the heap, and the first after it.
-const HEAP_START: u32 = 524_288;
-
-const HEAP_END: u32 = 1_048_576;
 
 /// What has been found in the part of the log that was gone over.
 #[derive(Drop)]
@@ -23,13 +19,6 @@ pub(crate) struct Found {
     pub(crate) looked: u32,
     pub(crate) taken: u32,
     pub(crate) given: Bytes,
-}
-
-/// Whether a call whose frame begins at `base` shares the address with its caller.
-fn is_shared_cell(base: u32, addr: u32) -> bool
-    ensures { result ≡ is_shared base addr }
-{
-    addr < HEAP_END && (addr < base || HEAP_START <= addr)
 }
 
 /// Takes in that the entry with the number read the cell.

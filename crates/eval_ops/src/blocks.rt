@@ -9,8 +9,8 @@ ghost use Rattle.eval_ops.specs.Machines.{DoesAct, IsReady, machine_state, momen
 
 use crate::calls::remove_cells;
 use crate::halt::Halt;
-use crate::machine::{HEAP_END, Machine, STACK_END, Uncounted};
-use cell_value::{Kind, Memory, Steps, Touch, Value, Which};
+use crate::machine::{Machine, Uncounted};
+use cell_value::{HEAP_END, Kind, Memory, STACK_END, Steps, Touch, Value, Which};
 use persistent_store::Store;
 use std::alloc::Global;
 

@@ -8,8 +8,8 @@ ghost use Rattle.eval_ops.specs.Frames.{framing};
 ghost use Rattle.eval_ops.specs.Machines.{AllowsCall, DoesAct, IsReady, changed, machine_state, moment_of};
 
 use crate::halt::Halt;
-use crate::machine::{Machine, STACK_END, Uncounted};
-use cell_value::{Cells, Memory, Steps, Value, Which};
+use crate::machine::{Machine, Uncounted};
+use cell_value::{Cells, Memory, STACK_END, Steps, Value, Which};
 use persistent_store::Store;
 use std::alloc::Global;
 

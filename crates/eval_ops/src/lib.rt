@@ -39,7 +39,7 @@ pub use expressions::{combine, constant, type_accessed};
 pub use frames::{cell_out, component, frame_out, moved, reference_out, routine_out};
 pub use halt::{Halt, passed, passed_test};
 pub use input::{at_end, at_line_end, next_char, past_item, scan_on};
-pub use machine::{Machine, STACK_END, limit_passed, read_cell, spend, write_cell};
+pub use machine::{Machine, limit_passed, read_cell, spend, write_cell};
 pub use operators::{Dyadic, dyadic_in};
 pub use output::{end_line, end_page, write_scalar, write_string};
 pub use packing::{copy_cells, first_moved};

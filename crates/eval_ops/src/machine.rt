@@ -7,23 +7,13 @@ ghost use Rattle.core_program.specs.Acts as acts;
 ghost use Rattle.eval_ops.specs.Machines.{DoesAct, DoesAll, IsReady, machine_state, moment_of};
 
 use crate::halt::Halt;
-use cell_value::{Items, Kind, Steps, Touch, Value, Which};
+use cell_value::{
+    HEAP_END, Items, Kind, MOST_CALLS, MOST_DEPTH, STACK_END, Steps, Touch, Value, Which,
+};
 use edge_ports::Bytes;
 use effect_log::Log;
 use persistent_store::Store;
 use std::alloc::Global;
-
-/// The first address above the stack, which is the first of the heap.
-pub const STACK_END: u32 = 524_288;
-
-/// The first address above the heap.
-pub const HEAP_END: u32 = 1_048_576;
-
-/// The most calls that a run may enter.
-pub const MOST_CALLS: u32 = 500_000;
-
-/// The greatest depth at which a call may stand.
-pub const MOST_DEPTH: u32 = 99_999;
 
 /// A state, and the log so far.
 #[derive(Drop)]

@@ -7,9 +7,9 @@ ghost use Rattle.eval_ops.specs.Machines.{DoesAll, Gives, IsReady, machine_state
 
 use crate::blocks::{drop_block, make_block};
 use crate::halt::Halt;
-use crate::machine::{HEAP_END, Machine, STACK_END, has_cell, read_cell};
+use crate::machine::{Machine, has_cell, read_cell};
 use crate::values::truth;
-use cell_value::{Kind, OpFault, Value};
+use cell_value::{HEAP_END, Kind, OpFault, STACK_END, Value};
 use std::alloc::Global;
 
 /// Makes a variable of a type with this many cells, by the number of the type, and answers the pointer to it. What

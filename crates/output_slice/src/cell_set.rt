@@ -2,11 +2,8 @@
 ghost use Rattle.std.specs.Prelude.{◌≡◌, ℕ, IfOk, length, slice_index};
 ghost use Rattle.output_slice.specs.Stamps.{AreStamped};
 
-use cell_value::Memory;
+use cell_value::{HEAP_END, Memory};
 use std::alloc::Global;
-
-/// No cell has this address or a greater one.
-const END: u32 = 1_048_576;
 
 /// A set of addresses below 1,048,576. It takes a byte for each of them, and is emptied in one step, but for every
 /// 255th time.
@@ -36,7 +33,7 @@ impl CellSet {
     pub(crate) fn new(alloc: Global) -> Result<CellSet, Memory>
         ensures { IfOk result (λ set. (a : ℕ) → has_cell set a ≡ false) }
     {
-        let stamps = no_stamps(alloc, END as usize)?;
+        let stamps = no_stamps(alloc, HEAP_END as usize)?;
         Ok(CellSet { stamps, stamp: 1 })
     }
 
@@ -57,14 +54,14 @@ impl CellSet {
     pub(crate) fn has(&self, addr: u32) -> bool
         ensures { result ≡ has_cell self.now addr }
     {
-        addr < END && self.stamps[addr as usize] == self.stamp
+        addr < HEAP_END && self.stamps[addr as usize] == self.stamp
     }
 
     /// Puts an address into the set.
     pub(crate) fn insert(&mut self, addr: u32)
         ensures { (a : ℕ) → a < 1048576 → has_cell self.new a ≡ (if addr == a then true else has_cell self.old a) }
     {
-        if addr < END {
+        if addr < HEAP_END {
             self.stamps[addr as usize] = self.stamp;
         }
     }
@@ -73,7 +70,7 @@ impl CellSet {
     pub(crate) fn remove(&mut self, addr: u32)
         ensures { (a : ℕ) → a < 1048576 → has_cell self.new a ≡ (if addr == a then false else has_cell self.old a) }
     {
-        if addr < END {
+        if addr < HEAP_END {
             self.stamps[addr as usize] = 0;
         }
     }

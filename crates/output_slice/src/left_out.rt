@@ -9,13 +9,10 @@ ghost use Rattle.output_slice.specs.LeftOut.{steps_on, steps_on_all};
 use crate::laws::wrong_outputs_narrow;
 use crate::slicing::Slicing;
 use crate::used::both;
-use answer_book::{BookFault, Judgement};
+use answer_book::{BookFault, Judgement, MOST_ENTRIES};
 use call_tree::{Calls, Mark};
 use cell_value::Steps;
 use optimal_query::Debug;
-
-/// A book has room for this many entries.
-const MOST_ENTRIES: u32 = 100_000;
 
 /// Whether nothing is said of a call with this mark.
 fn is_open(mark: Mark) -> bool

@@ -14,15 +14,12 @@ use crate::passes::effect_of;
 use crate::slicing::Slicing;
 use crate::used::is_output;
 use call_tree::Call;
-use cell_value::Memory;
+use cell_value::{MOST_TOUCHES, Memory};
 use core_program::Program;
 use effect_log::{Changes, Footprint};
 use program_run::History;
 use std::alloc::Global;
 use thiserror::Error;
-
-/// Calls whose parts of the log are longer than this, taken together, are not sliced.
-const MOST_TOUCHES: u64 = 50_000_000;
 
 /// Why there is no slice.
 #[derive(Clone, Copy, Debug, PartialEq, Eq, Error)]

@@ -1,13 +1,14 @@
 -- How calls end in the code, and where no call is open.
 use Rattle.std.proofs.Common.{◌∷◌, ◌≡◌, [], ℕ, List, None, Option, Some, ap, arith, length, map, refl, reverse, subst, sym}
 use Rattle.cell_value.specs.declared.{values.Value.Value, ways_out.WayOut.WayOut}
-use Rattle.core_program.specs.{ProgramRows.ProgramRows, Replay.end_of, Run.Ended, Run.Halted, State.State}
+use Rattle.core_program.specs.{ProgramRows.ProgramRows, Replay.end_of, Run.Ended, Run.Halted}
 use Rattle.core_program.specs.Tree.{Jump, Nothing, Out, Ret, Scalar}
 use Rattle.eval_ops.specs.Machines.{moment_of}
 use Rattle.evaluator.specs.declared.body.Body.{Body}
 use Rattle.program_run.proofs.StepsLeadToTheRun.{over}
-use Rattle.program_run.specs.{Tower.Ends, Tower.IsOver, Tower.Rests, Tower.stage_after, declared.open_call.OpenCall.OpenCall, declared.runner.Runner.Runner}
 use Rattle.program_run.specs.Runners.{At, Chain, InnermostEnds, open_in, opens_in, rest_in, view_of}
+use Rattle.program_run.specs.Tower.{Ends, First, IsOver, Rests, stage_after}
+use Rattle.program_run.specs.declared.{open_call.OpenCall.OpenCall, runner.Runner.Runner}
 
 chain_none : (os : List OpenCall) → Chain None os → os ≡ []
 chain_none [] h = refl
@@ -17,7 +18,7 @@ pub no_calls : (os : List OpenCall) → length os ≡ 0 → os ≡ []
 no_calls [] e = refl
 no_calls (o ∷ os) e = absurd (omega arith)
 
-module _ {p : ProgramRows} {first : State} where
+module _ {p : ProgramRows} {first : First} where
   -- every open call was stopped
   pub halted : (r : Runner) (way : WayOut) → At p first (Ends (Halted way)) r → r.opens.items ≡ [] → IsOver p first (moment_of r.machine) r.calls
   halted r way h e = over (view_of p r) (Ends (Halted way)) (Halted way) h (ap (λ os. map (open_in p) (reverse os)) e) (λ n. refl)
@@ -29,7 +30,7 @@ module _ {p : ProgramRows} {first : State} where
       over (view_of p r) (Rests (Ret out)) (Ended out) (subst (λ o. At p first (stage_after (rest_in p o) (Ended out)) r) e h)
       (ap (map (open_in p)) (chain_none (opens_in r) (subst (λ o. Chain o (opens_in r)) e c))) (λ n. refl)
 
-module _ (p : ProgramRows) (first : State) where
+module _ (p : ProgramRows) (first : First) where
   pub record Left (r : Runner) (w : WayOut) (answer : Option Value) : Type 0 where
     pub out : Out
     pub ending : InnermostEnds p first (Ended out) r (w, answer)

@@ -1,6 +1,7 @@
 pub mod ActsKeepCalls
 pub mod CallsBegin
 pub mod CallsEnd
+pub mod CallsFromStates
 pub mod CallsTold
 pub mod ItemsOfInput
 pub mod LinesTakeSteps

@@ -111,12 +111,13 @@ inside_later n ds es f g =
     subst (λ bs. Inside bs) (sym (map-append (λ c. c.event.below) ds (later_by n es) ∙ ap (λ bs. belows ds ++ bs) (belows_later n es)))
     (within_append (belows ds) (belows es) f g)
 
-pub fits_done : (ls : OpenLevels) (w : List Touch) (es : List (Marked Call)) → LevelsFit ls → Inside (belows es) → LevelsFit (done ls w es)
-fits_done (Bottom own) w es f h = inside_later (length own.log) own.events es f h
-fits_done (Push under l own) w es f h = (inside_later (length own.log) own.events es f.0 h, f.1, f.2)
+pub fits_done : (before : ℕ) (ls : OpenLevels) (w : List Touch) (es : List (Marked Call)) → LevelsFit before ls → Inside (belows es)
+    → LevelsFit before (done ls w es)
+fits_done before (Bottom own) w es f h = inside_later (length own.log) own.events es f h
+fits_done before (Push under l own) w es f h = (inside_later (length own.log) own.events es f.0 h, f.1, f.2)
 
-pub fits_more : (ls : OpenLevels) (w : List Touch) → LevelsFit ls → LevelsFit (done ls w [])
-fits_more ls w f = fits_done ls w [] f inside_none
+pub fits_more : (before : ℕ) (ls : OpenLevels) (w : List Touch) → LevelsFit before ls → LevelsFit before (done ls w [])
+fits_more before ls w f = fits_done before ls w [] f inside_none
 
 inside_call : (c : Call) (es : List (Marked Call)) → c.below ≡ length es → Inside (belows es) → Inside (belows ((record { mark = 0; event = c }) ∷ es))
 inside_call c es e f = within_call c.below (belows es) (e ∙ sym (length-map es (λ c. c.event.below))) f
@@ -132,8 +133,9 @@ rows_length (Push under l own) =
     omega (arith, a, b, c)
 
 -- the rows that calls of the innermost body add
-pub rows_done : (ls : OpenLevels) (w : List Touch) (es : List (Marked Call)) → LevelsFit ls → rows_of (done ls w es) ≡ rows_of ls ++ rows_at (spot_of ls) es
-rows_done (Bottom own) w es f =
+pub rows_done : (before : ℕ) (ls : OpenLevels) (w : List Touch) (es : List (Marked Call)) → LevelsFit before ls
+    → rows_of (done ls w es) ≡ rows_of ls ++ rows_at (spot_of ls) es
+rows_done before (Bottom own) w es f =
     rows_append first_spot own.events (later_by (length own.log) es) f
     ∙ ap (λ rs. rows_at first_spot own.events ++ rs)
     (rows_moved (further first_spot (length own.events)) (length own.log) es ∙ (λ i. rows_at (record {
@@ -142,7 +144,7 @@ rows_done (Bottom own) w es f =
       depth = 0;
       mark = (let x : 0 + length own.log ≡ length own.log = omega arith in x) i;
     }) es))
-rows_done (Push under l own) w es f =
+rows_done before (Push under l own) w es f =
     let s = below (spot_of under) in
     ap (λ rs. rows_of under ++ opened_row under l ∷ rs)
     (rows_append s own.events (later_by (length own.log) es) f.0
@@ -195,11 +197,12 @@ seam xs y ys =
     omega (arith, s)) (sym (get_or-append_seam xs y ys y))
 
 -- the rows once it has ended
-rows_left : (under : OpenLevels) (l : OpenLevel) (own : Own) (e : End) (τ : State) (w : List Touch) → LevelsFit under → w ≡ logs_of (Push under l own)
+rows_left : (before : ℕ) (under : OpenLevels) (l : OpenLevel) (own : Own) (e : End) (τ : State) (w : List Touch) → LevelsFit before under
+    → w ≡ logs_of (Push under l own)
     → leaving (rows_of (Push under l own)) (calls_so_far under) (slice_get (rows_of (Push under l own)) (calls_so_far under)) (side_of (length w) τ)
     (way_out e) (result_in e)
     ≡ rows_of (done under own.log (ended l own e τ))
-rows_left under l own e τ w f h =
+rows_left before under l own e τ w f h =
     let row = opened_row under l in
     let rest = rows_at (below (spot_of under)) own.events in
     let at : calls_so_far under ≡ length (rows_of under) = sym (rows_length under) in
@@ -220,23 +223,23 @@ rows_left under l own e τ w f h =
       way = way_out e;
       result = result_in e;
     })
-    ∙ sym (rows_done under own.log (ended l own e τ) f
+    ∙ sym (rows_done before under own.log (ended l own e τ) f
     ∙ ap (λ rs. rows_of under ++ rs) (rows_call (spot_of under) (ended_call l own e τ) own.events refl))
 
 -- what is recorded once it has ended
-pub recording_left : (routines : ℕ) (under : OpenLevels) (l : OpenLevel) (own : Own) (e : End) (τ : State) (w : List Touch) → LevelsFit under
+pub recording_left : (before routines : ℕ) (under : OpenLevels) (l : OpenLevel) (own : Own) (e : End) (τ : State) (w : List Touch) → LevelsFit before under
     → w ≡ logs_of (Push under l own)
     → left (recording_at routines (Push under l own)) (side_of (length w) τ) (way_out e) (result_in e)
     ≡ recording_at routines (done under own.log (ended l own e τ))
-recording_left routines under l own e τ w f h = λ i. record {
-  calls = rows_left under l own e τ w f h i;
+recording_left before routines under l own e τ w f h = λ i. record {
+  calls = rows_left before under l own e τ w f h i;
   open_calls = sym (numbers_done under own.log (ended l own e τ)) i;
   routines = routines;
 }
 
-pub fits_ended : (under : OpenLevels) (l : OpenLevel) (own : Own) (e : End) (τ : State) → LevelsFit (Push under l own)
-    → LevelsFit (done under own.log (ended l own e τ))
-fits_ended under l own e τ f = fits_done under own.log (ended l own e τ) f.2 (inside_call (ended_call l own e τ) own.events refl f.0)
+pub fits_ended : (before : ℕ) (under : OpenLevels) (l : OpenLevel) (own : Own) (e : End) (τ : State) → LevelsFit before (Push under l own)
+    → LevelsFit before (done under own.log (ended l own e τ))
+fits_ended before under l own e τ f = fits_done before under own.log (ended l own e τ) f.2 (inside_call (ended_call l own e τ) own.events refl f.0)
 
 -- ---- the innermost open call
 

@@ -2,13 +2,13 @@
 use Rattle.std.proofs.Common.{◌++◌, ◌+◌, ◌<◌, ◌∙◌, ◌∷◌, ◌≡◌, [], ℕ, Err, List, None, Ok, OnOk, Option, Result, Some, ap, arith, length, length-append, map}
 use Rattle.std.proofs.{Common.reverse, Common.subst, Common.sym, lemmas.List.reverse-append}
 use Rattle.cell_value.specs.declared.{values.Value.Value, ways_out.WayOut.WayOut}
-use Rattle.core_program.specs.{ProgramRows.ProgramRows, State.State, Tree.ActTree, Tree.Out}
+use Rattle.core_program.specs.{ProgramRows.ProgramRows, Tree.ActTree, Tree.Out}
 use Rattle.call_tree.specs.Recording.{Recording, entered}
 use Rattle.eval_ops.specs.Machines.{Moment}
 use Rattle.evaluator.specs.Stops.{NextStopIs, Stop}
 use Rattle.program_run.proofs.{ActsKeepCalls.onward, LinesTakeSteps.LeftAt, LinesTakeSteps.left_at_stop, StepsLeadToTheRun.climb_enter}
 use Rattle.program_run.specs.{Runners.CallBegun, Runners.Invocation, Runners.open_in, Table.side_of, declared.open_call.OpenCall.OpenCall}
-use Rattle.program_run.specs.Tower.{Activation, CallBegins, Calls, TowerAt, View}
+use Rattle.program_run.specs.Tower.{Activation, CallBegins, Calls, First, TowerAt, View}
 
 -- an open call more
 pub pushed : (p : ProgramRows) (xs ys : List OpenCall) (o : OpenCall) → ys ≡ xs ++ o ∷ []
@@ -21,7 +21,7 @@ pub record Entered (p : ProgramRows) (e : Activation) (rest : Out → ActTree) (
   pub recording : v'.recording ≡ entered v.recording e.routine e.args (side_of (length v.moment.log) v.moment.state)
   pub opens : v'.opens ≡ record { base = v.moment.state.top; cells = e.cells; rest = rest } ∷ v.opens
 
-pub entered_stands : {p : ProgramRows} {first : State} (e : Activation) (rest : Out → ActTree) (v v' : View) → Entered p e rest v v'
+pub entered_stands : {p : ProgramRows} {first : First} (e : Activation) (rest : Out → ActTree) (v v' : View) → Entered p e rest v v'
     → TowerAt p first (Calls e.routine e.args rest) v → TowerAt p first e.stage v'
 entered_stands {p = p} {first = first} e rest v v' known t =
     subst (λ w. TowerAt p first e.stage w) (λ i. record {

@@ -1,6 +1,6 @@
 -- How the open calls change, from stop to stop.
-use Rattle.std.proofs.Common.{◌++◌, ◌-◌, ◌∙◌, ◌∷◌, ◌≡◌, [], ℕ, List, None, Some, ap, append-nil, arith, length, refl, subst, suc, sym}
-use Rattle.cell_value.specs.declared.{entries.Touch.Touch, values.Value.TheVariants.Nil}
+use Rattle.std.proofs.Common.{◌++◌, ◌+◌, ◌-◌, ◌∙◌, ◌∷◌, ◌≡◌, [], ℕ, List, None, Some, ap, append-nil, arith, length, refl, subst, suc, sym}
+use Rattle.cell_value.specs.declared.{entries.Touch.Touch, values.Value.Value}
 use Rattle.core_program.proofs.MoreDepthSameResult.{Less, joined_less, less_same, plain_grows, run_less}
 use Rattle.core_program.proofs.OutcomesCompose.{front_nothing, less_is, less_then}
 use Rattle.core_program.specs.{Acts.limit_passed, ProgramRows.ProgramRows, State.State, Tree.ActTree, Tree.Out, Tree.Ret}
@@ -12,9 +12,10 @@ use Rattle.evaluator.specs.Stops.{AtCall, AtEnd, AtLine, NextStopIs, Stop}
 use Rattle.program_run.proofs.{ActsKeepCalls.onward, RowsInParts.rows_whole, StopsLeadOn.IsLens, StopsLeadOn.finish, StopsLeadOn.runs}
 use Rattle.program_run.proofs.OpenCalls.{Top, call_ends, done, ended, fits_ended, fits_more, front_some, lengths_same, logs_done, more, more_comm, numbers_done}
 use Rattle.program_run.proofs.OpenCalls.{opens_done, recording_left, rows_done, rows_length, run_more, size_done, top_of, whole_done, whole_more, whole_some}
-use Rattle.program_run.specs.{Table.side_of, Tower.stage_after, Tower.stage_of, Tower.whole_from}
-use Rattle.program_run.specs.Tower.{Activation, Bottom, CallBegins, Calls, Ends, IsOver, Leads, LevelsFit, Open, OpenLevel, OpenLevels, Push, Rests, Stage}
-use Rattle.program_run.specs.Tower.{TowerAt, View, called, calls_so_far, followed, left_inside, logs_of, numbers_of, open_of, opens_of, recording_at, rows_of}
+use Rattle.program_run.specs.Table.{side_of}
+use Rattle.program_run.specs.Tower.{Activation, Bottom, CallBegins, Calls, Ends, First, IsOver, Leads, LevelsFit, Open, OpenLevel, OpenLevels, Push, Rests}
+use Rattle.program_run.specs.Tower.{Stage, TowerAt, View, called, calls_so_far, first_call, followed, left_inside, logs_of, numbers_of, open_of, opens_of}
+use Rattle.program_run.specs.Tower.{recording_at, rows_of, stage_after, stage_of, whole_from}
 
 plain_lens : (p : ProgramRows) → IsLens (plain p)
 plain_lens p = record { set_get = λ σ τ. refl; get_set = λ σ. refl; set_set = λ σ τ υ. refl }
@@ -23,7 +24,7 @@ same_end : (l w v : List Touch) → l ++ w ≡ l ++ v → w ≡ v
 same_end [] w v e = e
 same_end (x ∷ l) w v e = same_end l w v cc
 
-leads_from : {p : ProgramRows} {first : State} {a b : ℕ → Outcome} → Leads p first a
+leads_from : {p : ProgramRows} {first : First} {a b : ℕ → Outcome} → Leads p first a
     → ((n : ℕ) (r : Result State Call) → b n ≡ Some r → (k : ℕ) × (a k ≡ Some r)) → Leads p first b
 leads_from f h = record { leads = λ n r e. let x = h n r e in f.leads x.0 r x.1 }
 
@@ -34,10 +35,10 @@ left_finish p n (AtCall f args rest) σ =
     joined_less _ _ _ _ (less_same (call_of p (run_of p n) f args σ)) (λ out τ. run_less (plain p) (plain_grows p) p n (rest out) τ)
 left_finish p n (AtEnd end) σ = less_same _
 
-same_rows : (ls : OpenLevels) (w : List Touch) → LevelsFit ls → rows_of (done ls w []) ≡ rows_of ls
-same_rows ls w f = rows_done ls w [] f ∙ append-nil (rows_of ls)
+same_rows : (before : ℕ) (ls : OpenLevels) (w : List Touch) → LevelsFit before ls → rows_of (done ls w []) ≡ rows_of ls
+same_rows before ls w f = rows_done before ls w [] f ∙ append-nil (rows_of ls)
 
-module _ {p : ProgramRows} {first : State} where
+module _ {p : ProgramRows} {first : First} where
   -- on to the innermost body's next stop
   pub climb : (v : View) (t : ActTree) (stop : Stop) (m' : Moment) → TowerAt p first (Rests t) v → NextStopIs p t v.moment stop m'
       → TowerAt p first (stage_of stop) (record { opens = v.opens; moment = m'; recording = v.recording })
@@ -48,15 +49,15 @@ module _ {p : ProgramRows} {first : State} where
       record {
         levels = done ls w [];
         opens = h.opens ∙ sym (opens_done ls w []);
-        fits = fits_more ls w h.fits;
+        fits = fits_more first.state.depth ls w h.fits;
         recording = h.recording ∙ (λ i. record {
-          calls = sym (same_rows ls w h.fits) i;
+          calls = sym (same_rows first.state.depth ls w h.fits) i;
           open_calls = sym (numbers_done ls w []) i;
           routines = length p.routines;
         });
         log = o.grown ∙ ap (λ l. l ++ w) h.log ∙ sym (logs_done ls w []);
         calls = let a = o.same.calls in let b = h.calls in let c = size_done ls w [] in omega (arith, a, b, c);
-        depth = o.same.depth ∙ h.depth ∙ ap length (sym (numbers_done ls w []));
+        depth = o.same.depth ∙ h.depth ∙ ap (λ ns. first.state.depth + length ns) (sym (numbers_done ls w []));
         items = o.same.items ∙ h.items;
         leads = leads_from h.leads (go ls w o.grown);
       }
@@ -137,10 +138,12 @@ module _ {p : ProgramRows} {first : State} where
           let under = y.under in
           let l = y.l in
           let own = y.own in
-          let fits : LevelsFit (Push under l own) = subst LevelsFit y.is h.fits in
+          let fits : LevelsFit first.state.depth (Push under l own) = subst (LevelsFit first.state.depth) y.is h.fits in
           let log : v.moment.log ≡ logs_of (Push under l own) = h.log ∙ ap logs_of y.is in
-          let count : v.moment.state.calls ≡ calls_so_far (Push under l own) = h.calls ∙ ap calls_so_far y.is in
-          let high : v.moment.state.depth ≡ length (numbers_of (Push under l own)) = h.depth ∙ ap (λ ls. length (numbers_of ls)) y.is in
+          let count : v.moment.state.calls ≡ first.state.calls + calls_so_far (Push under l own) =
+          h.calls ∙ ap (λ ls. first.state.calls + calls_so_far ls) y.is in
+          let high : v.moment.state.depth ≡ first.state.depth + length (numbers_of (Push under l own)) =
+          h.depth ∙ ap (λ ls. first.state.depth + length (numbers_of ls)) y.is in
           let at : depth ≡ l.entry.depth = let f = fits.1 in omega (arith, ed, high, f) in
           let one = y.one in
           let σ : m'.state ≡ call_closed l.entry.depth (without_frame l.entry.top l.cells v.moment.state) = es
@@ -149,13 +152,14 @@ module _ {p : ProgramRows} {first : State} where
           record {
             levels = done under own.log es';
             opens = y.opens ∙ sym (opens_done under own.log es');
-            fits = fits_ended under l own e m'.state fits;
+            fits = fits_ended first.state.depth under l own e m'.state fits;
             recording = ap (λ (r : Recording). left r (side_of (length v.moment.log) m'.state) (way_out e) (result_in e))
                 (h.recording ∙ ap (recording_at (length p.routines)) y.is)
-                ∙ recording_left (length p.routines) under l own e m'.state v.moment.log fits.2 log;
+                ∙ recording_left first.state.depth (length p.routines) under l own e m'.state v.moment.log fits.2 log;
             log = el ∙ log ∙ sym (logs_done under own.log es');
             calls = ap (λ (τ : State). τ.calls) es ∙ (let c = size_done under own.log es' in omega (arith, count, c));
-            depth = ap (λ (τ : State). τ.depth) es ∙ at ∙ fits.1 ∙ ap length (sym (numbers_done under own.log es'));
+            depth = ap (λ (τ : State). τ.depth) es ∙ at ∙ fits.1
+                ∙ ap (λ ns. first.state.depth + length ns) (sym (numbers_done under own.log es'));
             items = ap (λ (τ : State). τ.items) es ∙ h.items;
             leads = leads_from (subst (λ ls. Leads p first (λ n. whole_from p n ls (ends e v.moment.state))) y.is h.leads) (λ n r c. (
               n,
@@ -192,36 +196,35 @@ module _ {p : ProgramRows} {first : State} where
             recording = rec ∙ (λ i. record { calls = rows_whole own.events i; open_calls = []; routines = length p.routines });
           }
 
-  -- no call is entered yet
-  pub at_first : (m : Moment) → m.state ≡ first → m.log ≡ [] → first.calls ≡ 0 → first.depth ≡ 0 → limit_passed first 0 ≡ None
-      → TowerAt p first (Calls 0 (Nil ∷ []) Ret) (record { opens = []; moment = m; recording = nothing_entered (length p.routines) })
-  at_first m es el ec ed free = record {
-    levels = Bottom (record { log = []; events = [] });
-    opens = refl;
-    fits = record { inside = λ k x. absurd (omega arith) };
-    recording = refl;
-    log = el;
-    calls = ap (λ (σ : State). σ.calls) es ∙ ec;
-    depth = ap (λ (σ : State). σ.depth) es ∙ ed;
-    items = ap (λ (σ : State). σ.items) es;
-    leads = record {
-      leads = λ n r e. (
-        suc n,
-        ap (λ o. if_allowed o first (joined (call_of p (run_of p n) 0 (Nil ∷ []) first) (λ out τ. run_of p (suc n) (Ret out) τ))) free
-            ∙ (joined_less _ _ _ _ (less_same (call_of p (run_of p n) 0 (Nil ∷ []) first))
-            (λ out τ. run_less (plain p) (plain_grows p) p n (Ret out) τ)).gives r
-            (ap (λ σ. followed p n Ret (call_of p (run_of p n) 0 (Nil ∷ []) σ)) (sym es) ∙ sym (front_nothing _) ∙ e),
-      );
-    };
-  }
+-- no call is entered yet
+pub at_first : (p : ProgramRows) (f : ℕ) (args : List Value) (σ : State) (m : Moment) → m.state ≡ σ → m.log ≡ [] → limit_passed σ 0 ≡ None
+    → TowerAt p (first_call f args σ) (Calls f args Ret) (record { opens = []; moment = m; recording = nothing_entered (length p.routines) })
+at_first p f args σ m es el free = record {
+  levels = Bottom (record { log = []; events = [] });
+  opens = refl;
+  fits = record { inside = λ k x. absurd (omega arith) };
+  recording = refl;
+  log = el;
+  calls = let e = ap (λ (τ : State). τ.calls) es in omega (arith, e);
+  depth = let e = ap (λ (τ : State). τ.depth) es in omega (arith, e);
+  items = ap (λ (τ : State). τ.items) es;
+  leads = record {
+    leads = λ n r e. (
+      suc n,
+      ap (λ o. if_allowed o σ (joined (call_of p (run_of p n) f args σ) (λ out τ. run_of p (suc n) (Ret out) τ))) free
+          ∙ (joined_less _ _ _ _ (less_same (call_of p (run_of p n) f args σ)) (λ out τ. run_less (plain p) (plain_grows p) p n (Ret out) τ)).gives r
+          (ap (λ τ. followed p n Ret (call_of p (run_of p n) f args τ)) (sym es) ∙ sym (front_nothing _) ∙ e),
+    );
+  };
+}
 
 -- what a tower says of what is recorded
-module _ {p : ProgramRows} {first : State} {stage : Stage} {v : View} where
+module _ {p : ProgramRows} {first : First} {stage : Stage} {v : View} where
   pub open_same : TowerAt p first stage v → length v.recording.open_calls ≡ length v.opens
   open_same h = ap (λ (r : Recording). length r.open_calls) h.recording ∙ lengths_same h.levels ∙ ap length (sym h.opens)
 
-  pub calls_same : TowerAt p first stage v → length v.recording.calls ≡ v.moment.state.calls
-  calls_same h = ap (λ (r : Recording). length r.calls) h.recording ∙ rows_length h.levels ∙ sym h.calls
+  pub calls_same : TowerAt p first stage v → v.moment.state.calls ≡ first.state.calls + length v.recording.calls
+  calls_same h = h.calls ∙ ap (λ n. first.state.calls + n) (sym (rows_length h.levels) ∙ sym (ap (λ (r : Recording). length r.calls) h.recording))
 
   pub routines_same : TowerAt p first stage v → v.recording.routines ≡ length p.routines
   routines_same h = ap (λ (r : Recording). r.routines) h.recording

@@ -1,3 +1,4 @@
+pub mod CalledFrom
 pub mod Table
 pub mod History
 pub mod Tower

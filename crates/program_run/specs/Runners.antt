@@ -1,12 +1,12 @@
 -- What a runner stands for, and what its steps do.
 use Rattle.std.specs.Prelude.{◌*◌, ◌+◌, ◌-◌, ◌<◌, ◌∷◌, ◌≡◌, [], ℕ, List, None, Option, Some, length, map, reverse}
 use Rattle.cell_value.specs.declared.{values.Value.Value, ways_out.WayOut.WayOut}
-use Rattle.core_program.specs.{ProgramRows.ProgramRows, State.State, Tree.ActTree, Tree.Out, Tree.Ret}
+use Rattle.core_program.specs.{ProgramRows.ProgramRows, Tree.ActTree, Tree.Out, Tree.Ret}
 use Rattle.core_program.specs.Run.{End, Halted, result_in, way_out, whole}
 use Rattle.core_program.specs.declared.program.Routine.{Routine}
 use Rattle.eval_ops.specs.Machines.{IsReady, Moment, moment_of}
 use Rattle.evaluator.specs.{Rest.rest_of, Rest.waiting, declared.body.Body.Body}
-use Rattle.program_run.specs.Tower.{CallBegins, Ends, IsOver, Open, Rests, Stage, TowerAt, View, activation}
+use Rattle.program_run.specs.Tower.{CallBegins, Ends, First, IsOver, Open, Rests, Stage, TowerAt, View, activation}
 use Rattle.program_run.specs.declared.{open_call.OpenCall.OpenCall, runner.Runner.Runner}
 
 -- what is done after a call, by its caller
@@ -28,7 +28,7 @@ view_of p r = record {
   recording = r.calls;
 }
 
-abbrev pub At : ProgramRows → State → Stage → Runner → Type 0
+abbrev pub At : ProgramRows → First → Stage → Runner → Type 0
 At p first stage r = TowerAt p first stage (view_of p r)
 
 -- the outermost open call alone has no caller: where no call is open, there is no body
@@ -39,7 +39,7 @@ Chain (Some body) [] = ⊥
 Chain (Some body) (o ∷ os) = Chain o.caller os
 
 -- a body has this still to do, or the run is over
-abbrev pub AtRest : ProgramRows → State → Option Body → Runner → Type 0
+abbrev pub AtRest : ProgramRows → First → Option Body → Runner → Type 0
 AtRest p first (Some body) r = At p first (Rests (rest_of p body)) r
 AtRest p first None r = IsOver p first (moment_of r.machine) r.calls
 
@@ -71,7 +71,7 @@ CallBegun p i None m m' =
 CallBegun p i (Some way) m m' = CallBegins p (activation i.routine i.args 0 (Ends (Halted way))) m m'
 
 -- an open call is innermost, and ends so, by this way out and with this result
-pub record InnermostEnds (p : ProgramRows) (first : State) (e : End) (r : Runner) (out : WayOut × Option Value) : Type
+pub record InnermostEnds (p : ProgramRows) (first : First) (e : End) (r : Runner) (out : WayOut × Option Value) : Type
     0 where
   pub ends : At p first (Ends e) r
   pub goes_out : way_out e ≡ out.0

@@ -1,11 +1,11 @@
 -- Open calls over one another, and the run that they are part of.
 use Rattle.std.specs.Prelude.{◌++◌, ◌+◌, ◌∷◌, ◌≡◌, ◌≤◌, [], ℕ, List, None, Option, Some, length, slice_get, suc}
 use Rattle.cell_value.specs.declared.{entries.Touch.Touch, values.Value.Value}
-use Rattle.core_program.specs.{Run.without_frame, State.State, Tree.ActTree, Tree.Out}
+use Rattle.core_program.specs.{State.State, Tree.ActTree, Tree.Enter, Tree.Out, Tree.Ret}
 use Rattle.core_program.specs.Numbering.{Inside, belows, depth_of, each_from, last_below, parent_of}
 use Rattle.core_program.specs.ProgramRows.{ProgramRows, routine_at}
-use Rattle.core_program.specs.Run.{Call, End, Ended, Halted, Marked, Outcome, Result, after_all, at_work, block}
-use Rattle.core_program.specs.Run.{call_closed, call_of, ends, in_frame, in_front, joined, opened, recorded, run_of}
+use Rattle.core_program.specs.Run.{Call, End, Ended, Halted, Marked, Outcome, Result, after_all, at_work, call_closed}
+use Rattle.core_program.specs.Run.{call_of, ends, in_frame, in_front, joined, opened, recorded, run_of, without_frame}
 use Rattle.call_tree.specs.Recording.{Recording, new_call}
 use Rattle.call_tree.specs.declared.records.Call as table
 use Rattle.eval_ops.specs.Machines.{Moment}
@@ -31,6 +31,16 @@ pub data OpenLevels : Type 0 where
   Push : (under : OpenLevels) (call : OpenLevel) (own : Own) → OpenLevels
 
 -- ---- the run
+
+-- what is run, and the state before it
+pub record First : Type 0 where
+  pub tree : ActTree
+  pub state : State
+
+-- A call that is run by itself. It is entered also where its frame is too large for the stack, as that of the program
+-- block is.
+abbrev pub first_call : (routine : ℕ) → List Value → State → First
+first_call f args σ = record { tree = Enter f 0 args Ret; state = σ }
 
 -- a call, from what its body gave
 abbrev pub called : OpenLevel → Outcome → Outcome
@@ -70,8 +80,9 @@ left_inside p n (Calls routine args rest) σ = followed p n rest (call_of p (run
 left_inside p n (Ends end) σ = ends end σ
 
 -- what is left of a run, once known, gives the run
-pub record Leads (p : ProgramRows) (first : State) (rest : ℕ → Outcome) : Type 0 where
-  pub leads : (n : ℕ) (r : Result State Call) → rest n ≡ Some r → (k : ℕ) × (run_of p k block first ≡ Some r)
+pub record Leads (p : ProgramRows) (first : First) (rest : ℕ → Outcome) : Type 0 where
+  pub leads : (n : ℕ) (r : Result State Call) → rest n ≡ Some r
+      → (k : ℕ) × (run_of p k first.tree first.state ≡ Some r)
 
 -- ---- the table of calls
 
@@ -139,11 +150,12 @@ rows_of (Push under l own) = rows_of under ++ opened_row under l ∷ rows_at (be
 abbrev pub recording_at : (routines : ℕ) → OpenLevels → Recording
 recording_at routines ls = record { calls = rows_of ls; open_calls = numbers_of ls; routines = routines }
 
--- the calls below each call are among its body's calls, and the depth of each open call is the number of those above it
-abbrev pub LevelsFit : OpenLevels → Type 0
-LevelsFit (Bottom own) = Inside (belows own.events)
-LevelsFit (Push under l own) = Inside (belows own.events) × (l.entry.depth ≡ length (numbers_of under))
-    × LevelsFit under
+-- The calls below each call are among its body's calls. The depth of each open call is the number of those above it,
+-- with those that were open before the first.
+abbrev pub LevelsFit : (before : ℕ) → OpenLevels → Type 0
+LevelsFit before (Bottom own) = Inside (belows own.events)
+LevelsFit before (Push under l own) = Inside (belows own.events)
+    × (l.entry.depth ≡ before + length (numbers_of under)) × LevelsFit before under
 
 -- ---- the open calls in the code
 
@@ -167,16 +179,16 @@ pub record View : Type 0 where
   pub moment : Moment
   pub recording : Recording
 
--- the open calls, with what is left inside the innermost, are on the way to the whole run from a first state
-pub record TowerAt (p : ProgramRows) (first : State) (stage : Stage) (v : View) : Type 0 where
+-- the open calls, with what is left inside the innermost, are on the way to the whole of what is run
+pub record TowerAt (p : ProgramRows) (first : First) (stage : Stage) (v : View) : Type 0 where
   pub levels : OpenLevels
   pub opens : v.opens ≡ opens_of levels
-  pub fits : LevelsFit levels
+  pub fits : LevelsFit first.state.depth levels
   pub recording : v.recording ≡ recording_at (length p.routines) levels
   pub log : v.moment.log ≡ logs_of levels
-  pub calls : v.moment.state.calls ≡ calls_so_far levels
-  pub depth : v.moment.state.depth ≡ length (numbers_of levels)
-  pub items : v.moment.state.items ≡ first.items
+  pub calls : v.moment.state.calls ≡ first.state.calls + calls_so_far levels
+  pub depth : v.moment.state.depth ≡ first.state.depth + length (numbers_of levels)
+  pub items : v.moment.state.items ≡ first.state.items
   pub leads : Leads p first (λ n. whole_from p n levels (left_inside p n stage v.moment.state))
 
 -- an activation that begins (6.2.3): its routine, its link and arguments, the cells of its frame, and where its body is
@@ -201,12 +213,12 @@ pub record CallBegins (p : ProgramRows) (e : Activation) (m m' : Moment) : Type 
     pub is : (n : ℕ) → in_frame (at_work p (run_of p n) e.routine) e.args (opened m.state) (routine_at p e.routine)
         ≡ after_all (without_frame m.state.top e.cells) (left_inside p n e.stage m'.state)
 
--- the run from a first state is over, and this is what it left
-pub record IsOver (p : ProgramRows) (first : State) (m : Moment) (kept : Recording) : Type 0 where
+-- all that was to be run is over, and this is what it left
+pub record IsOver (p : ProgramRows) (first : First) (m : Moment) (kept : Recording) : Type 0 where
   pub result : Result State Call
   pub depth : ℕ
-  pub is : run_of p depth block first ≡ Some result
+  pub is : run_of p depth first.tree first.state ≡ Some result
   pub after : m.state ≡ result.after
-  pub items : m.state.items ≡ first.items
+  pub items : m.state.items ≡ first.state.items
   pub log : m.log ≡ result.log
   pub recording : kept ≡ recording_of p (Some result)

@@ -1,6 +1,7 @@
 //! The run of a program, with the open calls in a list, so that a call of the program is no call of the runner.
 #![tactic(auto)]
 
+mod copies;
 mod history;
 mod input;
 mod laws;
@@ -8,6 +9,7 @@ mod open_call;
 mod runner;
 mod runs;
 
+pub use copies::copy_items;
 pub use history::History;
 pub use laws::calls_are_told;
-pub use runs::run;
+pub use runs::{run, run_from};

@@ -1,14 +1,14 @@
 //! The runner: it runs a program with the open calls in a list.
 
 ghost use Rattle.std.specs.Prelude.{◌+◌, ◌<◌, ◌≡◌, ◌≤◌, ℕ, IfOk, IsSome, None, OnOk, Option, Some, length};
-ghost use Rattle.core_program.specs.{ProgramRows.ProgramRows, ProgramRows.routine_at, Replay.end_of, Run.End};
-ghost use Rattle.core_program.specs.{Run.Ended, Run.Halted, State.State, State.stack_end, Tree.Out};
+ghost use Rattle.core_program.specs.{Replay.end_of, Run.End, Run.Ended, Run.Halted, State.stack_end, Tree.Out};
+ghost use Rattle.core_program.specs.ProgramRows.{ProgramRows, routine_at};
 ghost use Rattle.core_program.specs.declared.program.Routine as table;
 ghost use Rattle.eval_ops.specs.Machines.{AllowsCall, IsReady, machine_state, moment_of};
 ghost use Rattle.evaluator.specs.declared.body.Body as bodies;
 ghost use Rattle.program_run.specs.{Runners.rest_in, Runners.work_left, Table.side_of};
 ghost use Rattle.program_run.specs.Runners.{At, AtRest, CallBegun, Chain, InnermostEnds, IsWell, invocation, opens_in};
-ghost use Rattle.program_run.specs.Tower.{Calls as Calling, Ends, IsOver, stage_after};
+ghost use Rattle.program_run.specs.Tower.{Calls as Calling, Ends, First, IsOver, stage_after};
 
 use crate::open_call::OpenCall;
 use call_tree::{Calls, Side};
@@ -84,7 +84,7 @@ impl Runner {
     ) -> Result<Option<Body>, Memory>
         requires well { IsWell self.old }
         requires open { 0 < length self.old.opens.items }
-        ensures left { IfOk result (λ caller. (p : ProgramRows) (first : State) (e : End)
+        ensures left { IfOk result (λ caller. (p : ProgramRows) (first : First) (e : End)
             → InnermostEnds p first e self.old (way, answer) → At p first (stage_after (rest_in p caller) e) self.new) }
         ensures chain { IfOk result (λ caller. (body : bodies.Body) → Chain (Some body) (opens_in self.old)
             → Chain caller (opens_in self.new)) }
@@ -105,7 +105,7 @@ impl Runner {
     /// Ends each open call in the same way, the innermost first.
     fn halt(&mut self, alloc: Global, way: WayOut) -> Result<(), Memory>
         requires well { IsWell self.old }
-        ensures over { (p : ProgramRows) (first : State) → At p first (Ends (Halted way)) self.old
+        ensures over { (p : ProgramRows) (first : First) → At p first (Ends (Halted way)) self.old
             → OnOk result (AtRest p first self.new.body self.new) }
         ensures less { OnOk result (work_left self.new + length self.old.opens.items ≤ work_left self.old) }
         ensures chain { OnOk result (Chain self.new.body (opens_in self.new)) }
@@ -123,7 +123,7 @@ impl Runner {
         requires well { IsWell self.old }
         requires open { 0 < length self.old.opens.items }
         requires chain { (body : bodies.Body) × Chain (Some body) (opens_in self.old) }
-        ensures rests { (p : ProgramRows) (first : State) (out : Out)
+        ensures rests { (p : ProgramRows) (first : First) (out : Out)
             → InnermostEnds p first (Ended out) self.old (way, answer) → end_of way answer ≡ Ended out
             → OnOk result (AtRest p first self.new.body self.new) }
         ensures less { OnOk result (work_left self.new < work_left self.old) }
@@ -148,7 +148,7 @@ impl Runner {
         requires well { IsWell self.old }
         requires open { 0 < length self.old.opens.items }
         requires chain { (body : bodies.Body) × Chain (Some body) (opens_in self.old) }
-        ensures rests { (p : ProgramRows) (first : State) → At p first (Ends (end_of way answer)) self.old
+        ensures rests { (p : ProgramRows) (first : First) → At p first (Ends (end_of way answer)) self.old
             → OnOk result (AtRest p first self.new.body self.new) }
         ensures less { OnOk result (work_left self.new < work_left self.old) }
         ensures chain { OnOk result (Chain self.new.body (opens_in self.new)) }
@@ -177,9 +177,9 @@ impl Runner {
         requires there { IsSome (routine_at program.now routine) }
         requires under { 0 < length self.old.calls.calls → 0 < length self.old.opens.items }
         requires chain { Chain caller (opens_in self.old) }
-        requires calls { (first : State) × At program.now first (Calling routine args (rest_in program.now caller))
+        requires calls { (first : First) × At program.now first (Calling routine args (rest_in program.now caller))
             self.old }
-        ensures rests { (first : State) → At program.now first (Calling routine args (rest_in program.now caller))
+        ensures rests { (first : First) → At program.now first (Calling routine args (rest_in program.now caller))
             self.old → OnOk result (AtRest program.now first self.new.body self.new) }
         ensures less { OnOk result (work_left self.new + 1 ≤ work_left self.old) }
         ensures chain { OnOk result (Chain self.new.body (opens_in self.new)) }
@@ -215,8 +215,8 @@ impl Runner {
     fn go_on(&mut self, alloc: Global, program: &Program) -> Result<(), Memory>
         requires well { IsWell self.old }
         requires chain { Chain self.old.body (opens_in self.old) }
-        requires rests { (first : State) × AtRest program.now first self.old.body self.old }
-        ensures rests { (first : State) → AtRest program.now first self.old.body self.old
+        requires rests { (first : First) × AtRest program.now first self.old.body self.old }
+        ensures rests { (first : First) → AtRest program.now first self.old.body self.old
             → OnOk result (AtRest program.now first self.new.body self.new) }
         ensures less { (body : bodies.Body) → self.old.body ≡ Some body
             → OnOk result (work_left self.new < work_left self.old) }
@@ -241,8 +241,8 @@ impl Runner {
     pub fn go(&mut self, alloc: Global, program: &Program) -> Result<(), Memory>
         requires well { IsWell self.old }
         requires chain { Chain self.old.body (opens_in self.old) }
-        requires rests { (first : State) × AtRest program.now first self.old.body self.old }
-        ensures over { (first : State) → AtRest program.now first self.old.body self.old
+        requires rests { (first : First) × AtRest program.now first self.old.body self.old }
+        ensures over { (first : First) → AtRest program.now first self.old.body self.old
             → OnOk result (IsOver program.now first (moment_of self.new.machine) self.new.calls) }
     {
         'stops: loop {

@@ -19,7 +19,6 @@
 #![tactic(auto)]
 
 mod digests;
-mod entries;
 mod fields;
 mod hashing;
 mod laws;
@@ -31,9 +30,8 @@ mod session;
 mod writing;
 
 pub use digests::digest_of;
-pub use entries::SavedEntries;
 pub use hashing::Hashing;
 pub use laws::{version_1_is_loaded, what_is_saved_is_loaded};
 pub use reading::load;
-pub use session::{LoadFault, Session, SessionField};
+pub use session::{LoadFault, SavedEntries, Session, SessionField};
 pub use writing::{judgement_word, save};

@@ -7,10 +7,9 @@ ghost use Rattle.json_pass.specs.Passing.{items_read, value_read};
 ghost use Rattle.session_file.specs.{Reading.note_by, Shown.IsRefused};
 ghost use Rattle.session_file.specs.Listed.{all_listed, listed_in, next_listed, noted_on, nothing_listed, with_entry};
 
-use crate::entries::SavedEntries;
 use crate::fields::{opens_list, shown_value};
 use crate::reading::entry_from;
-use crate::session::LoadFault;
+use crate::session::{LoadFault, SavedEntries};
 use edge_ports::Memory;
 use json::Reader;
 use json_pass::pass_rest;
@@ -19,7 +18,7 @@ use serde_json::Value;
 use std::alloc::Global;
 
 /// The most entries of a session.
-const MOST_ENTRIES: usize = 100_000;
+const MOST_ENTRIES: usize = answer_book::MOST_ENTRIES as usize;
 
 /// Entries, and the notes on them if each of these is one.
 #[derive(Debug, Drop)]
@@ -82,7 +81,7 @@ fn noted_more(notes: Option<Notes>, number: usize, value: &Value) -> Result<Opti
 fn with_entry(listed: Listed, value: &Value) -> Result<Option<Listed>, Memory>
     ensures { IfOk result (λ after. after ≡ with_entry listed (view value.now)) }
 {
-    let number = listed.entries.items.len() + 1;
+    let number = listed.entries.len() as usize + 1;
     if number > MOST_ENTRIES {
         return Ok(None);
     }

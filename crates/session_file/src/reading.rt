@@ -7,12 +7,11 @@ ghost use Rattle.session_file.specs.Parts.{answered_by, begun_wrong, fields_by, 
 ghost use Rattle.session_file.specs.Reading.{begins_wrong, budget_at, digest_at, entry_in, said_as, says_wrong};
 ghost use Rattle.session_file.specs.Reading.{session_of, session_or_fault, text_read, text_under, word_under};
 
-use crate::entries::SavedEntries;
 use crate::fields::opens_object;
 use crate::listed::Listed;
 use crate::parts::{Parts, parts_in};
 use crate::replied::Answered;
-use crate::session::{LoadFault, Session, SessionField};
+use crate::session::{LoadFault, SavedEntries, Session, SessionField};
 use crate::writing::VERSION;
 use answer_book::{Entry, Judgement, What};
 use hex::FromHex;
@@ -26,7 +25,7 @@ use std::alloc::Global;
 pub(crate) const FIRST_VERSION: u64 = 1;
 
 /// The most steps of a run.
-const MOST_STEPS: u64 = 4_000_000;
+const MOST_STEPS: u64 = cell_value::MOST_STEPS as u64;
 
 /// How many numbers of 32 bits there are.
 const NUMBERS: u64 = 4_294_967_296;
@@ -345,7 +344,7 @@ fn is_wrong(what: What) -> bool
 fn is_first_wrong(entries: &SavedEntries) -> bool
     ensures { result ≡ begins_wrong entries.now }
 {
-    match entries.items.first() {
+    match entries.as_slice().first() {
         Some(entry) => is_wrong(entry.what),
         None => false,
     }

@@ -1,8 +1,12 @@
 //! What a session is, and why a text is none.
 
-use crate::entries::SavedEntries;
+use answer_book::Entry;
+use cell_value::List;
 use kept_replies::{Notes, Replies};
 use thiserror::Error;
+
+/// The entries of a book, first to last.
+pub type SavedEntries = List<Entry>;
 
 /// What was said of the calls of one run, and which run it was.
 #[derive(Debug, Drop)]

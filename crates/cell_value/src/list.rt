@@ -1,4 +1,4 @@
-//! A list of values.
+//! Lists whose items are counted by a `u32`.
 ghost use Rattle.std.specs.Prelude.{◌++◌, ◌<◌, ◌∷◌, ◌≡◌, [], OnErr, OnOk, Some, length, slice_get};
 
 use crate::values::Value;
@@ -8,36 +8,41 @@ use std::marker::Model;
 /// No memory could be had.
 pub type Memory = AllocError;
 
-/// A list of fewer than 2^32 values. Clauses see it as the list of its values, first to last.
+/// A list of fewer than 2^32 items. Clauses see it as the list of its items, first to last.
 #[derive(Debug, Drop)]
-pub struct Cells {
-    items: Vec<Value>,
+pub struct List<X> {
+    items: Vec<X>,
 }
 
-impl Model for Cells {
+/// The values of some cells.
+pub type Cells = List<Value>;
+
+/// The items of an input: each char by its ordinal, and 256 for a line end.
+pub type Items = List<u16>;
+
+impl<X> Model for List<X> {
     ghost use Rattle.std.specs.Prelude.{◌<◌, ◌^◌, List, vec_len};
-    ghost use Rattle.cell_value.specs.declared.values.Value.{Value as CellValue};
 
-    ghost Value = { List CellValue };
+    ghost Value = { List X };
 
-    ghost view = { λ c. c.items.items };
+    ghost view = { λ list. list.items.items };
 
-    ghost invariant = { λ c. vec_len c.items < 2 ^ 32 };
+    ghost invariant = { λ list. vec_len list.items < 2 ^ 32 };
 }
 
-impl Cells {
+impl<X: Copy> List<X> {
     /// An empty list, which takes no memory yet.
-    pub fn new(alloc: Global) -> Cells
+    pub fn new(alloc: Global) -> List<X>
         ensures { result ≡ [] }
     {
-        Cells {
+        List {
             items: Vec::new(alloc),
         }
     }
 
-    /// Puts the value at the end. The list has fewer than 4,294,967,295 values before, so that
-    /// their number is a `u32` afterwards. After `Memory` the list is as it was.
-    pub fn push(&mut self, item: Value) -> Result<(), Memory>
+    /// Puts the item at the end. The list has fewer than 4,294,967,295 items before, so that their number is a `u32`
+    /// afterwards. After `Memory` the list is as it was.
+    pub fn push(&mut self, item: X) -> Result<(), Memory>
         requires room { length self.old < 4294967295 }
         ensures added { OnOk result (self.new ≡ self.old ++ item ∷ []) }
         ensures unchanged { OnErr result (self.new ≡ self.old) }
@@ -46,23 +51,23 @@ impl Cells {
         Ok(())
     }
 
-    /// The number of values.
+    /// The number of items.
     pub fn len(&self) -> u32
         ensures { result ≡ length self.now }
     {
         self.items.len() as u32
     }
 
-    /// The value at place `i`, counted from 0, which is below the number of values.
-    pub fn at(&self, i: u32) -> Value
+    /// The item at place `i`, counted from 0, which is below the number of items.
+    pub fn at(&self, i: u32) -> X
         requires inside { i < length self.now }
         ensures found { slice_get self.now i ≡ Some result }
     {
         self.items[i as usize]
     }
 
-    /// The values as a slice.
-    pub fn as_slice(&self) -> &[Value]
+    /// The items as a slice.
+    pub fn as_slice(&self) -> &[X]
         ensures { result.now ≡ self.now }
     {
         &self.items

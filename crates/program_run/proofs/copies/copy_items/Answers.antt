@@ -1,6 +1,6 @@
 use Rattle.std.proofs.Common.{◌++◌, ◌+◌, ◌∙◌, ◌∷◌, ◌≡◌, [], ap, append_assoc, arith, drop, length, length-append, suc, sym}
 use Rattle.eval_ops.proofs.Lists.{drop_get}
-use Rattle.body_replay.proofs.kept_state.copy_items.Goals as goal
+use Rattle.program_run.proofs.copies.copy_items.Goals as goal
 
 pub items-preserved : goal.items-preserved
 items-preserved c =
