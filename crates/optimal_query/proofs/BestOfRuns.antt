@@ -1,8 +1,7 @@
 -- The best of one run, and of one run after another.
-use Rattle.std.proofs.Common.{◌+◌, ◌-◌, ◌<◌, ◌∙◌, ◌≡◌, ◌≢◌, ◌≤◌, ◌⊎◌, ℕ, All, Bool, List, None, Option, Some, ap, arith, cond, drop, eq-eqb, eqb, false, inl}
-use Rattle.std.proofs.Common.{inr, length, length-drop, max, nat_lt, refl, slice_index, subst, sym, take, true}
-use Rattle.std.proofs.lemmas.Bool.{cases_eq, cases_order, eqb-true, ltb-false, ltb-true}
-use Rattle.std.proofs.lemmas.List.{get_or-drop, get_or-take, length-take-le}
+use Rattle.std.proofs.Common.{◌+◌, ◌-◌, ◌<◌, ◌∙◌, ◌≡◌, ◌≢◌, ◌≤◌, ◌⊎◌, ℕ, All, Bool, List, None, Option, Some, ap, arith, cond, drop, false, inl, inr, length}
+use Rattle.std.proofs.Common.{length-drop, max, nat_lt, refl, slice_index, subst, sym, take, true}
+use Rattle.std.proofs.lemmas.{Bool.cases_eq, Bool.cases_order, Bool.ltb-false, Bool.ltb-true, List.get_or-drop, List.get_or-take, List.length-take-le}
 use Rattle.weight_lanes.specs.{Places.IsSet, Places.IsWeightlessParent, Places.LeavesFewer, Places.left_at, declared.choice.Choice.Choice}
 use Rattle.optimal_query.specs.Runs.{Field, IsBelowWeightless, IsBestAmong, IsBestFrom, IsField, LeavesNoMore, MayBeAsked, better_of}
 
@@ -203,12 +202,6 @@ run_of_one field from inside weighs = record {
   inside = omega arith;
   run = λ call h i zero. let same : from ≡ call = omega arith in absurd (weighs (ap (slice_index field.weights) same ∙ zero));
 }
-
--- with one call more that weighs something
-pub seen_one : (field : Field) (from : ℕ) (best next : Option Choice) → IsField field → Seen field from best → from < field.end
-    → IsBestAmong (λ call. slice_index field.askable call ≢ 0) (left_at field.weights field.total) from (from + 1) next
-    → slice_index field.weights from ≢ 0 → Seen field (from + 1) (better_of best next)
-seen_one field from best next is seen inside among weighs = seen_run field from (from + 1) best next is seen (run_of_one field from inside weighs) among
 
 -- a call at which the search stands, and that nothing is said of, is a run alone
 pub run_of_unsaid : (field : Field) (from : ℕ) (best : Option Choice) → IsField field → Seen field from best → from < field.end

@@ -2,7 +2,7 @@
 //! subtrees in which no suspect stands. Where runs are short, a kernel first passes over all calls that
 //! leave no fewer suspects than the best so far, whether they stand in such a subtree or not; what is
 //! left is looked at one by one.
-ghost use Rattle.std.specs.Prelude.{if◌then◌else◌, ◌+◌, ◌<◌, ◌==◌, ◌≡◌, ◌≢◌, ◌≤◌, ℕ, length, slice_index};
+ghost use Rattle.std.specs.Prelude.{◌+◌, ◌<◌, ◌≡◌, ◌≢◌, ◌≤◌, ℕ, length, slice_index};
 ghost use Rattle.std.specs.Option.{ForSome};
 ghost use Rattle.weight_lanes.specs.Places.{left_at};
 ghost use Rattle.optimal_query.specs.Runs.{IsBelowWeightless, IsBestAmong, IsField, LeavesNoMore, MayBeAsked};
@@ -126,10 +126,8 @@ fn past_weightless(last: &[u32], weights: &[u32], from: usize, to: usize) -> usi
 {
     let mut reached = 0_u32;
     for call in from..to {
-        // It is read in any case, so that the compiler makes vectors of the loop.
-        let end = last[call];
         if weights[call] == 0 {
-            reached = reached.max(end);
+            reached = reached.max(last[call]);
         }
     }
     to.max(reached as usize + 1)
@@ -156,6 +154,9 @@ pub(crate) fn best_of_runs(
     'calls: while from < end {
         if alone <= from {
             let to = next_better(weights, askable, total, best, from, end);
+            if to == end {
+                return best;
+            }
             if LONG <= to - from {
                 from = past_weightless(last, weights, from, to);
                 continue 'calls;

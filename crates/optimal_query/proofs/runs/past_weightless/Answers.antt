@@ -1,4 +1,4 @@
-use Rattle.std.proofs.Common.{◌+◌, ◌<◌, ◌≡◌, ℕ, ap, arith, inl, inr, slice_index}
+use Rattle.std.proofs.Common.{◌+◌, ◌≡◌, ap, arith, inl, inr, slice_index}
 use Rattle.optimal_query.proofs.BestOfRuns.{cases_lt, hidden_more}
 use Rattle.optimal_query.proofs.runs.past_weightless.Goals.{else-weights-call-eq0, then-weights-call-eq0}
 use Rattle.optimal_query.proofs.runs.past_weightless.Goals as goal
