@@ -1,7 +1,7 @@
 -- Calls with the same key are joined into one class, one after the other.
-use Rattle.std.proofs.Common.{◌+◌, ◌-◌, ◌<◌, ◌↔◌, ◌∙◌, ◌≡◌, ◌≤◌, ◌⊎◌, ℕ, Bool, IsTrue, List, Some, ap, arith, false, get_or, get_or-set_other, get_or-set_same}
-use Rattle.std.proofs.Common.{inl, inr, length, refl, slice_get, slice_index, slice_set, subst, sym, true}
-use Rattle.std.proofs.lemmas.{Bool.Decides.eqb_tells, Option.get_or_from_slice_get, Option.slice_get_within}
+use Rattle.std.proofs.Common.{◌+◌, ◌-◌, ◌<◌, ◌↔◌, ◌∙◌, ◌≡◌, ◌≤◌, ◌⊎◌, ℕ, Bool, IsTrue, List, Some, ap, arith, false, get_or-set_other, get_or-set_same, inl}
+use Rattle.std.proofs.Common.{inr, length, refl, slice_get, slice_index, slice_set, subst, sym, true}
+use Rattle.std.proofs.lemmas.{Bool.Decides.eqb_tells, Option.slice_get_within}
 use Rattle.std.proofs.lemmas.List.{length-set, FromFn.get_or-range_with_len, FromFn.length-range_with_len}
 use Rattle.cell_value.specs.Effects.{looked_of}
 use Rattle.core_program.proofs.OutcomesCompose.{some_same}
@@ -9,9 +9,10 @@ use Rattle.call_tree.specs.Told.{part_of}
 use Rattle.call_tree.specs.declared.records.Call as table
 use Rattle.program_run.specs.declared.history.History.{History}
 use Rattle.answer_book.specs.Numbers.{numbers_below}
-use Rattle.answer_reuse.proofs.KeysInOrder.{calls_rise, key_is, same_between}
-use Rattle.answer_reuse.specs.{Kept.AreJoined, Kept.HasLesser, Kept.joined_one, Sorting.AreSorted, Sorting.IsKeyOf, Sorting.SameKey, declared.keys.Keyed.Keyed}
+use Rattle.answer_reuse.proofs.KeysInOrder.{calls_rise, key_is, keyed_of, same_between}
+use Rattle.answer_reuse.specs.{Kept.AreJoined, Kept.HasLesser, Kept.joined_one, declared.keys.Keyed.Keyed}
 use Rattle.answer_reuse.specs.Keys.{args_key, items_key, key_head, key_of, touches_key}
+use Rattle.answer_reuse.specs.Sorting.{AreKeys, AreSorted, IsKeyOf, SameKey}
 
 module _ (h : History) where
   -- a call has one key
@@ -150,6 +151,9 @@ module _ (h : History) where
 
   -- ---- a turn
 
+  pub key_inside : (keys : List Keyed) → AreKeys h keys → (i : ℕ) (k : Keyed) → slice_get keys i ≡ Some k → k.call < length h.calls.calls
+  key_inside keys g i k e = slice_get_within h.calls.calls k.call k.row.now (keyed_of h keys g i k e).row
+
   pub call_inside : (keys : List Keyed) → AreSorted h keys → (i : ℕ) (k : Keyed) → slice_get keys i ≡ Some k → k.call < length h.calls.calls
   call_inside keys s i k e = slice_get_within h.calls.calls k.call k.row.now (key_is h keys s i k e).row
 
@@ -169,3 +173,7 @@ module _ (h : History) where
           (let l = call_inside keys s i c (ap (slice_get keys) (let z : i ≡ i - 1 + 1 = omega arith in z) ∙ next) in omega (arith, l, g.each))
           (call_inside keys s (i - 1) b at)
       by false tells g next = joined_apart keys s classes (i - 1) b c at next g (λ q. absurd (let z : false ≡ true = tells.1 q in cc))
+
+pub joined_as_many : (classes : List ℕ) (t : Bool) (lesser call : ℕ) (new : List ℕ) → new ≡ joined_one classes t lesser call → length new ≡ length classes
+joined_as_many classes true lesser call new e = ap length e ∙ length-set classes call (slice_index classes lesser)
+joined_as_many classes false lesser call new e = ap length e

@@ -1,18 +1,17 @@
 -- The order in which keyed calls stand, and what stands between two with the same key.
-use Rattle.std.proofs.Common.{◌+◌, ◌<◌, ◌==◌, ◌∙◌, ◌∷◌, ◌≡◌, ◌≤◌, [], ℕ, Bool, Equal, Greater, Less, List, None, Option, Ordering, Some, ap, arith, cond, false}
-use Rattle.std.proofs.Common.{fold, get_or, length, map, nat_lt, refl, slice_get, subst, suc, sym, true, zero}
-use Rattle.std.proofs.lemmas.{Bool.Decides.nat_tests, Fn.always_returns_same, Option.get_or_from_slice_get, Option.slice_get_within}
+use Rattle.std.proofs.Common.{◌+◌, ◌-◌, ◌<◌, ◌==◌, ◌∙◌, ◌∷◌, ◌≡◌, ◌≤◌, [], ℕ, Bool, Equal, Greater, Less, List, None, Option, Ordering, Some, ap, arith, cond}
+use Rattle.std.proofs.Common.{false, fold, get_or, inl, inr, nat_lt, refl, slice_get, subst, sym, true}
+use Rattle.std.proofs.lemmas.{Bool.Decides.eqb_tells, Bool.Decides.nat_tests, Fn.always_returns_same, Option.get_or_from_slice_get, Option.slice_get_within}
 use Rattle.std.proofs.lemmas.Cmp.{alike_right, lists_total, nat_cmp_total, nat_list_cmp_total, on_total, ranked, then_total, tied_itself}
 use Rattle.std.proofs.lemmas.List.{Folds.fold-map, Sorted.ranks_by, Sorted.sorted_far}
-use Rattle.std.specs.{Cmp.IsTotalOrder, Cmp.Lexicographic.slice_cmp, Fn.Called, List.Sorted.IsSortedBy, List.Sorted.IsSortedByClosure, Option.option_cmp}
-use Rattle.std.specs.Ordering.{is_lt, nat_cmp, ordering_reverse, ordering_then}
+use Rattle.std.specs.{Cmp.IsTotalOrder, Cmp.Lexicographic.slice_cmp, Fn.Called, List.Sorted.IsSortedBy, List.Sorted.IsSortedByClosure}
+use Rattle.std.specs.{List.Sorted.IsSortedWithin, Option.option_cmp, Ordering.is_lt, Ordering.nat_cmp, Ordering.ordering_reverse, Ordering.ordering_then}
 use denote.Param.Members.{Mut}
 use denote.Ref.{Bor}
-use Rattle.cell_value.specs.declared.values.Value.{Value}
 use Rattle.program_run.specs.declared.history.History.{History}
-use Rattle.answer_reuse.specs.{Figures.value_figure, Keys.touches_digest, Keys.touches_key, Keys.work_order, declared.keys.Keyed.Keyed}
-use Rattle.answer_reuse.specs.Keys.{IsKeyed, Key, args_digest, args_key, compare_keys, contents_order, digest_of, key_head, key_of, key_order, mixed_figure}
-use Rattle.answer_reuse.specs.Sorting.{AreSorted, IsKeyOf, SameKey, comes_first, order_in}
+use Rattle.answer_reuse.specs.{Figures.value_figure, Keys.touches_key, Keys.work_order, declared.keys.Keyed.Keyed}
+use Rattle.answer_reuse.specs.Keys.{IsKeyed, Key, compare_keys, contents_order, digest_of, key_head, key_of, key_order, mixed_figure, touches_digest}
+use Rattle.answer_reuse.specs.Sorting.{AreKeys, AreSorted, IsKeyOf, SameKey, comes_first, order_in, rises}
 
 -- ---- what ties is the same
 
@@ -73,6 +72,9 @@ as_lists (Some x) (Some y) = then_Equal (slice_cmp nat_cmp x y)
 options_total : IsTotalOrder (option_cmp (slice_cmp nat_cmp))
 options_total = subst IsTotalOrder (λ i p q. as_lists p q i) (on_total listed (lists_total nat_list_cmp_total))
 
+pub options_tie : (x y : Option (List ℕ)) → x ≡ y → Equal ≡ option_cmp (slice_cmp nat_cmp) x y
+options_tie x y e = sym (tied_itself options_total x) ∙ ap (option_cmp (slice_cmp nat_cmp) x) e
+
 key_total : IsTotalOrder key_order
 key_total = then_total (on_total (λ (q : Key). q.head) nat_list_cmp_total) (then_total (on_total (λ (q : Key). q.args) (lists_total nat_list_cmp_total))
     (then_total (on_total (λ (q : Key). q.touches) (lists_total options_total)) (on_total (λ (q : Key). q.items) (lists_total nat_list_cmp_total))))
@@ -93,11 +95,11 @@ module _ (h : History) where
   -- ---- the digest is that of the key
 
   abbrev digest_by : Key → ℕ
-  digest_by q = touches_digest (fold mixed_figure (mixed_figure 0 q.head) q.args) q.touches
+  digest_by q = mixed_figure (fold mixed_figure (touches_digest 0 q.touches) q.args) q.head
 
   digest_is : (k : Keyed) → digest_of h k ≡ digest_by (key_of h k)
-  digest_is k = ap (λ d. touches_digest d (touches_key h.log k.row.now))
-      (sym (fold-map mixed_figure (value_figure 0 0) (mixed_figure 0 (key_head k.row.now k.looked)) k.row.now.args))
+  digest_is k = ap (λ d. mixed_figure d (key_head k.row.now k.looked))
+      (sym (fold-map mixed_figure (value_figure 0 0) (touches_digest 0 (touches_key h.log k.row.now)) k.row.now.args))
 
   pub same_digest : (k l : Keyed) → IsKeyed h k → IsKeyed h l → SameKey h k l → k.digest ≡ l.digest
   same_digest k l a b e = a.digest ∙ digest_is k ∙ ap digest_by e ∙ sym (digest_is l) ∙ sym b.digest
@@ -141,6 +143,58 @@ module _ (h : History) where
   ties_by_key : (k l : Keyed) → IsKeyed h k → IsKeyed h l → SameKey h k l → by_key k l ≡ Equal
   ties_by_key k l a b e = ap (λ d. ordering_then (nat_cmp d l.digest) (compare_keys h k l)) (same_digest k l a b e)
       ∙ ap (λ o. ordering_then o (compare_keys h k l)) (tied_itself nat_cmp_total l.digest) ∙ tie_from_same k l e
+
+  -- ---- neighbours in order
+
+  not_less_from : (m n : ℕ) → n ≤ m → is_lt (nat_cmp m n) ≡ false
+  not_less_from m n l = by (nat_lt m n) (m == n) refl
+    where
+      by : (b c : Bool) → nat_lt m n ≡ b → is_lt (cond b Less (cond c Equal Greater)) ≡ false
+      by true c e = absurd (let z : m < n = grind (arith, nat_tests) in omega (arith, z, l))
+      by false true e = refl
+      by false false e = refl
+
+  greater_from : (m n : ℕ) → n < m → nat_cmp m n ≡ Greater
+  greater_from m n l = by (nat_lt m n) (m == n) refl refl
+    where
+      by : (b c : Bool) → nat_lt m n ≡ b → (m == n) ≡ c → cond b Less (cond c Equal Greater) ≡ Greater
+      by true c e f = absurd (let z : m < n = grind (arith, nat_tests) in omega (arith, z, l))
+      by false true e f = absurd (let z : m ≡ n = grind (arith, nat_tests) in omega (arith, z, l))
+      by false false e f = refl
+
+  -- two neighbours are in order that rise by their digests, or by their numbers where they have the same key
+  pub pair_in_order : (a b : Keyed) → IsKeyed h a → IsKeyed h b → (t : Bool) → (t ≡ true → SameKey h a b) → rises t a b ≡ true
+      → comes_first h b a ≡ false
+  unfolding order_in
+  pair_in_order a b ka kb true same e =
+      let t = both_tie (nat_cmp b.digest a.digest) (compare_keys h b a) (ties_by_key b a kb ka (sym (same refl))) in
+      ap (λ o. is_lt (ordering_then o (ordering_then (compare_keys h b a) (nat_cmp b.call a.call)))) t.0
+      ∙ ap (λ o. is_lt (ordering_then o (nat_cmp b.call a.call))) t.1
+      ∙ not_less_from b.call a.call (let z : a.call ≤ b.call = grind (arith, nat_tests) in z)
+  pair_in_order a b ka kb false same e =
+      ap (λ o. is_lt (ordering_then o (ordering_then (compare_keys h b a) (nat_cmp b.call a.call))))
+      (greater_from b.digest a.digest (let z : a.digest < b.digest = grind (arith, nat_tests) in z))
+
+  pub sorted_one : (keys : List Keyed) → IsSortedWithin (comes_first h) keys 0 1
+  sorted_one keys k d low l = absurd (omega arith)
+
+  pub sorted_fewer : (keys : List Keyed) (many few : ℕ) → few ≤ many → IsSortedWithin (comes_first h) keys 0 many
+      → IsSortedWithin (comes_first h) keys 0 few
+  sorted_fewer keys many few le s k d low l = s k d low (omega arith)
+
+  pub sorted_more : (keys : List Keyed) (i : ℕ) (a b : Keyed) → 1 ≤ i → slice_get keys (i - 1) ≡ Some a → slice_get keys i ≡ Some b
+      → IsSortedWithin (comes_first h) keys 0 i → comes_first h b a ≡ false → IsSortedWithin (comes_first h) keys 0 (i + 1)
+  sorted_more keys i a b first at next s e k d low l = elim (eqb_tells (k + 1) i) [
+    | inl q ↦
+        let here : get_or keys (k + 1) d ≡ b = ap (λ n. get_or keys n d) q.1 ∙ get_or_from_slice_get keys i b d next in
+        let before : k ≡ i - 1 = (let z = q.1 in omega (arith, z)) in
+        let lesser : get_or keys k d ≡ a = ap (λ n. get_or keys n d) before ∙ get_or_from_slice_get keys (i - 1) a d at in
+        subst (λ m. comes_first h m (get_or keys k d) ≡ false) (sym here) (subst (λ m. comes_first h b m ≡ false) (sym lesser) e)
+    | inr q ↦ s k d low (let z = q.1 in omega arith)
+  ]
+
+  pub keyed_of : (keys : List Keyed) → AreKeys h keys → (i : ℕ) (k : Keyed) → slice_get keys i ≡ Some k → IsKeyOf h k
+  keyed_of keys g i k e = subst (IsKeyOf h) (get_or_from_slice_get keys i k k e) (g.each i k (slice_get_within keys i k e))
 
   module _ (keys : List Keyed) (s : AreSorted h keys) where
     pub key_is : (i : ℕ) (k : Keyed) → slice_get keys i ≡ Some k → IsKeyOf h k

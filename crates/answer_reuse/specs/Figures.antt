@@ -1,6 +1,6 @@
 -- What calls are compared by, as figures: seven numbers that tell one value, touch or item from every other.
-use Rattle.std.specs.Prelude.{if◌then◌else◌, ◌+◌, ◌-◌, ◌∷◌, [], ℕ, ℤ, List, None, Option, Some, int_lt, pos}
-use Rattle.std.specs.Prelude.{unsigned_abs}
+use Rattle.std.specs.Prelude.{if◌then◌else◌, ◌+◌, ◌-◌, ◌∷◌, [], ℕ, ℤ, Bool, List, None, Option, Some, false, int_lt}
+use Rattle.std.specs.Prelude.{pos, true, unsigned_abs}
 use Rattle.cell_value.specs.declared.{entries.Touch.Touch, values.Value.Value}
 
 abbrev pub sign_of : ℤ → ℕ
@@ -36,3 +36,8 @@ touch_figure place (Touch.Give byte) = 8 ∷ byte ∷ 0 ∷ 0 ∷ 0 ∷ 0 ∷ 0 
 abbrev pub item_figure : Option ℕ → List ℕ
 item_figure (Some item) = 9 ∷ item ∷ 0 ∷ 0 ∷ 0 ∷ 0 ∷ 0 ∷ []
 item_figure None = 10 ∷ 0 ∷ 0 ∷ 0 ∷ 0 ∷ 0 ∷ 0 ∷ []
+
+-- whether a touch has the same figure wherever in the input a call began
+abbrev pub is_settled : Touch → Bool
+is_settled (Touch.Look at) = false
+is_settled t = true

@@ -3,7 +3,8 @@ use Rattle.std.specs.Prelude.{if◌then◌else◌, ◌<◌, ◌≡◌, ◌≤◌
 use Rattle.std.specs.Prelude.{slice_set, vec_len}
 use Rattle.program_run.specs.declared.history.History.{History}
 use Rattle.answer_book.specs.Numbers.{numbers_below}
-use Rattle.answer_reuse.specs.{Sorting.SameKey, declared.classes.Classes.TheInside.Inside, declared.keys.Keyed.Keyed}
+use Rattle.answer_reuse.specs.Sorting.{AreSorted, SameKey}
+use Rattle.answer_reuse.specs.declared.{classes.Classes.TheInside.Inside, keys.Keyed.Keyed}
 
 pub record IsKept (kept : Inside) : Type 0 where
   pub few : vec_len kept.least ≤ 500000
@@ -41,3 +42,9 @@ pub record AreJoined (h : History) (keys : List Keyed) (many : ℕ) (classes : L
 
 abbrev pub IsJoined : History → List Keyed → List ℕ → Type 0
 IsJoined h keys classes = AreJoined h keys (length keys) classes
+
+-- classes of the calls of a run that may be alike to others, put in order and joined
+pub record AreClassesOf (h : History) (classes : List ℕ) : Type 0 where
+  pub keys : List Keyed
+  pub sorted : AreSorted h keys
+  pub joined : IsJoined h keys classes

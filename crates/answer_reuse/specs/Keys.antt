@@ -85,8 +85,15 @@ compare_keys h one other = key_order (key_of h one) (key_of h other)
 abbrev pub mixed : (digest number : ℕ) → ℕ
 mixed digest number = (bit_xor (rotate_left w64 digest 5) number * 11400714819323198485) % 2 ^ 64
 
+-- a figure as one number
+abbrev pub folded : (number part : ℕ) → ℕ
+folded number part = bit_xor (rotate_left w64 number 34) part
+
+abbrev pub figure_number : List ℕ → ℕ
+figure_number figure = fold folded 0 figure
+
 abbrev pub mixed_figure : (digest : ℕ) → List ℕ → ℕ
-mixed_figure digest figure = fold mixed digest figure
+mixed_figure digest figure = mixed digest (figure_number figure)
 
 abbrev pub args_digest : (digest : ℕ) → List Value → ℕ
 args_digest digest args = fold (λ d arg. mixed_figure d (value_figure 0 0 arg)) digest args
@@ -101,8 +108,8 @@ touches_digest digest touches = fold if_figure digest touches
 -- the items have no part in it: where they differ, what is done mostly does
 abbrev pub digest_of : History → Keyed → ℕ
 digest_of h k =
-    touches_digest (args_digest (mixed_figure 0 (key_head k.row.now k.looked)) k.row.now.args)
-    (touches_key h.log k.row.now)
+    mixed_figure (args_digest (touches_digest 0 (touches_key h.log k.row.now)) k.row.now.args)
+    (key_head k.row.now k.looked)
 
 -- ---- the keys of the calls of a run
 

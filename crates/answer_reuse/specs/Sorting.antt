@@ -1,5 +1,5 @@
 -- The calls of a run that may be alike to others, as they are put in order to find classes.
-use Rattle.std.specs.Prelude.{◌<◌, ◌≡◌, ℕ, Bool, List, Some, length, slice_get}
+use Rattle.std.specs.Prelude.{◌<◌, ◌≡◌, ℕ, Bool, List, Some, false, length, nat_le, nat_lt, slice_get, true}
 use Rattle.std.specs.{List.All, List.Contains, List.Sorted.IsSortedBy, declared.cmp.Ordering.Ordering}
 use Rattle.std.specs.Ordering.{is_lt, nat_cmp, ordering_then}
 use Rattle.core_program.specs.Agree.{EndedByItself}
@@ -41,3 +41,9 @@ pub record AreSorted (h : History) (keys : List Keyed) : Type 0 where
 -- whether two calls have the same key
 abbrev pub SameKey : History → (one other : Keyed) → Type 0
 SameKey h one other = key_of h one ≡ key_of h other
+
+-- whether two neighbours are in order by the least that can be asked: by their numbers where they are of one class, by
+-- their digests where they are not
+abbrev pub rises : (is_same : Bool) → (one other : Keyed) → Bool
+rises true one other = nat_le one.call other.call
+rises false one other = nat_lt one.digest other.digest

@@ -1,30 +1,28 @@
 //! The calls of a run in classes of alike ones.
-ghost use Rattle.std.specs.Prelude.{if◌then◌else◌, ◌+◌, ◌<◌, ◌==◌, ◌↔◌, ◌≡◌, ◌≤◌, ℕ, All, IfOk, IsTrue, List, Some};
-ghost use Rattle.std.specs.Prelude.{length, slice_get, slice_index};
+ghost use Rattle.std.specs.Prelude.{if◌then◌else◌, ◌&&◌, ◌+◌, ◌<◌, ◌==◌, ◌↔◌, ◌≡◌, ◌≤◌, ℕ, All, IfOk, IfSome, IsTrue};
+ghost use Rattle.std.specs.Prelude.{List, Some, length, slice_get, slice_index};
 ghost use Rattle.core_program.specs.{Agree.EndedByItself, RunLaws.most_bytes};
 ghost use Rattle.core_program.specs.Run as meaning;
 ghost use Rattle.call_tree.specs.Told.{IsTold};
 ghost use Rattle.program_run.specs.History.{IsOfRun};
 ghost use Rattle.body_replay.specs.Replays.{records_of};
-ghost use Rattle.answer_reuse.specs.{Alike.DidTheSame, Kept.IsJoined, Kept.each_itself, Kept.joined_one};
+ghost use Rattle.answer_reuse.specs.{Alike.DidTheSame, Keys.IsKeyed};
 ghost use Rattle.answer_reuse.specs.Classes.{AreClasses, IsAlone, IsClassed, class_size, next_in, rows_between};
-ghost use Rattle.answer_reuse.specs.Sorting.{AreKeys, AreKeysTo, AreSorted, SameKey, order_in, tied_order};
+ghost use Rattle.answer_reuse.specs.Kept.{AreClassesOf, IsJoined, each_itself, joined_one};
+ghost use Rattle.answer_reuse.specs.Sorting.{AreKeys, AreKeysTo, AreSorted, SameKey, order_in, rises, tied_order};
 
 use crate::faults::ClassFault;
 use crate::keys::{Keyed, compare_keys, keyed_call, touches_made};
 use crate::laws::alike_calls_did_the_same;
 use body_replay::calls_carry_to_themselves;
 use call_tree::{Call, Calls};
-use cell_value::{Memory, WayOut};
+use cell_value::{MOST_TOUCHES, Memory, WayOut};
 use core_program::{Program, numbers_tell_the_tree};
 use program_run::History;
 use std::alloc::Global;
 use std::cmp::Ordering;
 use std::marker::Model;
 use std::mem::size_of;
-
-/// The most entries of the log that the calls to be compared may have between them.
-const MOST_TOUCHES: u64 = 50_000_000;
 
 /// The calls of a run in classes of alike ones. Clauses see the least call that is alike to each.
 #[derive(Drop)]
@@ -118,15 +116,23 @@ fn compare(run: &History, one: &Keyed<'_>, other: &Keyed<'_>) -> Ordering
     }
 }
 
-/// The calls of a run that may be alike to others, those of one class next to each other and rising.
-fn sorted_calls<'a>(alloc: Global, run: &'a History) -> Result<Vec<Keyed<'a>>, Memory>
+/// The calls of a run that may be alike to others. Where no two digests are the same by chance, those of one class
+/// stand next to each other and rise.
+fn calls_by_digest<'a>(alloc: Global, run: &'a History) -> Result<Vec<Keyed<'a>>, Memory>
     requires told { All (IsTold run.now.log run.now.input) run.now.calls.calls }
-    ensures { IfOk result (λ keys. AreSorted run.now keys.items) }
+    ensures { IfOk result (λ keys. AreKeys run.now keys.items) }
 {
     let mut keys = keyed_calls(alloc, run)?;
-    // Where no two digests agree by chance the calls are in order after this, and then each key is compared with the
-    // next one alone.
     keys.sort_by_key(|key| key.digest)?;
+    Ok(keys)
+}
+
+/// The same calls, those of one class next to each other and rising.
+fn sorted_calls<'a>(run: &History, keys: Vec<Keyed<'a>>) -> Result<Vec<Keyed<'a>>, Memory>
+    requires keys { AreKeys run.now keys.items }
+    ensures { IfOk result (λ keys. AreSorted run.now keys.items) }
+{
+    let mut keys = keys;
     keys.sort_by(|one, other| compare(run, one, other))?;
     Ok(keys)
 }
@@ -136,6 +142,31 @@ fn have_same_key(run: &History, one: &Keyed<'_>, other: &Keyed<'_>) -> bool
     ensures { IsTrue result ↔ SameKey run.now one.now other.now }
 {
     compare_keys(run, one, other).is_eq()
+}
+
+/// The same, by their digests first: these are soon compared.
+fn are_tied(run: &History, one: &Keyed<'_>, other: &Keyed<'_>) -> bool
+    requires one { IsKeyed run.now one.now }
+    requires other { IsKeyed run.now other.now }
+    ensures { IsTrue result ↔ SameKey run.now one.now other.now }
+{
+    if one.digest == other.digest {
+        have_same_key(run, one, other)
+    } else {
+        false
+    }
+}
+
+/// Whether two neighbours are in order, as are those before them: by their numbers where they have the same key, by
+/// their digests where they do not.
+fn still_rise(so_far: bool, is_same: bool, one: &Keyed<'_>, other: &Keyed<'_>) -> bool
+    ensures { result ≡ (so_far && rises is_same one.now other.now) }
+{
+    if is_same {
+        so_far && one.call <= other.call
+    } else {
+        so_far && one.digest < other.digest
+    }
 }
 
 /// One of these calls.
@@ -180,25 +211,70 @@ impl Classes {
         }
     }
 
-    /// Puts calls that stand next to each other and have the same key into one class.
-    fn join(&mut self, run: &History, keys: &[Keyed<'_>])
+    /// Puts calls that stand next to each other and have the same key into one class. Whether it saw that they are in
+    /// order: else two digests are the same by chance.
+    fn join(&mut self, run: &History, keys: &[Keyed<'_>]) -> bool
         requires calls { self.old ≡ each_itself (length run.now.calls.calls) }
-        requires sorted { AreSorted run.now keys.now }
-        ensures { IsJoined run.now keys.now self.new }
+        requires keys { AreKeys run.now keys.now }
+        ensures joined { AreSorted run.now keys.now → IsJoined run.now keys.now self.new }
+        ensures sorted { IsTrue result → AreSorted run.now keys.now }
     {
+        let mut rise = true;
         'keys: for i in 1..keys.len() {
             let lesser = key_at(keys, i - 1);
             let here = key_at(keys, i);
-            let is_same = have_same_key(run, lesser, here);
+            let is_same = are_tied(run, lesser, here);
+            rise = still_rise(rise, is_same, lesser, here);
             self.join_one(is_same, lesser.call, here.call);
+        }
+        rise
+    }
+
+    /// The classes of calls, if these are seen to be in order.
+    fn of_risen(alloc: Global, run: &History, keys: &[Keyed<'_>]) -> Result<Option<Classes>, Memory>
+        requires few { length run.now.calls.calls ≤ 500000 }
+        requires keys { AreKeys run.now keys.now }
+        ensures { IfOk result (λ found. IfSome found (AreClassesOf run.now)) }
+    {
+        let mut classes = Classes::apart(alloc, run.calls.len())?;
+        if classes.join(run, keys) {
+            Ok(Some(classes))
+        } else {
+            Ok(None)
+        }
+    }
+
+    /// The classes of calls that are put in order first.
+    fn of_unordered(alloc: Global, run: &History, keys: Vec<Keyed<'_>>) -> Result<Classes, Memory>
+        requires few { length run.now.calls.calls ≤ 500000 }
+        requires keys { AreKeys run.now keys.items }
+        ensures { IfOk result (AreClassesOf run.now) }
+    {
+        let keys = sorted_calls(run, keys)?;
+        let mut classes = Classes::apart(alloc, run.calls.len())?;
+        let _rise = classes.join(run, &keys);
+        Ok(classes)
+    }
+
+    /// The classes of the calls of a run. The calls are put in order by their digests, and by all that they are
+    /// compared by only where two digests are the same by chance.
+    fn of_calls(alloc: Global, run: &History) -> Result<Classes, Memory>
+        requires told { All (IsTold run.now.log run.now.input) run.now.calls.calls }
+        requires few { length run.now.calls.calls ≤ 500000 }
+        ensures { IfOk result (AreClassesOf run.now) }
+    {
+        let keys = calls_by_digest(alloc, run)?;
+        match Classes::of_risen(alloc, run, &keys)? {
+            Some(classes) => Ok(classes),
+            None => Classes::of_unordered(alloc, run, keys),
         }
     }
 
     /// The classes of the calls of a run: that of the program with an input of at most 4,194,304 bytes and a budget of
     /// at most 4,000,000 steps. `TooMany` where the calls have more than 50,000,000 entries of the log between them,
-    /// each with those of the calls below it. It makes no effect: it goes over the entries of a call twice for its
-    /// digest, and to compare it with calls that begin alike it goes over them at most four times more where no two
-    /// digests are the same by chance.
+    /// each with those of the calls below it. It makes no effect: it goes over the entries of a call once for its
+    /// digest, and at most twice more to compare it with a call before it and one after it, where no two digests are
+    /// the same by chance.
     /// It takes at most 48 bytes a call, of which it keeps 4.
     pub fn new(alloc: Global, program: &Program, run: &History) -> Result<Classes, ClassFault>
         requires run { (input : List ℕ) × (length input ≤ most_bytes)
@@ -228,9 +304,7 @@ impl Classes {
         if touches > MOST_TOUCHES {
             return Err(ClassFault::TooMany(touches));
         }
-        let keys = sorted_calls(alloc, run)?;
-        let mut classes = Classes::apart(alloc, run.calls.len())?;
-        classes.join(run, &keys);
+        let classes = Classes::of_calls(alloc, run)?;
         Ok(classes)
     }
 

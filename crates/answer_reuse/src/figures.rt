@@ -1,6 +1,6 @@
 //! What calls are compared by, as figures: seven numbers that tell one value, touch or item from every other.
 ghost use Rattle.std.specs.Prelude.{◌≡◌};
-ghost use Rattle.answer_reuse.specs.Figures.{item_figure, touch_figure, value_figure, value_numbers};
+ghost use Rattle.answer_reuse.specs.Figures.{is_settled, item_figure, touch_figure, value_figure, value_numbers};
 
 use cell_value::{Touch, Value};
 
@@ -60,6 +60,16 @@ pub(crate) fn touch_figure(place: u32, touch: Touch) -> Figure
         }
         Touch::Take(items) => [7, u64::from(items), 0, 0, 0, 0, 0],
         Touch::Give(byte) => [8, u64::from(byte), 0, 0, 0, 0, 0],
+    }
+}
+
+/// Whether a touch has the same figure wherever in the input a call began, as all but looks have.
+pub(crate) fn is_settled(touch: Touch) -> bool
+    ensures { result ≡ is_settled touch }
+{
+    match touch {
+        Touch::Look(_) => false,
+        _ => true,
     }
 }
 

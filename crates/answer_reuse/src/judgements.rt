@@ -8,12 +8,9 @@ ghost use Rattle.answer_reuse.specs.Shared.{search_with_each, search_with_one, s
 ghost use Rattle.answer_reuse.specs.Shared.{shared_steps, standing_alike, standing_of, take_back_alike_answer};
 
 use crate::classes::Classes;
-use answer_book::{BookFault, Entry, Judgement, What};
+use answer_book::{BookFault, Entry, Judgement, MOST_ENTRIES, What};
 use cell_value::Steps;
 use optimal_query::Debug;
-
-/// The most entries that a book has.
-const MOST_ENTRIES: u32 = 100_000;
 
 /// Judges a call if it is one of those to be judged.
 fn judge_if<L>(

@@ -1,13 +1,14 @@
 //! What a call is compared by.
-ghost use Rattle.std.specs.Prelude.{◌+◌, ◌<◌, ◌≡◌, ℕ, List, length, slice_get};
+ghost use Rattle.std.specs.Prelude.{◌+◌, ◌<◌, ◌≡◌, ℕ, List, length, nat_lt, option_map, slice_get, true};
+ghost use Rattle.std.specs.{Cmp.Lexicographic.slice_cmp, Option.option_cmp, Ordering.nat_cmp};
 ghost use Rattle.cell_value.specs.Effects.{IsCountable, looked_by, looked_of};
 ghost use Rattle.call_tree.specs.Told.{IsTold, part_of};
-ghost use Rattle.answer_reuse.specs.Keys.{IsKeyed, args_digest, args_key, compare_keys, contents_order, if_figure};
-ghost use Rattle.answer_reuse.specs.Keys.{item_key, items_key, key_head, key_of, lists_order, mixed, mixed_figure};
-ghost use Rattle.answer_reuse.specs.Keys.{touch_key, touches_digest, touches_key, touches_made, touches_order};
-ghost use Rattle.answer_reuse.specs.Keys.{work_order};
+ghost use Rattle.answer_reuse.specs.{Figures.touch_figure, Keys.touches_order, Keys.work_order};
+ghost use Rattle.answer_reuse.specs.Keys.{IsKeyed, args_digest, args_key, compare_keys, contents_order, figure_number};
+ghost use Rattle.answer_reuse.specs.Keys.{folded, item_key, items_key, key_head, key_of, lists_order, mixed};
+ghost use Rattle.answer_reuse.specs.Keys.{mixed_figure, touch_key, touches_digest, touches_key, touches_made};
 
-use crate::figures::{Figure, item_figure, touch_figure, value_figure};
+use crate::figures::{Figure, is_settled, item_figure, touch_figure, value_figure};
 use call_tree::Call;
 use cell_value::{Items, Touch, Value};
 use effect_log::Log;
@@ -34,12 +35,19 @@ pub(crate) fn touches_made(row: &Call) -> u32
     row.exit.mark.saturating_sub(row.entry.mark)
 }
 
+/// Whether a list of this length goes on so far from a place.
+fn is_inside(len: u32, from: u32, by: u32) -> bool
+    ensures { result ≡ nat_lt (from + by) len }
+{
+    from < len && by < len - from
+}
+
 /// The entry that stands so far from a place of the log, if there is one.
+#[inline(always)]
 fn touch_at(log: &Log, from: u32, by: u32) -> Option<Touch>
     ensures { result ≡ slice_get log.now (from + by) }
 {
-    let len = log.len();
-    if from < len && by < len - from {
+    if is_inside(log.len(), from, by) {
         Some(log.at(from + by))
     } else {
         None
@@ -69,16 +77,22 @@ fn looked_by(place: u32, touch: Touch) -> u32
     }
 }
 
-/// How many items of the input a call looked at, from where it found it to the furthest one; the end counts as one.
-fn looked_at(log: &Log, row: &Call) -> u32
+/// A digest of what a call did, and how many items of the input it looked at, from where it found it to the furthest
+/// one; the end counts as one.
+fn pass_over(log: &Log, row: &Call) -> (u64, u32)
     requires told { (items : List ℕ) × IsTold log.now items row.now }
-    ensures { result ≡ looked_of row.now.entry.place (part_of log.now row.now) }
+    ensures digest { result.0 ≡ touches_digest 0 (touches_key log.now row.now) }
+    ensures looked { result.1 ≡ looked_of row.now.entry.place (part_of log.now row.now) }
 {
+    let place = row.entry.place;
+    let mut digest = 0;
     let mut looked: u32 = 0;
     'touches: for i in row.entry.mark..row.exit.mark {
-        looked = looked.max(looked_by(row.entry.place, log.at(i)));
+        let touch = log.at(i);
+        digest = mixed_figure(digest, touch_figure(place, touch));
+        looked = looked.max(looked_by(place, touch));
     }
-    looked
+    (digest, looked)
 }
 
 /// What a call is compared by first: its routine, where its frame begins, where it made cells of the heap, or 0 if it
@@ -109,13 +123,27 @@ fn mixed(digest: u64, number: u64) -> u64
     (digest.rotate_left(5) ^ number).wrapping_mul(0x9e37_79b9_7f4a_7c15)
 }
 
+/// A number with one more number folded into it.
+fn folded(number: u64, part: u64) -> u64
+    ensures { result ≡ folded number part }
+{
+    number.rotate_left(34) ^ part
+}
+
+/// A figure as one number: different figures may have the same.
+fn figure_number(figure: Figure) -> u64
+    ensures { result ≡ figure_number figure }
+{
+    let [act, addr, kind, first, second, third, fourth] = figure;
+    let number = folded(folded(folded(0, act), addr), kind);
+    folded(folded(folded(folded(number, first), second), third), fourth)
+}
+
 /// A digest with one more figure.
 fn mixed_figure(digest: u64, figure: Figure) -> u64
     ensures { result ≡ mixed_figure digest figure }
 {
-    let [act, addr, kind, first, second, third, fourth] = figure;
-    let digest = mixed(mixed(mixed(digest, act), addr), kind);
-    mixed(mixed(mixed(mixed(digest, first), second), third), fourth)
+    mixed(digest, figure_number(figure))
 }
 
 /// A digest with the args of a call.
@@ -139,39 +167,17 @@ fn touch_key(log: &Log, row: &Call, i: u32) -> Option<Figure>
     }
 }
 
-/// A digest with the figure of a touch, if there is one.
-fn with_figure(digest: u64, figure: Option<Figure>) -> u64
-    ensures { result ≡ if_figure digest figure }
-{
-    match figure {
-        Some(figure) => mixed_figure(digest, figure),
-        None => digest,
-    }
-}
-
-/// A digest with what a call did.
-fn with_touches(digest: u64, log: &Log, row: &Call) -> u64
-    ensures { result ≡ touches_digest digest (touches_key log.now row.now) }
-{
-    let mut digest = digest;
-    'touches: for i in 0..touches_made(row) {
-        digest = with_figure(digest, touch_key(log, row, i));
-    }
-    digest
-}
-
-/// A call of a run, by its number and row, to be compared with others. It goes over the call's part of the log twice.
+/// A call of a run, by its number and row, to be compared with others. It goes over the call's part of the log once.
 pub(crate) fn keyed_call<'a>(run: &'a History, call: u32, row: &'a Call) -> Keyed<'a>
     requires told { IsTold run.now.log run.now.input row.now }
     ensures keyed { IsKeyed run.now result }
     ensures call { result.call ≡ call }
     ensures row { result.row.now ≡ row.now }
 {
-    let looked = looked_at(&run.log, row);
-    let head = mixed_figure(0, head_of(row, looked));
-    let args = with_args(head, row.args.as_slice());
+    let (touches, looked) = pass_over(&run.log, row);
+    let work = with_args(touches, row.args.as_slice());
     Keyed {
-        digest: with_touches(args, &run.log, row),
+        digest: mixed_figure(work, head_of(row, looked)),
         row,
         call,
         looked,
@@ -192,13 +198,72 @@ fn compare_args(args: &[Value], others: &[Value]) -> Ordering
     Ordering::Equal
 }
 
+/// Whether the touch at a place of the log has the same figure for calls that began at these two places of the input.
+fn is_figure_same(log: &Log, i: u32, place: u32, other: u32) -> bool
+    requires { i < length log.now }
+    ensures { result ≡ true → option_map (touch_figure place) (slice_get log.now i)
+        ≡ option_map (touch_figure other) (slice_get log.now i) }
+{
+    if place == other {
+        true
+    } else {
+        is_settled(log.at(i))
+    }
+}
+
+/// Whether the touches at two places of the log are seen by their entries to have the same figure for calls that began
+/// at these places of the input.
+fn have_same_entry(log: &Log, one: u32, other: u32, place: u32, other_place: u32) -> bool
+    requires one { one < length log.now }
+    requires other { other < length log.now }
+    ensures { result ≡ true → option_map (touch_figure place) (slice_get log.now one)
+        ≡ option_map (touch_figure other_place) (slice_get log.now other) }
+{
+    if log.is_same_entry(one, other) {
+        is_figure_same(log, one, place, other_place)
+    } else {
+        false
+    }
+}
+
+/// Whether the touches of two calls at this place among them are seen to be the same by their entries in the log.
+fn is_same_at(log: &Log, row: &Call, other: &Call, i: u32) -> bool
+    ensures { result ≡ true → touch_key log.now row.now i ≡ touch_key log.now other.now i }
+{
+    let len = log.len();
+    let (from, other_from) = (&row.entry, &other.entry);
+    if is_inside(len, from.mark, i) && is_inside(len, other_from.mark, i) {
+        have_same_entry(
+            log,
+            from.mark + i,
+            other_from.mark + i,
+            from.place,
+            other_from.place,
+        )
+    } else {
+        false
+    }
+}
+
+/// Which of two calls comes first, by a touch of each at this place among them: figures are made only where they are
+/// not seen to be the same.
+fn compare_touch(log: &Log, row: &Call, other: &Call, i: u32) -> Ordering
+    ensures { result ≡ option_cmp (slice_cmp nat_cmp) (touch_key log.now row.now i) (touch_key log.now other.now i) }
+{
+    if is_same_at(log, row, other, i) {
+        Ordering::Equal
+    } else {
+        touch_key(log, row, i).cmp(&touch_key(log, other, i))
+    }
+}
+
 /// Which of two calls that made equally many touches comes first, by these.
 fn compare_touches(log: &Log, row: &Call, other: &Call) -> Ordering
     requires { touches_made row.now ≡ touches_made other.now }
     ensures { result ≡ touches_order (touches_key log.now row.now) (touches_key log.now other.now) }
 {
     'touches: for i in 0..touches_made(row) {
-        match touch_key(log, row, i).cmp(&touch_key(log, other, i)) {
+        match compare_touch(log, row, other, i) {
             Ordering::Equal => {}
             apart => return apart,
         }

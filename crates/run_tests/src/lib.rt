@@ -1,9 +1,11 @@
 //! Tests of what a run is made of and kept in: lists of values, the store, the log and its effects, the calls, a
-//! machine and a body; and of whole runs, with their calls done again and outputs sliced.
+//! machine and a body; and of whole runs, with their calls done again, outputs sliced, and alike calls in classes.
 #![tactic(auto)]
 
 #[cfg(test)]
 mod actions;
+#[cfg(test)]
+mod classes;
 #[cfg(test)]
 mod log;
 #[cfg(test)]

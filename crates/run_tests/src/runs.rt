@@ -148,7 +148,7 @@ pub fn program_of(alloc: Global, source: &str) -> Result<Program, Fail> {
 }
 
 /// The run of a program.
-fn history_of(alloc: Global, program: &Program, input: &[u8]) -> Result<History, Memory>
+pub fn history_of(alloc: Global, program: &Program, input: &[u8]) -> Result<History, Memory>
     requires short { length input.now ≤ most_bytes }
     ensures ran { IfOk result (λ h. (input : List ℕ) × (length input ≤ most_bytes)
         × IsOfRun program.now input h.budget h) }

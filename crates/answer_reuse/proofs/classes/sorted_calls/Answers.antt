@@ -5,9 +5,7 @@ use Rattle.answer_reuse.proofs.classes.sorted_calls.Goals as goal
 pub returns : goal.returns
 returns c =
     let run = c.args.run.now in
-    let many = length run.calls.calls in
     record {
-      keys' = keys_permuted run many _ _ c.in_ok-sort_by.ensures.permutation
-          (keys_permuted run many _ _ c.in_ok-sort_by_key.ensures.permutation c.in_ok-keys.ensures);
+      keys' = keys_permuted run (length run.calls.calls) _ _ c.in_ok-sort_by.ensures.permutation c.requires.keys;
       sorted = sorted_by_order run _ c.in_ok-sort_by.ensures.sorted (λ a r f k. search rules);
     }
