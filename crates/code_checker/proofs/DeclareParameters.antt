@@ -1,6 +1,6 @@
 -- What the steps of `Rattle.decl_checker.specs.Parameters` keep.
 use Rattle.std.proofs.Common.{◌<◌, ℕ, None, Option, Some, false, is_some, refl}
-use Rattle.pas_tree.specs.{Blocks.parameters_node, declared.blocks.Parameters.Parameters}
+use Rattle.pas_tree.specs.{BlockTrees.ParametersTree, TreeNodes.parameters_node}
 use Rattle.core_program.specs.declared.rows.{NameRow.NameRow, Row.Row, TextFile.TextFile}
 use Rattle.check_steps.specs.declared.regions.Def.{Def}
 use Rattle.decl_checker.specs.Parameters.{define_file, program_parameter, program_parameters, text_file_named}
@@ -19,7 +19,7 @@ unfolding program_parameter
 program_parameter-holds region u token token-in = bind-holds (look-holds (λ k. text_file_named k token)) (λ file.
     bind-holds (early-holds 34 token (is_some file) refl token-in) (λ _. define_file-holds region token file token-in))
 
-pub program_parameters-holds : {size : ℕ} (region : ℕ) (parameters : Option Parameters) → Within size (parameters_node parameters)
+pub program_parameters-holds : {size : ℕ} (region : ℕ) (parameters : Option ParametersTree) → Within size (parameters_node parameters)
     → Holds size false (program_parameters region parameters)
 program_parameters-holds region None parameters-in = give-holds tt
 program_parameters-holds region (Some p) parameters-in = each_name-holds (program_parameter region) tt p.names (λ a x h.

@@ -1,8 +1,8 @@
 -- What the steps of `Rattle.denoter_checker.specs.Variants` keep.
 use Rattle.std.proofs.Common.{if◌then◌else◌, ◌+◌, ◌-◌, ◌<◌, ℕ, ℤ, Bool, None, Option, Some, false, refl}
-use Rattle.pas_tree.specs.{DenoterPlaces.first_of_constant, Denoters.tag_rest_node}
-use Rattle.pas_tree.specs.Constants.{constant_node, constants_node, next_constant_node}
-use Rattle.pas_tree.specs.declared.{constants.Constant.Constant, constants.Constants.Constants, constants.NextConstant.NextConstant, denoters.TagField.TagField}
+use Rattle.pas_tree.specs.{ConstantTrees.ConstantsTree, DenoterPlaces.first_of_constant, Denoters.tag_rest_node, TreeNodes.constants_node}
+use Rattle.pas_tree.specs.Constants.{constant_node, next_constant_node}
+use Rattle.pas_tree.specs.declared.{constants.Constant.Constant, constants.NextConstant.NextConstant, denoters.TagField.TagField}
 use Rattle.core_program.specs.declared.rows.{ItemRow.ItemRow, NameRow.NameRow, PartRow.PartRow, Row.Row}
 use Rattle.kind_checker.specs.Sizes.{capped, host_of}
 use Rattle.denoter_checker.specs.Variants.{add_choice, arm_choices, case_constant, choices, chosen_value, constants_uses, hidden_tag, is_choice, listed_choice}
@@ -35,10 +35,10 @@ pub next_constant-holds : {size : ℕ} (frame : ℕ) (u : Unit {0}) (n : NextCon
 unfolding next_constant
 next_constant-holds frame u n n-in = bind-holds (constant-holds frame n.constant n-in.1) (λ _. give-holds tt)
 
-pub constants_uses-holds : {size : ℕ} (frame : ℕ) (c : Constants) → Within size (constants_node c) → Holds size false (constants_uses frame c)
+pub constants_uses-holds : {size : ℕ} (frame : ℕ) (c : ConstantsTree) → Within size (constants_node c) → Holds size false (constants_uses frame c)
 unfolding constants_uses
 constants_uses-holds frame c c-in = bind-holds (constant-holds frame c.first c-in.0) (λ _. each-holds (next_constant frame) next_constant_node (λ a x h.
-    next_constant-holds frame a x h) tt c.others.items c-in.1)
+    next_constant-holds frame a x h) tt c.others c-in.1)
 
 pub add_choice-holds : {size : ℕ} {later : Bool} (value : ℤ) (chosen : ℕ) (last : ℕ) (slot : ℕ) → Holds size later (add_choice value chosen last slot)
 unfolding add_choice
@@ -66,13 +66,13 @@ pub next_choice-holds : {size : ℕ} {later : Bool} (c : Choosing) (chosen : ℕ
 unfolding next_choice
 next_choice-holds c chosen last n n-in = case_constant-holds c chosen last n.comma n.constant n-in.1
 
-pub choices-holds : {size : ℕ} {later : Bool} (c : Choosing) (chosen : ℕ) (last : ℕ) (slot : ℕ) (xs : Constants) → Within size (constants_node xs)
+pub choices-holds : {size : ℕ} {later : Bool} (c : Choosing) (chosen : ℕ) (last : ℕ) (slot : ℕ) (xs : ConstantsTree) → Within size (constants_node xs)
     → Holds size later (choices c chosen last slot xs)
 unfolding choices
 choices-holds c chosen last slot xs xs-in = bind-holds (case_constant-holds c chosen last slot xs.first xs-in.0) (λ next.
-    each-holds (next_choice c chosen) next_constant_node (λ a x h. next_choice-holds c chosen a x h) next xs.others.items xs-in.1)
+    each-holds (next_choice c chosen) next_constant_node (λ a x h. next_choice-holds c chosen a x h) next xs.others xs-in.1)
 
-pub arm_choices-holds : {size : ℕ} (c : Choosing) (l : Listed) (slot : ℕ) (open' : ℕ) (constants : Constants) → Within size (constants_node constants)
+pub arm_choices-holds : {size : ℕ} (c : Choosing) (l : Listed) (slot : ℕ) (open' : ℕ) (constants : ConstantsTree) → Within size (constants_node constants)
     → Holds size false (arm_choices c l slot open' constants)
 unfolding arm_choices
 arm_choices-holds c l slot open' constants constants-in = bind-holds (put-holds open' (Row.Part (PartRow.Variant l.variants (one_more l.position)))) (λ _.

@@ -1,6 +1,5 @@
 -- What the steps of `Rattle.expression_checker.specs.Members` keep.
 use Rattle.std.proofs.Common.{◌&&◌, ◌<◌, ℕ, Bool, refl}
-use Rattle.grammar.specs.Nodes.{row}
 use Rattle.core_program.specs.declared.rows.{ExpressionRow.ExpressionRow, ItemRow.ItemRow, Row.Row}
 use Rattle.kind_checker.specs.Shapes.{shape_of}
 use Rattle.expression_checker.specs.Members.{fits_members, gathered_type, gathered_with, host_with, member_range, one_member, set_constructor}

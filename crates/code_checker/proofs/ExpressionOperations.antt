@@ -1,6 +1,5 @@
 -- What the steps of `Rattle.expression_checker.specs.Operations` keep.
 use Rattle.std.proofs.Common.{if◌then◌else◌, ◌<◌, ℕ, Bool, None, Option, Some, refl}
-use Rattle.grammar.specs.Nodes.{row}
 use Rattle.pas_tree.specs.{OperatorPlaces.sign_token, Operators.sign_leaf, Operators.sign_node, declared.operators.Sign.Sign}
 use Rattle.core_program.specs.declared.rows.{ExpressionRow.ExpressionRow, Row.Row}
 use Rattle.kind_checker.specs.{Shapes.shape_of, declared.operators.Operator.Operator}

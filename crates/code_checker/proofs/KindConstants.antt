@@ -7,7 +7,7 @@ use Rattle.core_program.specs.ProgramRows.{text_at}
 use Rattle.check_steps.specs.{Known.spelled_at, declared.regions.Def.Def}
 use Rattle.kind_checker.specs.Constants.{constant, constant_again, constant_part, define_constant, integer_in, is_constant, is_integer, named_again}
 use Rattle.kind_checker.specs.Constants.{named_constant, sign_again, sign_before, signed, signed_again, signed_value, text_value, value_of, value_row}
-use Rattle.kind_checker.specs.declared.constants.ConstantValue.{ConstantValue, TheVariants.Text}
+use Rattle.kind_checker.specs.declared.constants.ConstantValue.{ConstantValue}
 use Rattle.code_checker.proofs.{TokenPlaces.sign_token-in, TokenPlaces.signed-in, Within.Within}
 use Rattle.code_checker.proofs.CheckNames.{define_in-holds, use_again-holds, use_at-holds}
 use Rattle.code_checker.proofs.Steps.{Holds, bind-holds, early-holds, give-holds, late-holds, look-holds, put-holds}

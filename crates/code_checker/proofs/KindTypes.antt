@@ -1,12 +1,11 @@
 -- What the steps of `Rattle.kind_checker.specs.Types` keep.
 use Rattle.std.proofs.Common.{if◌then◌else◌, ◌<◌, ℕ, ℤ, Bool, Option, false, negsuc, pos, refl}
-use Rattle.pas_tree.specs.{Denoters.enumeration_node, declared.denoters.Enumeration.Enumeration}
+use Rattle.pas_tree.specs.{DenoterTrees.EnumerationTree, TreeNodes.enumeration_node}
 use Rattle.core_program.specs.declared.rows.{NameRow.NameRow, Row.Row, TypeRow.TypeRow}
 use Rattle.check_steps.specs.Known.{type_at}
-use Rattle.kind_checker.specs.Sizes.{is_ordinal, is_within_bytes}
+use Rattle.kind_checker.specs.{Sizes.is_ordinal, Sizes.is_within_bytes, declared.constants.ConstantValue.ConstantValue, declared.types.Scope.Scope}
 use Rattle.kind_checker.specs.Types.{base_type, domain_named, enumerated, enumeration, is_range, is_type_name, looked_up_as, named_type, ordinal, pointer_type}
 use Rattle.kind_checker.specs.Types.{range_row, set_type, subrange, successor, type_of}
-use Rattle.kind_checker.specs.declared.{constants.ConstantValue.ConstantValue, constants.ConstantValue.TheVariants.Ordinal, types.Scope.Scope}
 use Rattle.code_checker.proofs.{CheckNames.use_at-holds, KindNames.each_name-holds, Within.Within}
 use Rattle.code_checker.proofs.Steps.{Holds, bind-holds, early-holds, give-holds, late-holds, look-holds, put-holds}
 
@@ -25,10 +24,10 @@ pub enumerated-holds : {size : ℕ} {later : Bool} (of' : ℕ) (last : ℤ) (nam
 unfolding enumerated
 enumerated-holds of' last name = bind-holds (put-holds name (Row.Name (NameRow.Constant of' (successor last)))) (λ _. give-holds (successor last))
 
-pub enumeration-holds : {size : ℕ} {later : Bool} (e : Enumeration) → Within size (enumeration_node e) → Holds size later (enumeration e)
+pub enumeration-holds : {size : ℕ} {later : Bool} (e : EnumerationTree) → Within size (enumeration_node e) → Holds size later (enumeration e)
 unfolding enumeration
-enumeration-holds e e-in = bind-holds (each_name-holds (enumerated e.«open») (negsuc 0) e.names (λ a x h. enumerated-holds e.«open» a x) e-in.1.0)
-    (λ greatest. bind-holds (put-holds e.«open» (Row.Type (TypeRow.Ordinal (pos 0) greatest))) (λ _. give-holds e.«open»))
+enumeration-holds e e-in = bind-holds (each_name-holds (enumerated e.left) (negsuc 0) e.names (λ a x h. enumerated-holds e.left a x) e-in.1.0)
+    (λ greatest. bind-holds (put-holds e.left (Row.Type (TypeRow.Ordinal (pos 0) greatest))) (λ _. give-holds e.left))
 
 pub pointer_type-holds : {size : ℕ} (s : Scope) (caret : ℕ) (name : ℕ) → name < size → Holds size false (pointer_type s caret name)
 unfolding pointer_type

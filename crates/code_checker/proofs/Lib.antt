@@ -4,7 +4,6 @@ pub mod CheckRequired
 pub mod CodeBlocks
 pub mod CodePrograms
 pub mod CodeResults
-pub mod CodeRolls
 pub mod DeclarationsAmong
 pub mod DeclareAccesses
 pub mod DeclareBlocks
@@ -34,8 +33,10 @@ pub mod KindConstants
 pub mod KindNames
 pub mod KindTypes
 pub mod Nodes
+pub mod OneText
 pub mod Parts
 pub mod ProgramOfATree
+pub mod Refusals
 pub mod Standing
 pub mod StatementActuals
 pub mod StatementAssignments
@@ -55,5 +56,6 @@ pub mod Steps
 pub mod TokenPlaces
 pub mod Told
 pub mod TooBigLast
+pub mod Walks
 pub mod WhatComesOfATree
 pub mod Within

@@ -1,14 +1,15 @@
 -- What the steps of `Rattle.statement_checker.specs.Labels` keep.
 use Rattle.std.proofs.Common.{◌+◌, ◌-◌, ◌<◌, ℕ, Bool, None, Option, Some, min, nat_lt, refl}
-use Rattle.pas_tree.specs.Statements.{label_node, next_statement_node, statements_node}
-use Rattle.pas_tree.specs.declared.statements.{Label.Label, NextStatement.NextStatement, Statements.Statements, Statements.out-Statements}
+use Rattle.pas_tree.specs.{StatementTrees.StatementTree, StatementTrees.StatementTrees, StatementTrees.StatementsTree, Statements.label_node}
+use Rattle.pas_tree.specs.{TreeNodes.more_statements_node, TreeNodes.statement_node, TreeNodes.statements_node, declared.statements.Label.Label}
+use Rattle.pas_tree.specs.StatementTrees as tree
 use Rattle.core_program.specs.declared.rows.{Row.Row, StatementRow.StatementRow}
 use Rattle.check_steps.specs.{Known.label_at, Steps.Step}
 use Rattle.statement_checker.specs.Labels.{each_label, is_unmarked, jump, label_of, labelled, leave, leave_all, levels_in, mark, marked_label, on_label}
-use Rattle.statement_checker.specs.Labels.{on_next, own_label, put_label, reach_all, reach_label, row_of, ways_in, with_ways}
+use Rattle.statement_checker.specs.Labels.{on_others, on_statement, own_label, put_label, reach_all, reach_label, row_of, ways_in, with_ways}
 use Rattle.statement_checker.specs.Sequences.{line_of}
-use Rattle.code_checker.proofs.{Parts.statements-in, StatementSequences.stated-holds, Within.Within}
-use Rattle.code_checker.proofs.Steps.{Holds, bind-holds, each-holds, give-holds, late-holds, look-holds, put-holds}
+use Rattle.code_checker.proofs.{StatementSequences.stated-holds, Within.Within}
+use Rattle.code_checker.proofs.Steps.{Holds, bind-holds, give-holds, late-holds, look-holds, put-holds}
 
 pub put_label-holds : {size : ℕ} {later : Bool} (x : Option ℕ) (r : Row) → Holds size later (put_label x r)
 put_label-holds None r = give-holds tt
@@ -29,21 +30,26 @@ pub on_label-holds : {size : ℕ} {later : Bool} (f : (ℕ → Step (Unit {0})))
 on_label-holds f None f-in label-in = give-holds tt
 on_label-holds f (Some l) f-in label-in = f-in l.number label-in.0
 
-pub on_next-holds : {size : ℕ} {later : Bool} (f : (ℕ → Step (Unit {0}))) (u : Unit {0}) (n : NextStatement) → ((t : ℕ) → t < size → Holds size later (f t))
-    → Within size (next_statement_node n) → Holds size later (on_next f u n)
-unfolding on_next
-on_next-holds f u n f-in n-in = on_label-holds f n.statement.label f-in n-in.1.0
+pub on_statement-holds : {size : ℕ} {later : Bool} (f : (ℕ → Step (Unit {0}))) (s : StatementTree) → ((t : ℕ) → t < size → Holds size later (f t))
+    → Within size (statement_node s) → Holds size later (on_statement f s)
+on_statement-holds f (tree.a_statement label plain) f-in s-in = on_label-holds f label f-in s-in.0
 
-pub each_label-holds : {size : ℕ} {later : Bool} (f : (ℕ → Step (Unit {0}))) (s : Statements) → ((t : ℕ) → t < size → Holds size later (f t))
+pub on_others-holds : {size : ℕ} {later : Bool} (f : (ℕ → Step (Unit {0}))) (rest : StatementTrees) → ((t : ℕ) → t < size → Holds size later (f t))
+    → Within size (more_statements_node rest) → Holds size later (on_others f rest)
+on_others-holds f tree.end_of_statements f-in rest-in = give-holds tt
+on_others-holds f (tree.more_statements semicolon s rest) f-in rest-in =
+    bind-holds (on_statement-holds f s f-in rest-in.0.1) (λ _. on_others-holds f rest f-in rest-in.1)
+
+pub each_label-holds : {size : ℕ} {later : Bool} (f : (ℕ → Step (Unit {0}))) (s : StatementsTree) → ((t : ℕ) → t < size → Holds size later (f t))
     → Within size (statements_node s) → Holds size later (each_label f s)
-each_label-holds {size = size} f s f-in s-in = bind-holds (on_label-holds f (out-Statements s).first.label f-in (statements-in size s s-in).label) (λ _.
-    each-holds (on_next f) next_statement_node (λ a x h. on_next-holds f a x f-in h) tt (out-Statements s).others.items (statements-in size s s-in).others)
+each_label-holds f (tree.statement_sequence first others) f-in s-in =
+    bind-holds (on_statement-holds f first f-in s-in.0) (λ _. on_others-holds f others f-in s-in.1)
 
-pub reach_all-holds : {size : ℕ} {later : Bool} (frame : ℕ) (s : Statements) → Within size (statements_node s) → Holds size later (reach_all frame s)
+pub reach_all-holds : {size : ℕ} {later : Bool} (frame : ℕ) (s : StatementsTree) → Within size (statements_node s) → Holds size later (reach_all frame s)
 unfolding reach_all
 reach_all-holds frame s s-in = each_label-holds (reach_label frame) s (λ x h. reach_label-holds frame x) s-in
 
-pub leave_all-holds : {size : ℕ} {later : Bool} (frame : ℕ) (s : Statements) → Within size (statements_node s) → Holds size later (leave_all frame s)
+pub leave_all-holds : {size : ℕ} {later : Bool} (frame : ℕ) (s : StatementsTree) → Within size (statements_node s) → Holds size later (leave_all frame s)
 unfolding leave_all
 leave_all-holds frame s s-in = each_label-holds (leave frame) s (λ x h. leave-holds frame x) s-in
 

@@ -2,7 +2,7 @@
 use Rattle.std.specs.Prelude.{◌≡◌, ℕ, Err, List}
 use Rattle.pas_lexer.specs.{Division.IsFault, Division.IsLexed, Lexed.Lexed}
 use Rattle.grammar.specs.Nodes.{spell}
-use Rattle.pas_tree.specs.{Blocks.tree_node, declared.blocks.Tree.Tree}
+use Rattle.pas_tree.specs.{BlockTrees.program_tree, Blocks.tree_node, declared.blocks.Tree.Tree}
 use Rattle.pas_parser.specs.{Exact.IsExact, Formed.IsFormed, Formed.items_of}
 use Rattle.check_steps.specs.{Known.Known, declared.breaks.CheckFault.CheckFault}
 use Rattle.decl_checker.specs.{Answers.EarlyFaultIs, Answers.IsWithoutEarly, Programs.broken_early, Programs.tables_of}
@@ -20,7 +20,7 @@ pub record IsTextOf (t : Lexed) (x : Tree) : Type 0 where
 
 -- No rule that can be told from declarations and names alone is broken, and these are the tables.
 abbrev pub IsDeclaredBy : Lexed → Tree → Known → Type 0
-IsDeclaredBy t x known = IsWithoutEarly (broken_early t x) × (known ≡ tables_of t x)
+IsDeclaredBy t x known = IsWithoutEarly (broken_early t (program_tree x)) × (known ≡ tables_of t (program_tree x))
 
 -- the source is the text of a program with these tables
 abbrev pub IsDeclared : List ℕ → Known → Type 0
@@ -29,7 +29,8 @@ IsDeclared source known = (t : Lexed) × (x : Tree) × HasTokens source t × IsT
 -- this is the first of the broken rules, at a token that stands there
 abbrev pub BreaksFirst : Lexed → Tree → (rule line byte : ℕ) → Type 0
 BreaksFirst t x rule line byte =
-    (token : ℕ) × EarlyFaultIs (broken_early t x) (CheckFault.Rule rule token) × TokenBegins t token line byte
+    (token : ℕ) × EarlyFaultIs (broken_early t (program_tree x)) (CheckFault.Rule rule token) × TokenBegins t token line
+    byte
 
 -- why a tree gives no tables
 abbrev pub IsUndeclaredBy : Lexed → Tree → DeclarationFault → Type 0

@@ -1,7 +1,7 @@
 -- What an answer of `check` tells beyond itself.
 use Rattle.std.specs.Prelude.{◌<◌, ◌≡◌, ◌≤◌, ℕ, All, Contains, List, length, true}
 use Rattle.pas_lexer.specs.Lexed.{Lexed}
-use Rattle.pas_tree.specs.declared.blocks.Tree.{Tree}
+use Rattle.pas_tree.specs.{BlockTrees.ProgramTree, BlockTrees.program_tree, declared.blocks.Tree.Tree}
 use Rattle.check_steps.specs.Breaks.{FaultIs}
 use Rattle.check_steps.specs.declared.breaks.{Break.Break, Broken.TheVariants.TooBig, CheckFault.CheckFault}
 use Rattle.decl_checker.specs.Answers.{early_of}
@@ -20,19 +20,21 @@ TooBigComesLast = (bs : List Break) (token : ℕ) → FaultIs bs (CheckFault.Too
 -- What the declarations break is broken.
 abbrev pub DeclarationsCount : Type 0
 DeclarationsCount =
-    (l : Lexed) (t : Tree) (b : Break) → Contains (declarations.broken_early l t) b → Contains (broken l t) b
+    (l : Lexed) (t : ProgramTree) (b : Break) → Contains (declarations.broken_early l t) b → Contains (broken l t) b
 
 -- ---- texts
 
 -- Each rule that a text breaks is broken at one of its tokens.
 abbrev pub TokensStand : Type 0
-TokensStand = (l : Lexed) (t : Tree) (b : Break) → IsTextOf l t → Contains (broken l t) b → b.token < length l.tokens
+TokensStand = (l : Lexed) (t : Tree) (b : Break) → IsTextOf l t → Contains (broken l (program_tree t)) b
+    → b.token < length l.tokens
 
 -- It is told before others exactly if it is a rule of declarations and names.
 abbrev pub RulesAreTold : Type 0
-RulesAreTold = (l : Lexed) (t : Tree) (b : Break) → IsTextOf l t → Contains (broken l t) b → is_told b.broken ≡ true
+RulesAreTold = (l : Lexed) (t : Tree) (b : Break) → IsTextOf l t → Contains (broken l (program_tree t)) b
+    → is_told b.broken ≡ true
 
 -- The rules of declarations and names that a text breaks are exactly those that its declarations alone break.
 abbrev pub DeclarationsAreExact : Type 0
 DeclarationsAreExact = (l : Lexed) (t : Tree) → IsTextOf l t
-    → early_of (broken l t) ≡ early_of (declarations.broken_early l t)
+    → early_of (broken l (program_tree t)) ≡ early_of (declarations.broken_early l (program_tree t))

@@ -3,6 +3,7 @@ pub mod CheckedPrograms
 pub mod CodePlaces
 pub mod Declarations
 pub mod Laws
+pub mod OneProgram
 pub mod Places
 pub mod Programs
 pub mod Results

@@ -1,7 +1,7 @@
 -- What the tokens of a source come to as a program.
 use Rattle.std.specs.Prelude.{◌≡◌, [], ℕ, Err}
 use Rattle.pas_lexer.specs.Lexed.{Lexed}
-use Rattle.pas_tree.specs.declared.blocks.Tree.{Tree}
+use Rattle.pas_tree.specs.{BlockTrees.program_tree, declared.blocks.Tree.Tree}
 use Rattle.pas_phrases.specs.declared.fault.ParseFault.{ParseFault}
 use Rattle.pas_parser.specs.{Exact.IsExact, Formed.IsText}
 use Rattle.core_program.specs.ProgramRows.{ProgramRows}
@@ -13,7 +13,7 @@ use Rattle.code_checker.specs.CheckedPrograms.{broken, program_of}
 
 -- No rule is broken and nothing is too big in the tree, and this is the program that it denotes.
 abbrev pub IsDenotedBy : Lexed → Tree → ProgramRows → Type 0
-IsDenotedBy t x p = (broken t x ≡ []) × (p ≡ program_of t x)
+IsDenotedBy t x p = (broken t (program_tree x) ≡ []) × (p ≡ program_of t (program_tree x))
 
 -- the tokens are the text of this program
 abbrev pub IsChecked : Lexed → ProgramRows → Type 0
@@ -28,7 +28,8 @@ HasNoTree t f = (IsText t.tokens → ⊥) × IsExact t.tokens (Err f)
 
 -- the first of what is broken in the tree is at a token that stands there
 abbrev pub IsBrokenAt : Lexed → Tree → (ℕ → CheckFault) → (line byte : ℕ) → Type 0
-IsBrokenAt t x what line byte = (token : ℕ) × FaultIs (broken t x) (what token) × TokenBegins t token line byte
+IsBrokenAt t x what line byte =
+    (token : ℕ) × FaultIs (broken t (program_tree x)) (what token) × TokenBegins t token line byte
 
 -- why a tree denotes no program
 abbrev pub IsNotDenotedBy : Lexed → Tree → ProgramFault → Type 0

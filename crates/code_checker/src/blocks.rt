@@ -1,8 +1,9 @@
 //! The statements of blocks, those of their routines first (6.2.1).
 
 ghost use Rattle.std.specs.Prelude.{◌≡◌, IfOk};
+ghost use Rattle.pas_tree.specs.{BlockTrees.block_tree, BlockTrees.body_tree, StatementTrees.compound_tree};
 ghost use Rattle.check_steps.specs.Steps.{Does, each};
-ghost use Rattle.code_checker.specs.Blocks.{code_block, code_body, code_routine, statement_part};
+ghost use Rattle.code_checker.specs.Blocks.{code_block, code_body, code_next_routine, statement_part};
 
 use crate::code_places::span_of;
 use crate::results::{check_result, name_in_first};
@@ -24,7 +25,7 @@ fn check_statement_part(
     frame: u32,
     span: Span,
 ) -> Result<(), AllocError>
-    ensures { IfOk result (λ _. Does (statement_part frame span body.now) tt work.old work.new) }
+    ensures { IfOk result (λ _. Does (statement_part frame span (compound_tree body.now)) tt work.old work.new) }
 {
     work.enter_block(span);
     let _number = check_compound(work, body, frame)?;
@@ -33,9 +34,9 @@ fn check_statement_part(
 
 /// The statements of the block of a frame and of its routines, once all declarations of the program are checked.
 #[cycle(code)]
-#[tactic(auto, using(check_steps::proofs::Runs::steps, crate::proofs::CodeRolls::code_out))]
+#[tactic(auto, using(check_steps::proofs::Runs::steps, pas_tree::proofs::BlockViews::block_view, pas_tree::proofs::StatementViews::compound_view, crate::proofs::Walks::routines_each))]
 pub fn check_code(work: &mut Work, b: &Block, frame: u32) -> Result<(), AllocError>
-    ensures { IfOk result (λ _. Does (code_block frame b.now) tt work.old work.new) }
+    ensures { IfOk result (λ _. Does (code_block frame (block_tree b.now)) tt work.old work.new) }
 {
     reach_all(work, &b.body.statements, frame);
     check_routines(work, &b.routines)?;
@@ -46,7 +47,7 @@ pub fn check_code(work: &mut Work, b: &Block, frame: u32) -> Result<(), AllocErr
 #[cycle(code)]
 #[tactic(auto, using(check_steps::proofs::Runs::loops))]
 fn check_routines(work: &mut Work, routines: &[Routine]) -> Result<(), AllocError>
-    ensures { IfOk result (λ _. Does (each code_routine tt routines.now) tt work.old work.new) }
+    ensures { IfOk result (λ _. Does (each code_next_routine tt routines.now) tt work.old work.new) }
 {
     'routines: for routine in routines {
         check_routine(work, routine)?;
@@ -55,9 +56,9 @@ fn check_routines(work: &mut Work, routines: &[Routine]) -> Result<(), AllocErro
 }
 
 #[cycle(code)]
-#[tactic(auto, unfolding(crate::specs::Blocks::code_routine))]
+#[tactic(auto, unfolding(crate::specs::Blocks::code_next_routine))]
 fn check_routine(work: &mut Work, routine: &Routine) -> Result<(), AllocError>
-    ensures { IfOk result (λ _. Does (code_routine tt routine.now) tt work.old work.new) }
+    ensures { IfOk result (λ _. Does (code_next_routine tt routine.now) tt work.old work.new) }
 {
     let function = is_function(&routine.heading);
     let name = heading_name(&routine.heading);
@@ -73,7 +74,7 @@ fn check_body(
     function: bool,
     name: u32,
 ) -> Result<(), AllocError>
-    ensures { IfOk result (λ _. Does (code_body function name body.now) tt work.old work.new) }
+    ensures { IfOk result (λ _. Does (code_body function name (body_tree body.now)) tt work.old work.new) }
 {
     match body {
         RoutineBody::Directive(_) => Ok(()),

@@ -1,6 +1,7 @@
 //! The whole check of a program (6.10).
 
 ghost use Rattle.std.specs.Prelude.{◌≡◌, [], IfErr, IfOk};
+ghost use Rattle.pas_tree.specs.BlockTrees.{program_tree};
 ghost use Rattle.check_steps.specs.{Breaks.FaultIs, Steps.Does};
 ghost use Rattle.code_checker.specs.CheckedPrograms.{broken, check_step, program_of};
 
@@ -17,7 +18,7 @@ use whole_tables::is_whole;
 /// The declarations of a program, and then the statements of its blocks.
 #[tactic(auto, using(check_steps::proofs::Runs::steps), unfolding(crate::specs::CheckedPrograms::check_step))]
 fn check_tree(work: &mut Work, alloc: Global, tree: &Tree) -> Result<(), AllocError>
-    ensures { IfOk result (λ _. Does (check_step tree.now) tt work.old work.new) }
+    ensures { IfOk result (λ _. Does (check_step (program_tree tree.now)) tt work.old work.new) }
 {
     let frame = check_program(work, alloc, tree)?;
     check_code(work, &tree.block, frame)?;
@@ -26,9 +27,9 @@ fn check_tree(work: &mut Work, alloc: Global, tree: &Tree) -> Result<(), AllocEr
 
 /// The tables that a check of a tree leaves, or why the tree denotes no program.
 fn known_tables(alloc: Global, tokens: &Tokens, tree: &Tree) -> Result<ProgramTables, CheckFault>
-    ensures program { IfOk result (λ p. p ≡ program_of tokens.now tree.now) }
-    ensures unbroken { IfOk result (λ _. broken tokens.now tree.now ≡ []) }
-    ensures fault { IfErr result (FaultIs (broken tokens.now tree.now)) }
+    ensures program { IfOk result (λ p. p ≡ program_of tokens.now (program_tree tree.now)) }
+    ensures unbroken { IfOk result (λ _. broken tokens.now (program_tree tree.now) ≡ []) }
+    ensures fault { IfErr result (FaultIs (broken tokens.now (program_tree tree.now))) }
 {
     let mut work = Work::new(alloc, tokens)?;
     check_tree(&mut work, alloc, tree)?;
@@ -43,9 +44,9 @@ fn known_tables(alloc: Global, tokens: &Tokens, tree: &Tree) -> Result<ProgramTa
 /// 65,536 cells, and of the arguments of `new` whose pointer's domain does. `Memory` comes where memory ran out, and
 /// would come of tables that are not whole: a program has whole ones.
 pub fn check(alloc: Global, tokens: &Tokens, tree: &Tree) -> Result<Program, CheckFault>
-    ensures program { IfOk result (λ p. p ≡ program_of tokens.now tree.now) }
-    ensures unbroken { IfOk result (λ _. broken tokens.now tree.now ≡ []) }
-    ensures fault { IfErr result (FaultIs (broken tokens.now tree.now)) }
+    ensures program { IfOk result (λ p. p ≡ program_of tokens.now (program_tree tree.now)) }
+    ensures unbroken { IfOk result (λ _. broken tokens.now (program_tree tree.now) ≡ []) }
+    ensures fault { IfErr result (FaultIs (broken tokens.now (program_tree tree.now))) }
 {
     let tables = known_tables(alloc, tokens, tree)?;
     if is_whole(alloc, &tables)? {

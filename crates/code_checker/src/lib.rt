@@ -15,5 +15,5 @@ pub mod results;
 
 pub use checked_programs::check;
 pub use declarations::declare_source;
-pub use laws::{broken_rules_stand, declarations_count, too_big_comes_last};
+pub use laws::{broken_rules_stand, declarations_count, one_text_one_program, too_big_comes_last};
 pub use programs::{ProgramFault, check_tokens};

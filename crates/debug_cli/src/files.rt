@@ -17,11 +17,12 @@ use command_words::Request;
 use debuggee::{INPUT_BYTES, SourceProgram, read_source, run_program};
 use dialog_replies::Start;
 use edge_ports::{Bytes, Keeper, Printer, Source};
+use pas_lexer::MAX_SOURCE_BYTES;
 use session_file::{Session, digest_of, load};
 use std::alloc::Global;
 
 /// The most bytes of a source.
-pub const SOURCE_BYTES: u64 = 1_048_576;
+pub const SOURCE_BYTES: u64 = MAX_SOURCE_BYTES as u64;
 
 /// The most bytes of a session's file.
 pub const SESSION_BYTES: u64 = 67_108_864;

@@ -6,9 +6,9 @@ ghost use Rattle.debug_cli.specs.{Headline.VerdictsAreFound, Laws.InEachRun, Law
 
 use ask_session::{entries_follow_lines, reports_are_sound};
 use body_replay::bodies_give_their_exits;
+use code_checker::one_text_one_program;
 use core_program::numbers_tell_the_tree;
 use pas_lexer::lexing::division_laws;
-use same_programs::one_text_one_program;
 
 /// A source is one program at most, and has one run.
 pub fn one_run()

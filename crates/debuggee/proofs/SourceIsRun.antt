@@ -1,13 +1,13 @@
 -- From the pieces of a source to its tokens, its program and its run.
 use Rattle.std.proofs.Common.{◌∙◌, ◌≡◌, [], ℕ, Contains, Err, List, arith, inl, inr, subst, sym}
 use Rattle.pas_lexer.specs.{Division.IsLexed, Lexed.Lexed, declared.kinds.LexFault.LexFault, declared.kinds.Token.Token}
-use Rattle.pas_tree.specs.{Blocks.tree_node, declared.blocks.Tree.Tree}
+use Rattle.pas_tree.specs.{BlockTrees.program_tree, Blocks.tree_node, declared.blocks.Tree.Tree}
 use Rattle.pas_parser.specs.Formed.{IsText}
 use Rattle.core_program.specs.ProgramRows.{ProgramRows}
 use Rattle.check_steps.specs.declared.breaks.Break.{Break}
-use Rattle.code_checker.specs.{CheckedPrograms.broken, Declarations.IsTextOf, Programs.IsChecked, declared.programs.ProgramFault.ProgramFault}
+use Rattle.code_checker.specs.{CheckedPrograms.broken, Declarations.IsTextOf, OneProgram.OneTextOneProgram, Programs.IsChecked}
 use Rattle.code_checker.specs.Programs as check
-use Rattle.same_programs.specs.Laws.{OneTextOneProgram}
+use Rattle.code_checker.specs.declared.programs.ProgramFault.{ProgramFault}
 use Rattle.debuggee.specs.Execution.{Supply, execution_of}
 use Rattle.debuggee.specs.Program.{IsMisfit, IsProgram, IsRead, IsRefused, IsUnlexed, IsUnread, Keeps, TokensAre, fault_of_check}
 use Rattle.debuggee.specs.declared.source.SourceFault.{SourceFault, TheVariants.Memory, TheVariants.Refused}
@@ -43,9 +43,10 @@ pub same_checked : OneTextOneProgram → (t : Lexed) (p q : ProgramRows) → IsC
 same_checked law t p q a b = b.2.1 ∙ (law t b.0 a.0 b.1 a.1).denoted ∙ sym a.2.1
 
 -- what breaks a rule in one tree of a text is no program by another
-broken_not : OneTextOneProgram → (t : Lexed) (x : Tree) → IsTextOf t x → (b : Break) → Contains (broken t x) b → (p : ProgramRows) → IsChecked t p → ⊥
+broken_not : OneTextOneProgram → (t : Lexed) (x : Tree) → IsTextOf t x → (b : Break) → Contains (broken t (program_tree x)) b → (p : ProgramRows)
+    → IsChecked t p → ⊥
 broken_not law t x text b breaks p c =
-    let none : broken t x ≡ [] = (law t x c.0 text c.1).broken ∙ c.2.0 in
+    let none : broken t (program_tree x) ≡ [] = (law t x c.0 text c.1).broken ∙ c.2.0 in
     let there = subst (λ (bs : List Break). Contains bs b) none breaks in
     omega (arith, there.1)
 

@@ -8,7 +8,8 @@ mod runs;
 mod slicing;
 mod source;
 
+pub use cell_value::INPUT_BYTES;
 pub use laws::{only_links_are_left_out, slices_tell_their_calls};
 pub use refusal::SourceRefusal;
 pub use runs::Debuggee;
-pub use source::{INPUT_BYTES, SourceFault, SourceProgram, read_source, run_program};
+pub use source::{SourceFault, SourceProgram, read_source, run_program};

@@ -12,16 +12,12 @@ ghost use Rattle.debuggee.specs.declared.source.SourceFault.TheVariants.{Memory,
 use crate::refusal::SourceRefusal;
 use crate::runs::Debuggee;
 use cell_names::NameFinder;
-use code_checker::{ProgramFault, check_tokens};
+use code_checker::{ProgramFault, check_tokens, one_text_one_program};
 use core_program::{Program, every_program_runs, every_run_has_a_call};
 use pas_lexer::{LexFault, Tokens, lex, line_at};
 use program_run::{calls_are_told, run};
-use same_programs::one_text_one_program;
 use std::alloc::{AllocError, Global};
 use thiserror::Error;
-
-/// The most bytes of an input.
-pub const INPUT_BYTES: u64 = 4_194_304;
 
 /// A source that is a program: its tokens, and the program that they are.
 #[derive(Drop)]

@@ -1,6 +1,4 @@
-pub mod BlockRolls
 pub mod Declared
 pub mod Early
-pub mod Operands
 pub mod Places
-pub mod Sequences
+pub mod Walks

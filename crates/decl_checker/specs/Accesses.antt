@@ -1,27 +1,15 @@
 -- Accesses of variables (6.5), and the names that expressions use (6.7).
 use Rattle.std.specs.Prelude.{ℕ, None, Option, Some}
-use Rattle.pas_tree.specs.declared.expressions.{Index.Index as IndexTree, Index.Index', Member.Member-last-Some'}
-use Rattle.pas_tree.specs.declared.expressions.{NextFactor.NextFactor, NextTerm.NextTerm, NextTerm.NextTerm'}
-use Rattle.pas_tree.specs.declared.expressions.{RangeEnd.RangeEnd, RangeEnd.RangeEnd', Relation.Relation}
-use Rattle.pas_tree.specs.declared.expressions.{Relation.Relation', Simple.more_of-NextTerm, Term.more_of-NextFactor}
-use Rattle.pas_tree.specs.declared.expressions.Access.{Access, Row_of-Selector, end_of-Selector, more_of-Selector}
-use Rattle.pas_tree.specs.declared.expressions.Arguments.{Arguments, Arguments', Row_of-NextExpression}
-use Rattle.pas_tree.specs.declared.expressions.Arguments.{end_of-NextExpression, more_of-NextExpression}
-use Rattle.pas_tree.specs.declared.expressions.Expression.{Expression, Expression', Expression-relation-None'}
-use Rattle.pas_tree.specs.declared.expressions.Expression.{Expression-relation-Some', Held-Expression-relation}
-use Rattle.pas_tree.specs.declared.expressions.Factor.{Access', Call', Factor, Nil, Not', Number, Paren', Set', Text}
-use Rattle.pas_tree.specs.declared.expressions.Member.{Held-Member-last, Member, Member', Member-last-None'}
-use Rattle.pas_tree.specs.declared.expressions.Members.{Empty, Members, Some as NonEmpty}
-use Rattle.pas_tree.specs.declared.expressions.NextExpression.{NextExpression, NextExpression'}
-use Rattle.pas_tree.specs.declared.expressions.NextMember.{NextMember, NextMember'}
-use Rattle.pas_tree.specs.declared.expressions.Selector.{Dereference, Field, Index, Selector}
-use Rattle.pas_tree.specs.declared.expressions.Simple.{Row_of-NextTerm, Simple, Simple', end_of-NextTerm}
-use Rattle.pas_tree.specs.declared.expressions.SomeMembers.{Row_of-NextMember, SomeMembers, SomeMembers'}
-use Rattle.pas_tree.specs.declared.expressions.SomeMembers.{end_of-NextMember, more_of-NextMember}
-use Rattle.pas_tree.specs.declared.expressions.Term.{Row_of-NextFactor, Term, Term', end_of-NextFactor}
+use Rattle.pas_tree.specs.ExpressionTrees.{AccessTree, ArgumentsTree, ExpressionTree, ExpressionTrees, FactorTree}
+use Rattle.pas_tree.specs.ExpressionTrees.{FactorTrees, IndexTree, MemberTree, MemberTrees, MembersTree, RangeTree}
+use Rattle.pas_tree.specs.ExpressionTrees.{RelationTree, SelectorTree, SelectorTrees, SimpleTree, TermTree, TermTrees}
+use Rattle.pas_tree.specs.ExpressionTrees as tree
+use Rattle.pas_tree.specs.declared.expressions.{NextFactor.NextFactor, NextMember.NextMember, NextMember.out-NextMember}
+use Rattle.pas_tree.specs.declared.expressions.{NextTerm.NextTerm, NextTerm.out-NextTerm, Selector.Selector}
+use Rattle.pas_tree.specs.declared.expressions.NextExpression.{NextExpression, out-NextExpression}
 use Rattle.core_program.specs.declared.rows.{NameRow.NameRow, Row.Row, TypeRow.TypeRow}
-use Rattle.check_steps.specs.{Known.Known, Known.name_at, Known.row_at, Known.type_at, Names.use_at, Regions.defined_in}
-use Rattle.check_steps.specs.Steps.{◌>>=◌, Step, each, give, look}
+use Rattle.check_steps.specs.{Names.use_at, Regions.defined_in, Steps.◌>>=◌, Steps.Step, Steps.give, Steps.look}
+use Rattle.check_steps.specs.Known.{Known, name_at, row_at, type_at}
 use Rattle.check_steps.specs.declared.regions.{Definition.Definition, Found.Found}
 
 -- ---- names
@@ -75,6 +63,12 @@ field_type k t name unknown = unknown
 unfoldable pub indexed_type : ℕ → ℕ → Step ℕ
 indexed_type unknown t = look (λ k. component_type (type_at k t) unknown)
 
+-- an index, by what it uses itself, and then the component
+abbrev pub index_by : ℕ → ℕ → Step (Unit {0}) → Step ℕ
+index_by unknown t uses = do
+  _ ← uses
+  indexed_type unknown t
+
 -- The name of a field is no use of a name: it is looked up in the record alone.
 unfoldable pub field : ℕ → ℕ → ℕ → Step ℕ
 field unknown t token = look (λ k. field_type k (type_at k t) (name_at k token) unknown)
@@ -86,145 +80,138 @@ domain unknown t = look (λ k. domain_type (type_at k t) unknown)
 
 abbrev mutual
   -- the names that an expression uses, in the order of their tokens
-  pub expression_uses : ℕ → Expression → Step (Unit {0})
-  expression_uses frame (Expression' left relation) = do
+  pub expression_uses : ℕ → ExpressionTree → Step (Unit {0})
+  expression_uses frame (tree.an_expression left relation) = do
     _ ← simple_uses frame left
     relation_uses frame relation
 
-  pub relation_uses : ℕ → Held-Expression-relation → Step (Unit {0})
-  relation_uses frame Expression-relation-None' = give tt
-  relation_uses frame (Expression-relation-Some' r) = related_uses frame r
+  pub relation_uses : ℕ → RelationTree → Step (Unit {0})
+  relation_uses frame tree.without_relation = give tt
+  relation_uses frame (tree.a_relation operator right) = simple_uses frame right
 
-  pub related_uses : ℕ → Relation → Step (Unit {0})
-  related_uses frame (Relation' operator right) = simple_uses frame right
-
-  pub simple_uses : ℕ → Simple → Step (Unit {0})
-  simple_uses frame (Simple' sign first _ others) = do
+  pub simple_uses : ℕ → SimpleTree → Step (Unit {0})
+  simple_uses frame (tree.a_simple sign first others) = do
     _ ← term_uses frame first
     more_terms frame others
 
-  pub more_terms : ℕ → {m : _} → Row_of-NextTerm m → Step (Unit {0})
-  more_terms frame end_of-NextTerm = give tt
-  more_terms frame (more_of-NextTerm n rest) = do
-    _ ← next_term frame tt n
+  pub more_terms : ℕ → TermTrees → Step (Unit {0})
+  more_terms frame tree.end_of_terms = give tt
+  more_terms frame (tree.more_terms operator t rest) = do
+    _ ← term_uses frame t
     more_terms frame rest
 
-  pub next_term : ℕ → Unit {0} → NextTerm → Step (Unit {0})
-  next_term frame u (NextTerm' operator t) = term_uses frame t
-
-  pub term_uses : ℕ → Term → Step (Unit {0})
-  term_uses frame (Term' first _ others) = do
+  pub term_uses : ℕ → TermTree → Step (Unit {0})
+  term_uses frame (tree.a_term first others) = do
     _ ← factor_uses frame first
     more_factors frame others
 
-  pub more_factors : ℕ → {m : _} → Row_of-NextFactor m → Step (Unit {0})
-  more_factors frame end_of-NextFactor = give tt
-  more_factors frame (more_of-NextFactor operator f rest) = do
+  pub more_factors : ℕ → FactorTrees → Step (Unit {0})
+  more_factors frame tree.end_of_factors = give tt
+  more_factors frame (tree.more_factors operator f rest) = do
     _ ← factor_uses frame f
     more_factors frame rest
 
-  pub factor_uses : ℕ → Factor → Step (Unit {0})
-  factor_uses frame (Number n) = give tt
-  factor_uses frame (Text n) = give tt
-  factor_uses frame (Nil n) = give tt
-  factor_uses frame (Access' name _ selectors) = do
+  pub factor_uses : ℕ → FactorTree → Step (Unit {0})
+  factor_uses frame (tree.a_number n) = give tt
+  factor_uses frame (tree.a_text n) = give tt
+  factor_uses frame (tree.a_nil n) = give tt
+  factor_uses frame (tree.an_access name selectors) = do
     t ← named_variable frame name
     _ ← selected frame name t selectors
     give tt
-  factor_uses frame (Call' name _ arguments) = do
+  factor_uses frame (tree.a_call name a) = do
     _ ← name_use frame name
-    arguments_uses frame arguments
-  factor_uses frame (Paren' open' _ e close) = expression_uses frame e
-  factor_uses frame (Set' _ members) = members_uses frame members
-  factor_uses frame (Not' n _ f) = factor_uses frame f
+    arguments_uses frame a
+  factor_uses frame (tree.a_paren left e right) = expression_uses frame e
+  factor_uses frame (tree.a_set members) = members_uses frame members
+  factor_uses frame (tree.a_not word f) = factor_uses frame f
 
-  pub selected : ℕ → ℕ → ℕ → {m : _} → Row_of-Selector m → Step ℕ
-  selected frame unknown t end_of-Selector = give t
-  selected frame unknown t (more_of-Selector s rest) = do
+  pub selected : ℕ → ℕ → ℕ → SelectorTrees → Step ℕ
+  selected frame unknown t tree.end_of_selectors = give t
+  selected frame unknown t (tree.more_selectors s rest) = do
     part ← selector frame unknown t s
     selected frame unknown part rest
 
   -- the type of what is selected in a type
-  pub selector : ℕ → ℕ → ℕ → Selector → Step ℕ
-  selector frame unknown t (Index i) = indices frame unknown t i
-  selector frame unknown t (Field dot name) = field unknown t name
-  selector frame unknown t (Dereference n) = domain unknown t
+  pub selector : ℕ → ℕ → ℕ → SelectorTree → Step ℕ
+  selector frame unknown t (tree.an_index i) = indices frame unknown t i
+  selector frame unknown t (tree.a_field dot name) = field unknown t name
+  selector frame unknown t (tree.a_caret caret) = domain unknown t
 
   -- each comma selects once more
   pub indices : ℕ → ℕ → ℕ → IndexTree → Step ℕ
-  indices frame unknown t (Index' open' first _ others close) = do
+  indices frame unknown t (tree.index_list left first others right) = do
     _ ← expression_uses frame first
     part ← indexed_type unknown t
     more_indices frame unknown part others
 
-  pub more_indices : ℕ → ℕ → ℕ → {m : _} → Row_of-NextExpression m → Step ℕ
-  more_indices frame unknown t end_of-NextExpression = give t
-  more_indices frame unknown t (more_of-NextExpression n rest) = do
-    part ← next_index frame unknown t n
+  pub more_indices : ℕ → ℕ → ℕ → ExpressionTrees → Step ℕ
+  more_indices frame unknown t tree.end_of_expressions = give t
+  more_indices frame unknown t (tree.more_expressions comma e rest) = do
+    part ← index_by unknown t (expression_uses frame e)
     more_indices frame unknown part rest
 
-  pub next_index : ℕ → ℕ → ℕ → NextExpression → Step ℕ
-  next_index frame unknown t (NextExpression' comma e) = do
-    _ ← expression_uses frame e
-    indexed_type unknown t
-
-  pub arguments_uses : ℕ → Arguments → Step (Unit {0})
-  arguments_uses frame (Arguments' open' first _ others close) = do
+  pub arguments_uses : ℕ → ArgumentsTree → Step (Unit {0})
+  arguments_uses frame (tree.argument_list left first others right) = do
     _ ← expression_uses frame first
     more_arguments frame others
 
-  pub more_arguments : ℕ → {m : _} → Row_of-NextExpression m → Step (Unit {0})
-  more_arguments frame end_of-NextExpression = give tt
-  more_arguments frame (more_of-NextExpression n rest) = do
-    _ ← next_argument frame tt n
+  pub more_arguments : ℕ → ExpressionTrees → Step (Unit {0})
+  more_arguments frame tree.end_of_expressions = give tt
+  more_arguments frame (tree.more_expressions comma e rest) = do
+    _ ← expression_uses frame e
     more_arguments frame rest
 
-  pub next_argument : ℕ → Unit {0} → NextExpression → Step (Unit {0})
-  next_argument frame u (NextExpression' comma e) = expression_uses frame e
-
-  pub members_uses : ℕ → Members → Step (Unit {0})
-  members_uses frame (Empty open' close) = give tt
-  members_uses frame (NonEmpty m) = some_members_uses frame m
-
-  pub some_members_uses : ℕ → SomeMembers → Step (Unit {0})
-  some_members_uses frame (SomeMembers' open' first _ others close) = do
+  pub members_uses : ℕ → MembersTree → Step (Unit {0})
+  members_uses frame (tree.empty_members left right) = give tt
+  members_uses frame (tree.some_members left first others right) = do
     _ ← member_uses frame first
     more_members frame others
 
-  pub more_members : ℕ → {m : _} → Row_of-NextMember m → Step (Unit {0})
-  more_members frame end_of-NextMember = give tt
-  more_members frame (more_of-NextMember n rest) = do
-    _ ← next_member frame tt n
+  pub more_members : ℕ → MemberTrees → Step (Unit {0})
+  more_members frame tree.end_of_members = give tt
+  more_members frame (tree.more_members comma m rest) = do
+    _ ← member_uses frame m
     more_members frame rest
 
-  pub next_member : ℕ → Unit {0} → NextMember → Step (Unit {0})
-  next_member frame u (NextMember' comma m) = member_uses frame m
-
-  pub member_uses : ℕ → Member → Step (Unit {0})
-  member_uses frame (Member' first last) = do
+  pub member_uses : ℕ → MemberTree → Step (Unit {0})
+  member_uses frame (tree.a_member first last) = do
     _ ← expression_uses frame first
-    range_end_uses frame last
+    range_uses frame last
 
-  pub range_end_uses : ℕ → Held-Member-last → Step (Unit {0})
-  range_end_uses frame Member-last-None' = give tt
-  range_end_uses frame (Member-last-Some' r) = last_uses frame r
-
-  pub last_uses : ℕ → RangeEnd → Step (Unit {0})
-  last_uses frame (RangeEnd' range last) = expression_uses frame last
-
--- ---- the same over lists
-
-unfoldable pub next_factor : ℕ → Unit {0} → NextFactor → Step (Unit {0})
-next_factor frame u n = factor_uses frame n.factor
+  pub range_uses : ℕ → RangeTree → Step (Unit {0})
+  range_uses frame tree.without_range = give tt
+  range_uses frame (tree.a_range dots last) = expression_uses frame last
 
 -- The type of what is accessed, seen from a frame. Where it is unknown a number is given at which no type stands.
-unfoldable pub access_type : ℕ → Access → Step ℕ
+abbrev pub access_type : ℕ → AccessTree → Step ℕ
 access_type frame a = do
   t ← named_variable frame a.name
-  each (selector frame a.name) t a.selectors.items
+  selected frame a.name t a.selectors
 
 -- the names that an access uses, in the order of their tokens
-unfoldable pub access_uses : ℕ → Access → Step (Unit {0})
+abbrev pub access_uses : ℕ → AccessTree → Step (Unit {0})
 access_uses frame a = do
   _ ← access_type frame a
   give tt
+
+-- ---- one more of what the code holds
+
+abbrev pub next_term : ℕ → Unit {0} → NextTerm → Step (Unit {0})
+next_term frame u n = term_uses frame (tree.term_tree (out-NextTerm n).term)
+
+abbrev pub next_factor : ℕ → Unit {0} → NextFactor → Step (Unit {0})
+next_factor frame u n = factor_uses frame (tree.factor_tree n.factor)
+
+abbrev pub next_selector : ℕ → ℕ → ℕ → Selector → Step ℕ
+next_selector frame unknown t s = selector frame unknown t (tree.selector_tree s)
+
+abbrev pub next_index : ℕ → ℕ → ℕ → NextExpression → Step ℕ
+next_index frame unknown t n =
+    index_by unknown t (expression_uses frame (tree.expression_tree (out-NextExpression n).expression))
+
+abbrev pub next_argument : ℕ → Unit {0} → NextExpression → Step (Unit {0})
+next_argument frame u n = expression_uses frame (tree.expression_tree (out-NextExpression n).expression)
+
+abbrev pub next_member : ℕ → Unit {0} → NextMember → Step (Unit {0})
+next_member frame u n = member_uses frame (tree.member_tree (out-NextMember n).member)

@@ -1,6 +1,6 @@
 -- Label declarations (6.2.1).
 use Rattle.std.specs.Prelude.{ℕ, None, Option, Some, false, nat_le}
-use Rattle.pas_tree.specs.declared.blocks.{LabelPart.LabelPart, NextLabel.NextLabel}
+use Rattle.pas_tree.specs.{BlockTrees.LabelPartTree, declared.blocks.NextLabel.NextLabel}
 use Rattle.core_program.specs.declared.rows.{NameRow.NameRow, Row.Row}
 use Rattle.check_steps.specs.{Known.label_at, Names.declare_in, declared.regions.Frame.Frame}
 use Rattle.check_steps.specs.Steps.{◌>>=◌, Step, each, early, give, look, put}
@@ -17,8 +17,8 @@ unfoldable pub define_next_label : Frame → Unit {0} → NextLabel → Step (Un
 define_next_label here u n = define_label here n.number
 
 -- the labels of a block, in the region of its frame
-abbrev pub define_labels : Frame → Option LabelPart → Step (Unit {0})
+abbrev pub define_labels : Frame → Option LabelPartTree → Step (Unit {0})
 define_labels here None = give tt
 define_labels here (Some p) = do
   _ ← define_label here p.first
-  each (define_next_label here) tt p.others.items
+  each (define_next_label here) tt p.others

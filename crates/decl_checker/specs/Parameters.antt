@@ -1,6 +1,6 @@
 -- Program parameters (6.10).
 use Rattle.std.specs.Prelude.{if◌then◌else◌, ℕ, Bool, List, None, Option, Some, codes, is_some}
-use Rattle.pas_tree.specs.declared.blocks.Parameters.{Parameters}
+use Rattle.pas_tree.specs.BlockTrees.{ParametersTree}
 use Rattle.core_program.specs.declared.rows.{NameRow.NameRow, Row.Row}
 use Rattle.core_program.specs.declared.rows.TextFile.{TextFile, TheVariants.Input, TheVariants.Output}
 use Rattle.check_steps.specs.{Names.define_in, Words.number_of_name, declared.regions.Def.Def}
@@ -31,6 +31,6 @@ program_parameter region u token = do
   _ ← early 34 token (is_some file)
   define_file region token file
 
-abbrev pub program_parameters : ℕ → Option Parameters → Step (Unit {0})
+abbrev pub program_parameters : ℕ → Option ParametersTree → Step (Unit {0})
 program_parameters region None = give tt
 program_parameters region (Some p) = each_name (program_parameter region) tt p.names

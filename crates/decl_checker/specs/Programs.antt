@@ -1,7 +1,7 @@
 -- Programs (6.10).
 use Rattle.std.specs.Prelude.{ℕ, List, None, Some}
 use Rattle.pas_lexer.specs.Lexed.{Lexed}
-use Rattle.pas_tree.specs.declared.blocks.Tree.{Tree}
+use Rattle.pas_tree.specs.BlockTrees.{ProgramTree}
 use Rattle.core_program.specs.declared.program.Routine.{Routine}
 use Rattle.check_steps.specs.{Known.Known, Known.frame_at, Required.open_outermost, Words.known_at_start}
 use Rattle.check_steps.specs.Steps.{◌>>=◌, Step, add_routine, give, look, open_region}
@@ -28,14 +28,14 @@ open_program = do
   open_region 0 (Some outer) 0
 
 -- the program parameters are defined in the region of the program block
-unfoldable pub define_program : ℕ → Tree → Step (Unit {0})
+unfoldable pub define_program : ℕ → ProgramTree → Step (Unit {0})
 define_program frame t = do
   region ← look (λ k. (frame_at k frame).region)
   _ ← program_parameters region t.parameters
   define_block frame t.block
 
 -- A program, the frame of whose block is given. Its own name defines nothing.
-unfoldable pub program_step : Tree → Step ℕ
+unfoldable pub program_step : ProgramTree → Step ℕ
 program_step t = do
   frame ← open_program
   _ ← define_program frame t
@@ -44,9 +44,9 @@ program_step t = do
   give frame
 
 -- the rules that a tree breaks
-abbrev pub broken_early : Lexed → Tree → List Break
+abbrev pub broken_early : Lexed → ProgramTree → List Break
 broken_early l t = (program_step t (known_at_start l)).broken
 
 -- the tables that the check of a tree leaves
-abbrev pub tables_of : Lexed → Tree → Known
+abbrev pub tables_of : Lexed → ProgramTree → Known
 tables_of l t = (program_step t (known_at_start l)).known

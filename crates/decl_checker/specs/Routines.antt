@@ -1,10 +1,9 @@
 -- Blocks and their procedures and functions (6.2.1, 6.6).
-use Rattle.std.specs.Prelude.{if◌then◌else◌, ◌+◌, ℕ, Bool, List, None, Option, Some, false, nat_lt}
-use Rattle.pas_tree.specs.HeadingPlaces.{heading_name, heading_word}
-use Rattle.pas_tree.specs.declared.{headings.Heading.Heading, statements.Compound.out-Compound}
-use Rattle.pas_tree.specs.declared.blocks.{Block.items-the_row-Routine, Block.more_of-Routine, Routine.Routine}
-use Rattle.pas_tree.specs.declared.blocks.Block.{Block, Block' as BlockTree', Row_of-Routine, end_of-Routine}
-use Rattle.pas_tree.specs.declared.blocks.RoutineBody.{Block', Directive, RoutineBody}
+use Rattle.std.specs.Prelude.{if◌then◌else◌, ◌+◌, ℕ, Bool, None, Option, Some, false, nat_lt}
+use Rattle.pas_tree.specs.{BlockTrees.routine_tree, HeadingPlaces.heading_name, HeadingPlaces.heading_word}
+use Rattle.pas_tree.specs.{HeadingTrees.HeadingTree, StatementPlaces.compound_word, declared.blocks.Routine.Routine}
+use Rattle.pas_tree.specs.BlockTrees.{BlockTree, BodyTree, RoutineTree, RoutineTrees, routine_body, routine_heading}
+use Rattle.pas_tree.specs.BlockTrees as tree
 use Rattle.core_program.specs.{ProgramRows.frame_of, declared.program.Routine.Routine as RoutineRow}
 use Rattle.core_program.specs.declared.rows.{NameRow.NameRow, PartRow.PartRow, Row.Row}
 use Rattle.check_steps.specs.{Known.Known, Known.frame_at, Known.row_at, Regions.region_at}
@@ -27,16 +26,16 @@ open_routine frame name = do
   level ← look (λ k. one_deeper (frame_at k frame).level)
   open_region name (Some frame) level
 
-abbrev pub define_body : ℕ → RoutineBody → Step (Unit {0})
-define_body frame (Directive directive) = give tt
-define_body frame (Block' _ b) = define_block frame b
+abbrev pub define_body : ℕ → BodyTree → Step (Unit {0})
+define_body frame (tree.a_directive directive) = give tt
+define_body frame (tree.a_block_body b) = define_block frame b
 
-abbrev pub define_completion : ℕ → Option Routine → Step (Unit {0})
+abbrev pub define_completion : ℕ → Option RoutineTree → Step (Unit {0})
 define_completion frame None = give tt
-define_completion frame (Some r) = define_body frame r.body
+define_completion frame (Some r) = define_body frame (routine_body r)
 
 -- The formals and the block of a routine are one region; the block may be that of a later heading.
-unfoldable pub define_inside : ℕ → Heading → RoutineBody → Option Routine → Step (Unit {0})
+unfoldable pub define_inside : ℕ → HeadingTree → BodyTree → Option RoutineTree → Step (Unit {0})
 define_inside frame h body completion = do
   _ ← define_formals_at frame h
   _ ← define_body frame body
@@ -54,7 +53,7 @@ place_after_result function end = if function then frame_capped (end + 1) else e
 
 -- A routine whose block is not known so far, by the place after its parameters. Its own heading stands where its
 -- list of statements would.
-abbrev pub heading_row : Heading → ℕ → ℕ → RoutineRow
+abbrev pub heading_row : HeadingTree → ℕ → ℕ → RoutineRow
 heading_row h level end = record {
   name = heading_name h;
   heading = heading_word h;
@@ -66,7 +65,7 @@ heading_row h level end = record {
 }
 
 -- a new routine, by the place after its parameters; its number is given and stands at its name
-unfoldable pub add_heading : ℕ → Heading → ℕ → Step ℕ
+unfoldable pub add_heading : ℕ → HeadingTree → ℕ → Step ℕ
 add_heading frame h end = do
   here ← look (λ k. frame_at k frame)
   number ← add_routine (heading_row h here.level end)
@@ -74,14 +73,14 @@ add_heading frame h end = do
   give number
 
 -- a routine's first heading, seen from the frame around, among the routines of its part
-unfoldable pub first_heading : ℕ → List Routine → Routine → Step Entered
+unfoldable pub first_heading : ℕ → RoutineTrees → RoutineTree → Step Entered
 first_heading frame rs r = do
   completion ← look (λ k. completion_of k rs r)
   inner ← open_routine frame (routine_name r)
-  _ ← define_inside inner r.heading r.body completion
-  end ← signature frame inner r.heading
-  number ← add_heading inner r.heading end
-  give (record { number = number; frame = inner; place = place_after_result (is_function r.heading) end })
+  _ ← define_inside inner (routine_heading r) (routine_body r) completion
+  end ← signature frame inner (routine_heading r)
+  number ← add_heading inner (routine_heading r) end
+  give (record { number = number; frame = inner; place = place_after_result (is_function (routine_heading r)) end })
 
 -- ---- completing headings
 
@@ -102,12 +101,12 @@ resumed k name = record {
   place = frame_of k.program (routine_in (row_at k name) name);
 }
 
-abbrev pub enter_at : Option ℕ → ℕ → List Routine → Routine → Step Entered
+abbrev pub enter_at : Option ℕ → ℕ → RoutineTrees → RoutineTree → Step Entered
 enter_at None frame rs r = first_heading frame rs r
 enter_at (Some first) frame rs r = look (λ k. resumed k first)
 
 -- a routine at one of its headings
-unfoldable pub enter_heading : ℕ → List Routine → Routine → Step Entered
+unfoldable pub enter_heading : ℕ → RoutineTrees → RoutineTree → Step Entered
 enter_heading frame rs r = do
   first ← look (λ k. first_name (row_at k (routine_name r)))
   enter_at first frame rs r
@@ -116,29 +115,31 @@ enter_heading frame rs r = do
 
 abbrev mutual
   -- the block of the routine of a number, in its frame, with variables from a place on
-  pub block : ℕ → ℕ → ℕ → Block → Step (Unit {0})
-  block frame number place (BlockTree' labels constants types variables m routines body) = do
-    end ← parts frame place (BlockTree' labels constants types variables m routines body)
-    _ ← put_body number end (out-Compound body).begin
-    _ ← routines_in frame (items-the_row-Routine _ routines) routines
+  pub block : ℕ → ℕ → ℕ → BlockTree → Step (Unit {0})
+  block frame number place (tree.a_block labels constants types variables routines body) = do
+    end ← parts frame place (tree.a_block labels constants types variables routines body)
+    _ ← put_body number end (compound_word body)
+    _ ← routines_in frame routines routines
     compound_uses frame body
 
-  pub routines_in : ℕ → List Routine → {m : _} → Row_of-Routine m → Step (Unit {0})
-  routines_in frame rs end_of-Routine = give tt
-  routines_in frame rs (more_of-Routine heading semicolon body last_semicolon rest) = do
-    e ← enter_heading frame rs
-        (record { heading = heading; semicolon = semicolon; body = body; last_semicolon = last_semicolon })
-    _ ← body_in e body
+  -- routines in turn, seen from the frame around, among all those of their part
+  pub routines_in : ℕ → RoutineTrees → RoutineTrees → Step (Unit {0})
+  routines_in frame rs tree.end_of_routines = give tt
+  routines_in frame rs (tree.more_routines r rest) = do
+    _ ← routine frame rs r
     routines_in frame rs rest
 
-  pub body_in : Entered → RoutineBody → Step (Unit {0})
-  body_in e (Directive directive) = give tt
-  body_in e (Block' _ b) = block e.frame e.number e.place b
+  pub routine : ℕ → RoutineTrees → RoutineTree → Step (Unit {0})
+  routine frame rs (tree.a_routine heading semicolon body last_semicolon) = do
+    e ← enter_heading frame rs (tree.a_routine heading semicolon body last_semicolon)
+    body_in e body
 
--- ---- the same over lists
+  pub body_in : Entered → BodyTree → Step (Unit {0})
+  body_in e (tree.a_directive directive) = give tt
+  body_in e (tree.a_block_body b) = block e.frame e.number e.place b
 
--- a routine, seen from the frame around, among the routines of its part
-unfoldable pub routine : ℕ → List Routine → Unit {0} → Routine → Step (Unit {0})
-routine frame rs u r = do
-  e ← enter_heading frame rs r
-  body_in e r.body
+-- one more of what the code holds
+unfoldable pub next_routine : ℕ → RoutineTrees → Unit {0} → Routine → Step (Unit {0})
+next_routine frame rs u r = do
+  e ← enter_heading frame rs (routine_tree r)
+  body_in e (tree.body_tree r.body)

@@ -1,6 +1,8 @@
 //! The parts of a block: the names that they define, and what they say of constants, types and variables (6.2.1).
 
-ghost use Rattle.std.specs.Prelude.{◌≡◌, IfOk};
+ghost use Rattle.std.specs.Prelude.{◌≡◌, IfOk, option_map};
+ghost use Rattle.pas_tree.specs.{BlockTrees.variable_part_tree, StatementTrees.compound_tree};
+ghost use Rattle.pas_tree.specs.BlockTrees.{block_tree, constant_part_tree, routine_trees, type_part_tree};
 ghost use Rattle.check_steps.specs.Steps.{Does};
 ghost use Rattle.decl_checker.specs.Blocks.{after_types, constants, define_block, define_constants, define_types};
 ghost use Rattle.decl_checker.specs.Blocks.{define_variables, first_word, parts, put_body, put_held, types, variables};
@@ -23,7 +25,8 @@ fn define_constant_part(
     region: u32,
     part: &Option<ConstantPart>,
 ) -> Result<(), AllocError>
-    ensures { IfOk result (λ _. Does (define_constants region part.now) tt work.old work.new) }
+    ensures { IfOk result (λ _. Does (define_constants region (option_map constant_part_tree part.now)) tt work.old
+        work.new) }
 {
     match part {
         None => Ok(()),
@@ -33,7 +36,7 @@ fn define_constant_part(
 
 #[tactic(auto, using(check_steps::proofs::Runs::steps))]
 fn define_type_part(work: &mut Work, region: u32, part: &Option<TypePart>) -> Result<(), AllocError>
-    ensures { IfOk result (λ _. Does (define_types region part.now) tt work.old work.new) }
+    ensures { IfOk result (λ _. Does (define_types region (option_map type_part_tree part.now)) tt work.old work.new) }
 {
     match part {
         None => Ok(()),
@@ -47,7 +50,8 @@ fn define_variable_part(
     region: u32,
     part: &Option<VariablePart>,
 ) -> Result<(), AllocError>
-    ensures { IfOk result (λ _. Does (define_variables region part.now) tt work.old work.new) }
+    ensures { IfOk result (λ _. Does (define_variables region (option_map variable_part_tree part.now)) tt work.old
+        work.new) }
 {
     match part {
         None => Ok(()),
@@ -56,9 +60,9 @@ fn define_variable_part(
 }
 
 /// Defines all names of a block in the region of a frame.
-#[tactic(auto, using(check_steps::proofs::Runs::steps), unfolding(crate::specs::Blocks::define_block))]
+#[tactic(auto, using(check_steps::proofs::Runs::steps, pas_tree::proofs::BlockViews::block_view))]
 pub fn define_block(work: &mut Work, b: &Block, frame: u32) -> Result<(), AllocError>
-    ensures { IfOk result (λ _. Does (define_block frame b.now) tt work.old work.new) }
+    ensures { IfOk result (λ _. Does (define_block frame (block_tree b.now)) tt work.old work.new) }
 {
     let here = work.tables.frame(frame);
     define_labels(work, here, &b.labels)?;
@@ -71,7 +75,7 @@ pub fn define_block(work: &mut Work, b: &Block, frame: u32) -> Result<(), AllocE
 
 #[tactic(auto, using(check_steps::proofs::Runs::steps))]
 fn check_constant_part(work: &mut Work, frame: u32, part: &Option<ConstantPart>)
-    ensures { Does (constants frame part.now) tt work.old work.new }
+    ensures { Does (constants frame (option_map constant_part_tree part.now)) tt work.old work.new }
 {
     match part {
         None => {}
@@ -87,7 +91,7 @@ fn check_type_part(
     frame: u32,
     after: u32,
 ) -> Result<(), AllocError>
-    ensures { IfOk result (λ _. Does (types frame after part.now) tt work.old work.new) }
+    ensures { IfOk result (λ _. Does (types frame after (option_map type_part_tree part.now)) tt work.old work.new) }
 {
     match part {
         None => Ok(()),
@@ -103,7 +107,8 @@ fn check_variable_part(
     frame: u32,
     place: u32,
 ) -> Result<u32, AllocError>
-    ensures { IfOk result (λ end. Does (variables frame place part.now) end work.old work.new) }
+    ensures { IfOk result (λ end. Does (variables frame place (option_map variable_part_tree part.now)) end work.old
+        work.new) }
 {
     match part {
         None => Ok(place),
@@ -111,8 +116,9 @@ fn check_variable_part(
     }
 }
 
+#[tactic(auto, using(pas_tree::proofs::StatementViews::compound_view))]
 fn first_word(routines: &[Routine], body: &Compound) -> u32
-    ensures { result ≡ first_word routines.now body.now }
+    ensures { result ≡ first_word (routine_trees routines.now) (compound_tree body.now) }
 {
     match routines {
         [] => body.begin,
@@ -121,7 +127,8 @@ fn first_word(routines: &[Routine], body: &Compound) -> u32
 }
 
 fn word_after(variables: &Option<VariablePart>, routines: &[Routine], body: &Compound) -> u32
-    ensures { result ≡ word_after variables.now routines.now body.now }
+    ensures { result ≡ word_after (option_map variable_part_tree variables.now) (routine_trees routines.now)
+        (compound_tree body.now) }
 {
     match variables {
         None => first_word(routines, body),
@@ -130,15 +137,16 @@ fn word_after(variables: &Option<VariablePart>, routines: &[Routine], body: &Com
 }
 
 /// The token after the part of types of a block.
+#[tactic(auto, using(pas_tree::proofs::BlockViews::block_view))]
 pub fn after_types(b: &Block) -> u32
-    ensures { result ≡ after_types b.now }
+    ensures { result ≡ after_types (block_tree b.now) }
 {
     word_after(&b.variables, &b.routines, &b.body)
 }
 
 /// What the parts of a block say of constants, types and variables, seen from its frame, in which the variables have
 /// places from this one on. What is given is the place after them.
-#[tactic(auto, using(check_steps::proofs::Runs::steps), unfolding(crate::specs::Blocks::parts))]
+#[tactic(auto, using(check_steps::proofs::Runs::steps, pas_tree::proofs::BlockViews::block_view))]
 pub fn check_parts(
     work: &mut Work,
     alloc: Global,
@@ -146,7 +154,7 @@ pub fn check_parts(
     frame: u32,
     place: u32,
 ) -> Result<u32, AllocError>
-    ensures { IfOk result (λ end. Does (parts frame place b.now) end work.old work.new) }
+    ensures { IfOk result (λ end. Does (parts frame place (block_tree b.now)) end work.old work.new) }
 {
     check_constant_part(work, frame, &b.constants);
     let after = after_types(b);

@@ -1,6 +1,8 @@
 //! The names that expressions and accesses use (6.5, 6.7).
 
 ghost use Rattle.std.specs.Prelude.{◌≡◌};
+ghost use Rattle.pas_tree.specs.ExpressionTrees.{access_tree, arguments_tree, expression_tree, factor_tree, index_tree};
+ghost use Rattle.pas_tree.specs.ExpressionTrees.{member_tree, members_tree, selector_tree, simple_tree, term_tree};
 ghost use Rattle.check_steps.specs.Steps.{Does};
 ghost use Rattle.decl_checker.specs.Accesses.{access_type, access_uses, arguments_uses, expression_uses, factor_uses};
 ghost use Rattle.decl_checker.specs.Accesses.{indices, member_uses, members_uses, selector, simple_uses, term_uses};
@@ -13,9 +15,9 @@ use pas_tree::expressions::{
 
 /// Uses the names of an expression, seen from a frame.
 #[cycle(expressions)]
-#[tactic(auto, using(check_steps::proofs::Runs::steps, crate::proofs::Operands::expression_out))]
+#[tactic(auto, using(check_steps::proofs::Runs::steps, pas_tree::proofs::ExpressionViews::expression_view))]
 pub fn use_expression(work: &mut Work, e: &Expression, frame: u32)
-    ensures { Does (expression_uses frame e.now) tt work.old work.new }
+    ensures { Does (expression_uses frame (expression_tree e.now)) tt work.old work.new }
 {
     use_simple(work, &e.left, frame);
     match &e.relation {
@@ -25,9 +27,9 @@ pub fn use_expression(work: &mut Work, e: &Expression, frame: u32)
 }
 
 #[cycle(expressions)]
-#[tactic(auto, using(check_steps::proofs::Runs::steps, check_steps::proofs::Runs::loops, crate::proofs::Operands::simple_out, crate::proofs::Operands::next_term_out))]
+#[tactic(auto, using(check_steps::proofs::Runs::steps, check_steps::proofs::Runs::loops, pas_tree::proofs::ExpressionViews::simple_view, crate::proofs::Walks::terms_each))]
 fn use_simple(work: &mut Work, s: &Simple, frame: u32)
-    ensures { Does (simple_uses frame s.now) tt work.old work.new }
+    ensures { Does (simple_uses frame (simple_tree s.now)) tt work.old work.new }
 {
     use_term(work, &s.first, frame);
     'others: for other in &s.others {
@@ -36,9 +38,9 @@ fn use_simple(work: &mut Work, s: &Simple, frame: u32)
 }
 
 #[cycle(expressions)]
-#[tactic(auto, using(check_steps::proofs::Runs::steps, check_steps::proofs::Runs::loops, crate::proofs::Operands::term_out, crate::proofs::Operands::next_factor_out))]
+#[tactic(auto, using(check_steps::proofs::Runs::steps, check_steps::proofs::Runs::loops, pas_tree::proofs::ExpressionViews::term_view, crate::proofs::Walks::factors_each))]
 fn use_term(work: &mut Work, t: &Term, frame: u32)
-    ensures { Does (term_uses frame t.now) tt work.old work.new }
+    ensures { Does (term_uses frame (term_tree t.now)) tt work.old work.new }
 {
     use_factor(work, &t.first, frame);
     'others: for other in &t.others {
@@ -47,9 +49,9 @@ fn use_term(work: &mut Work, t: &Term, frame: u32)
 }
 
 #[cycle(expressions)]
-#[tactic(auto, using(check_steps::proofs::Runs::steps, crate::proofs::Operands::access_factor), unfolding(crate::specs::Accesses::access_uses))]
+#[tactic(auto, using(check_steps::proofs::Runs::steps, pas_tree::proofs::ExpressionViews::access_view))]
 fn use_factor(work: &mut Work, f: &Factor, frame: u32)
-    ensures { Does (factor_uses frame f.now) tt work.old work.new }
+    ensures { Does (factor_uses frame (factor_tree f.now)) tt work.old work.new }
 {
     match f {
         Factor::Number(_) => {}
@@ -71,9 +73,9 @@ fn use_factor(work: &mut Work, f: &Factor, frame: u32)
 /// Uses the names of an access, seen from a frame, and gives the type of what is accessed. Where it is unknown, that is
 /// a number at which no type stands.
 #[cycle(expressions)]
-#[tactic(auto, using(check_steps::proofs::Runs::steps, check_steps::proofs::Runs::loops), unfolding(crate::specs::Accesses::access_type))]
+#[tactic(auto, using(check_steps::proofs::Runs::steps, check_steps::proofs::Runs::loops, crate::proofs::Walks::selected_each))]
 pub fn check_access(work: &mut Work, a: &Access, frame: u32) -> u32
-    ensures { Does (access_type frame a.now) result work.old work.new }
+    ensures { Does (access_type frame (access_tree a.now)) result work.old work.new }
 {
     let mut part = use_variable(work, frame, a.name);
     'selectors: for selector in &a.selectors {
@@ -85,7 +87,7 @@ pub fn check_access(work: &mut Work, a: &Access, frame: u32) -> u32
 #[cycle(expressions)]
 #[tactic(auto, using(check_steps::proofs::Runs::steps))]
 fn check_selector(work: &mut Work, s: &Selector, frame: u32, unknown: u32, kind: u32) -> u32
-    ensures { Does (selector frame unknown kind s.now) result work.old work.new }
+    ensures { Does (selector frame unknown kind (selector_tree s.now)) result work.old work.new }
 {
     match s {
         Selector::Index(index) => check_indices(work, index, frame, unknown, kind),
@@ -95,9 +97,9 @@ fn check_selector(work: &mut Work, s: &Selector, frame: u32, unknown: u32, kind:
 }
 
 #[cycle(expressions)]
-#[tactic(auto, using(check_steps::proofs::Runs::steps, check_steps::proofs::Runs::loops, crate::proofs::Operands::indices_out, crate::proofs::Operands::next_index_out))]
+#[tactic(auto, using(check_steps::proofs::Runs::steps, check_steps::proofs::Runs::loops, pas_tree::proofs::ExpressionViews::index_view, crate::proofs::Walks::indices_each))]
 fn check_indices(work: &mut Work, x: &Index, frame: u32, unknown: u32, kind: u32) -> u32
-    ensures { Does (indices frame unknown kind x.now) result work.old work.new }
+    ensures { Does (indices frame unknown kind (index_tree x.now)) result work.old work.new }
 {
     use_expression(work, &x.first, frame);
     let mut part = component(work, unknown, kind);
@@ -109,9 +111,9 @@ fn check_indices(work: &mut Work, x: &Index, frame: u32, unknown: u32, kind: u32
 }
 
 #[cycle(expressions)]
-#[tactic(auto, using(check_steps::proofs::Runs::steps, check_steps::proofs::Runs::loops, crate::proofs::Operands::arguments_out, crate::proofs::Operands::next_argument_out))]
+#[tactic(auto, using(check_steps::proofs::Runs::steps, check_steps::proofs::Runs::loops, pas_tree::proofs::ExpressionViews::arguments_view, crate::proofs::Walks::arguments_each))]
 fn use_arguments(work: &mut Work, a: &Arguments, frame: u32)
-    ensures { Does (arguments_uses frame a.now) tt work.old work.new }
+    ensures { Does (arguments_uses frame (arguments_tree a.now)) tt work.old work.new }
 {
     use_expression(work, &a.first, frame);
     'others: for other in &a.others {
@@ -120,9 +122,9 @@ fn use_arguments(work: &mut Work, a: &Arguments, frame: u32)
 }
 
 #[cycle(expressions)]
-#[tactic(auto, using(check_steps::proofs::Runs::steps, check_steps::proofs::Runs::loops, crate::proofs::Operands::some_members_out, crate::proofs::Operands::next_member_out))]
+#[tactic(auto, using(check_steps::proofs::Runs::steps, check_steps::proofs::Runs::loops, pas_tree::proofs::ExpressionViews::members_view, crate::proofs::Walks::members_each))]
 fn use_members(work: &mut Work, m: &Members, frame: u32)
-    ensures { Does (members_uses frame m.now) tt work.old work.new }
+    ensures { Does (members_uses frame (members_tree m.now)) tt work.old work.new }
 {
     match m {
         Members::Empty(_, _) => {}
@@ -136,9 +138,9 @@ fn use_members(work: &mut Work, m: &Members, frame: u32)
 }
 
 #[cycle(expressions)]
-#[tactic(auto, using(check_steps::proofs::Runs::steps, crate::proofs::Operands::member_out))]
+#[tactic(auto, using(check_steps::proofs::Runs::steps, pas_tree::proofs::ExpressionViews::member_view))]
 fn use_member(work: &mut Work, m: &Member, frame: u32)
-    ensures { Does (member_uses frame m.now) tt work.old work.new }
+    ensures { Does (member_uses frame (member_tree m.now)) tt work.old work.new }
 {
     use_expression(work, &m.first, frame);
     match &m.last {
@@ -148,9 +150,9 @@ fn use_member(work: &mut Work, m: &Member, frame: u32)
 }
 
 /// Uses the names of an access, seen from a frame.
-#[tactic(auto, using(check_steps::proofs::Runs::steps), unfolding(crate::specs::Accesses::access_uses))]
+#[tactic(auto, using(check_steps::proofs::Runs::steps))]
 pub fn use_access(work: &mut Work, a: &Access, frame: u32)
-    ensures { Does (access_uses frame a.now) tt work.old work.new }
+    ensures { Does (access_uses frame (access_tree a.now)) tt work.old work.new }
 {
     check_access(work, a, frame);
 }

@@ -1,6 +1,7 @@
 //! Label declarations (6.2.1).
 
-ghost use Rattle.std.specs.Prelude.{◌≡◌, IfOk};
+ghost use Rattle.std.specs.Prelude.{◌≡◌, IfOk, option_map};
+ghost use Rattle.pas_tree.specs.BlockTrees.{label_part_tree};
 ghost use Rattle.check_steps.specs.Steps.{Does, each};
 ghost use Rattle.decl_checker.specs.Labels.{define_label, define_labels, define_next_label};
 
@@ -50,7 +51,7 @@ pub fn define_labels(
     here: Frame,
     part: &Option<LabelPart>,
 ) -> Result<(), AllocError>
-    ensures { IfOk result (λ _. Does (define_labels here part.now) tt work.old work.new) }
+    ensures { IfOk result (λ _. Does (define_labels here (option_map label_part_tree part.now)) tt work.old work.new) }
 {
     match part {
         None => Ok(()),

@@ -1,6 +1,7 @@
 //! Program parameters (6.10).
 
-ghost use Rattle.std.specs.Prelude.{◌≡◌, IfOk};
+ghost use Rattle.std.specs.Prelude.{◌≡◌, IfOk, option_map};
+ghost use Rattle.pas_tree.specs.{BlockTrees.parameters_tree, ConstantTrees.names_tree};
 ghost use Rattle.check_steps.specs.Steps.{Does, each};
 ghost use Rattle.kind_checker.specs.Names.{each_name, on_name};
 ghost use Rattle.decl_checker.specs.Parameters.{define_file, program_parameter, program_parameters, spells};
@@ -87,7 +88,8 @@ fn check_more_parameters(work: &mut Work, region: u32, names: &[NextName]) -> Re
 
 #[tactic(auto, using(check_steps::proofs::Runs::steps))]
 fn check_names(work: &mut Work, region: u32, names: &Names) -> Result<(), AllocError>
-    ensures { IfOk result (λ _. Does (each_name (program_parameter region) tt names.now) tt work.old work.new) }
+    ensures { IfOk result (λ _. Does (each_name (program_parameter region) tt (names_tree names.now)) tt work.old
+        work.new) }
 {
     check_parameter(work, region, names.first)?;
     check_more_parameters(work, region, &names.others)?;
@@ -101,7 +103,8 @@ pub fn check_parameters(
     region: u32,
     part: &Option<Parameters>,
 ) -> Result<(), AllocError>
-    ensures { IfOk result (λ _. Does (program_parameters region part.now) tt work.old work.new) }
+    ensures { IfOk result (λ _. Does (program_parameters region (option_map parameters_tree part.now)) tt work.old
+        work.new) }
 {
     match part {
         None => Ok(()),

@@ -1,6 +1,7 @@
 //! Programs (6.10), and what is answered of their declarations.
 
 ghost use Rattle.std.specs.Prelude.{◌≡◌, IfErr, IfOk};
+ghost use Rattle.pas_tree.specs.BlockTrees.{program_tree};
 ghost use Rattle.check_steps.specs.Steps.{Does};
 ghost use Rattle.decl_checker.specs.{Answers.EarlyFaultIs, Answers.IsWithoutEarly, Programs.tables_of};
 ghost use Rattle.decl_checker.specs.Programs.{broken_early, define_program, main_row, open_program, program_step};
@@ -43,7 +44,7 @@ fn open_program(work: &mut Work, alloc: Global) -> Result<u32, AllocError>
 
 #[tactic(auto, using(check_steps::proofs::Runs::steps), unfolding(crate::specs::Programs::define_program))]
 fn define_program(work: &mut Work, tree: &Tree, frame: u32) -> Result<(), AllocError>
-    ensures { IfOk result (λ _. Does (define_program frame tree.now) tt work.old work.new) }
+    ensures { IfOk result (λ _. Does (define_program frame (program_tree tree.now)) tt work.old work.new) }
 {
     let region = work.tables.frame(frame).region;
     check_parameters(work, region, &tree.parameters)?;
@@ -54,7 +55,7 @@ fn define_program(work: &mut Work, tree: &Tree, frame: u32) -> Result<(), AllocE
 /// The declarations of a program, and the names in its statements; the frame of its block is given.
 #[tactic(auto, using(check_steps::proofs::Runs::steps), unfolding(crate::specs::Programs::program_step))]
 pub fn check_program(work: &mut Work, alloc: Global, tree: &Tree) -> Result<u32, AllocError>
-    ensures { IfOk result (λ frame. Does (program_step tree.now) frame work.old work.new) }
+    ensures { IfOk result (λ frame. Does (program_step (program_tree tree.now)) frame work.old work.new) }
 {
     let frame = open_program(work, alloc)?;
     define_program(work, tree, frame)?;
@@ -72,9 +73,9 @@ pub fn check_program(work: &mut Work, alloc: Global, tree: &Tree) -> Result<u32,
 /// from declarations and names alone: that at the first token, and at one token that of the least number. The tree is
 /// the formed one that spells the tokens. It never answers `TooBig`.
 pub fn declare(alloc: Global, tokens: &Tokens, tree: &Tree) -> Result<Scopes, CheckFault>
-    ensures tables { IfOk result (λ s. s ≡ tables_of tokens.now tree.now) }
-    ensures unbroken { IfOk result (λ _. IsWithoutEarly (broken_early tokens.now tree.now)) }
-    ensures fault { IfErr result (EarlyFaultIs (broken_early tokens.now tree.now)) }
+    ensures tables { IfOk result (λ s. s ≡ tables_of tokens.now (program_tree tree.now)) }
+    ensures unbroken { IfOk result (λ _. IsWithoutEarly (broken_early tokens.now (program_tree tree.now))) }
+    ensures fault { IfErr result (EarlyFaultIs (broken_early tokens.now (program_tree tree.now))) }
 {
     let mut work = Work::new(alloc, tokens)?;
     check_program(&mut work, alloc, tree)?;

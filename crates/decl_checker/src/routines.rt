@@ -1,11 +1,13 @@
 //! Blocks and their procedures and functions (6.2.1, 6.6).
 
-ghost use Rattle.std.specs.Prelude.{◌≡◌, IfOk, option_copied};
+ghost use Rattle.std.specs.Prelude.{◌≡◌, IfOk, option_copied, option_map};
+ghost use Rattle.pas_tree.specs.BlockTrees.{block_tree, body_tree, routine_tree, routine_trees};
+ghost use Rattle.pas_tree.specs.HeadingTrees.{heading_tree};
 ghost use Rattle.check_steps.specs.Steps.{Does, each};
 ghost use Rattle.decl_checker.specs.Routines.{add_heading, block, body_in, define_body, define_completion};
 ghost use Rattle.decl_checker.specs.Routines.{define_inside, enter_heading, first_heading, first_name, heading_row};
-ghost use Rattle.decl_checker.specs.Routines.{one_deeper, open_routine, own_frame, place_after_result, result_place};
-ghost use Rattle.decl_checker.specs.Routines.{resumed, routine};
+ghost use Rattle.decl_checker.specs.Routines.{next_routine, one_deeper, open_routine, own_frame, place_after_result};
+ghost use Rattle.decl_checker.specs.Routines.{result_place, resumed};
 
 use crate::blocks::{check_parts, define_block, put_body};
 use crate::scopes::{routine_in, routine_region};
@@ -47,7 +49,7 @@ fn open_routine(work: &mut Work, alloc: Global, frame: u32, name: u32) -> Result
 
 #[tactic(auto, using(check_steps::proofs::Runs::steps))]
 fn define_body(work: &mut Work, body: &RoutineBody, frame: u32) -> Result<(), AllocError>
-    ensures { IfOk result (λ _. Does (define_body frame body.now) tt work.old work.new) }
+    ensures { IfOk result (λ _. Does (define_body frame (body_tree body.now)) tt work.old work.new) }
 {
     match body {
         RoutineBody::Directive(_) => Ok(()),
@@ -61,7 +63,8 @@ fn define_completion(
     completion: Option<&Routine>,
     frame: u32,
 ) -> Result<(), AllocError>
-    ensures { IfOk result (λ _. Does (define_completion frame (option_copied completion.entry)) tt work.old work.new) }
+    ensures { IfOk result (λ _. Does (define_completion frame
+        (option_map routine_tree (option_copied completion.entry))) tt work.old work.new) }
 {
     match completion {
         None => Ok(()),
@@ -78,7 +81,8 @@ fn define_inside(
     frame: u32,
 ) -> Result<(), AllocError>
     ensures { IfOk result (λ _. Does
-        (define_inside frame routine.now.heading routine.now.body (option_copied completion.entry)) tt
+        (define_inside frame (heading_tree routine.now.heading) (body_tree routine.now.body)
+        (option_map routine_tree (option_copied completion.entry))) tt
         work.old work.new) }
 {
     define_formals_at(work, frame, &routine.heading)?;
@@ -103,7 +107,7 @@ fn place_after_result(function: bool, end: u32) -> u32
 
 /// A routine of which only the heading is known, by the place after its parameters.
 fn heading_row(heading: &Heading, level: u32, end: u32) -> RoutineRow
-    ensures { result ≡ heading_row heading.now level end }
+    ensures { result ≡ heading_row (heading_tree heading.now) level end }
 {
     RoutineRow {
         name: heading_name(heading),
@@ -119,7 +123,7 @@ fn heading_row(heading: &Heading, level: u32, end: u32) -> RoutineRow
 /// A new routine, by the place after its parameters. Its number is put down at its name.
 #[tactic(auto, using(check_steps::proofs::Runs::steps), unfolding(crate::specs::Routines::add_heading))]
 fn add_heading(work: &mut Work, frame: u32, heading: &Heading, end: u32) -> Result<u32, AllocError>
-    ensures { IfOk result (λ number. Does (add_heading frame heading.now end) number work.old work.new) }
+    ensures { IfOk result (λ number. Does (add_heading frame (heading_tree heading.now) end) number work.old work.new) }
 {
     let here = work.tables.frame(frame);
     let number = work.add_routine(heading_row(heading, here.level, end))?;
@@ -141,7 +145,8 @@ fn enter_first(
     routines: &[Routine],
     frame: u32,
 ) -> Result<Entered, AllocError>
-    ensures { IfOk result (λ e. Does (first_heading frame routines.now routine.now) e work.old work.new) }
+    ensures { IfOk result (λ e. Does (first_heading frame (routine_trees routines.now) (routine_tree routine.now)) e
+        work.old work.new) }
 {
     let completion = completion_of(&work.tables, routines, routine);
     let inner = open_routine(work, alloc, frame, heading_name(&routine.heading))?;
@@ -192,7 +197,8 @@ fn enter(
     routines: &[Routine],
     frame: u32,
 ) -> Result<Entered, AllocError>
-    ensures { IfOk result (λ e. Does (enter_heading frame routines.now routine.now) e work.old work.new) }
+    ensures { IfOk result (λ e. Does (enter_heading frame (routine_trees routines.now) (routine_tree routine.now)) e
+        work.old work.new) }
 {
     match first_name(work.tables.row(heading_name(&routine.heading))) {
         None => enter_first(work, alloc, routine, routines, frame),
@@ -202,14 +208,15 @@ fn enter(
 
 /// The block of the routine of a number, in its frame, with variables from a place on.
 #[cycle(blocks)]
-#[tactic(auto, using(check_steps::proofs::Runs::steps, crate::proofs::BlockRolls::block_out))]
+#[tactic(auto, using(check_steps::proofs::Runs::steps, pas_tree::proofs::BlockViews::block_view, pas_tree::proofs::StatementViews::compound_view, crate::proofs::Walks::routines_each))]
 pub fn check_block(
     work: &mut Work,
     alloc: Global,
     b: &Block,
     entered: Entered,
 ) -> Result<(), AllocError>
-    ensures { IfOk result (λ _. Does (block entered.frame entered.number entered.place b.now) tt work.old work.new) }
+    ensures { IfOk result (λ _. Does (block entered.frame entered.number entered.place (block_tree b.now)) tt work.old
+        work.new) }
 {
     let end = check_parts(work, alloc, b, entered.frame, entered.place)?;
     put_body(work, entered.number, end, b.body.begin);
@@ -226,7 +233,8 @@ fn check_routines(
     routines: &[Routine],
     frame: u32,
 ) -> Result<(), AllocError>
-    ensures { IfOk result (λ _. Does (each (routine frame routines.now) tt routines.now) tt work.old work.new) }
+    ensures { IfOk result (λ _. Does (each (next_routine frame (routine_trees routines.now)) tt routines.now) tt
+        work.old work.new) }
 {
     'routines: for routine in routines {
         let entered = enter(work, alloc, routine, routines, frame)?;
@@ -243,7 +251,7 @@ fn check_body(
     body: &RoutineBody,
     entered: Entered,
 ) -> Result<(), AllocError>
-    ensures { IfOk result (λ _. Does (body_in entered body.now) tt work.old work.new) }
+    ensures { IfOk result (λ _. Does (body_in entered (body_tree body.now)) tt work.old work.new) }
 {
     match body {
         RoutineBody::Directive(_) => Ok(()),

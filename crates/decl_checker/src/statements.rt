@@ -1,6 +1,9 @@
 //! The names that statements use (6.8).
 
-ghost use Rattle.std.specs.Prelude.{◌≡◌, IfOk};
+ghost use Rattle.std.specs.Prelude.{◌≡◌, IfOk, option_map};
+ghost use Rattle.pas_tree.specs.{ExpressionTrees.access_tree, StatementTrees.width_tree};
+ghost use Rattle.pas_tree.specs.StatementTrees.{actual_tree, actuals_tree, assignment_tree, case_tree, compound_tree};
+ghost use Rattle.pas_tree.specs.StatementTrees.{held_actuals_tree, if_tree, plain_tree, repeat_tree, statements_tree};
 ghost use Rattle.check_steps.specs.Steps.{Does, each};
 ghost use Rattle.decl_checker.specs.Statements.{actual_uses, actuals_uses, assignment_uses, case_uses, compound_uses};
 ghost use Rattle.decl_checker.specs.Statements.{fields_in, if_uses, inside_access, inside_next, next_actual};
@@ -21,7 +24,7 @@ use std::alloc::AllocError;
 
 #[tactic(auto, using(check_steps::proofs::Runs::steps), unfolding(crate::specs::Statements::assignment_uses))]
 fn use_assignment(work: &mut Work, a: &Assignment, frame: u32)
-    ensures { Does (assignment_uses frame a.now) tt work.old work.new }
+    ensures { Does (assignment_uses frame (assignment_tree a.now)) tt work.old work.new }
 {
     use_access(work, &a.target, frame);
     use_expression(work, &a.value, frame);
@@ -29,7 +32,7 @@ fn use_assignment(work: &mut Work, a: &Assignment, frame: u32)
 
 #[tactic(auto, using(check_steps::proofs::Runs::steps))]
 fn use_width(work: &mut Work, width: &Option<Width>, frame: u32)
-    ensures { Does (width_uses frame width.now) tt work.old work.new }
+    ensures { Does (width_uses frame (option_map width_tree width.now)) tt work.old work.new }
 {
     match width {
         None => {}
@@ -39,13 +42,13 @@ fn use_width(work: &mut Work, width: &Option<Width>, frame: u32)
 
 #[tactic(auto, using(check_steps::proofs::Runs::steps), unfolding(crate::specs::Statements::actual_uses))]
 fn use_actual(work: &mut Work, a: &Actual, frame: u32)
-    ensures { Does (actual_uses frame a.now) tt work.old work.new }
+    ensures { Does (actual_uses frame (actual_tree a.now)) tt work.old work.new }
 {
     use_expression(work, &a.expression, frame);
     use_width(work, &a.width, frame);
 }
 
-#[tactic(auto, using(check_steps::proofs::Runs::loops, crate::proofs::Sequences::next_actual_out))]
+#[tactic(auto, using(check_steps::proofs::Runs::loops))]
 fn use_more_actuals(work: &mut Work, others: &[NextActual], frame: u32)
     ensures { Does (each (next_actual frame) tt others.now) tt work.old work.new }
 {
@@ -54,9 +57,9 @@ fn use_more_actuals(work: &mut Work, others: &[NextActual], frame: u32)
     }
 }
 
-#[tactic(auto, using(check_steps::proofs::Runs::steps), unfolding(crate::specs::Statements::some_actuals_uses))]
+#[tactic(auto, using(check_steps::proofs::Runs::steps, crate::proofs::Walks::actuals_each), unfolding(crate::specs::Statements::some_actuals_uses))]
 fn use_some_actuals(work: &mut Work, a: &Actuals, frame: u32)
-    ensures { Does (some_actuals_uses frame a.now) tt work.old work.new }
+    ensures { Does (some_actuals_uses frame (actuals_tree a.now)) tt work.old work.new }
 {
     use_actual(work, &a.first, frame);
     use_more_actuals(work, &a.others, frame);
@@ -64,7 +67,7 @@ fn use_some_actuals(work: &mut Work, a: &Actuals, frame: u32)
 
 #[tactic(auto, using(check_steps::proofs::Runs::steps))]
 fn use_actuals(work: &mut Work, actuals: &Option<Box<Actuals>>, frame: u32)
-    ensures { Does (actuals_uses frame actuals.now) tt work.old work.new }
+    ensures { Does (actuals_uses frame (held_actuals_tree actuals.now)) tt work.old work.new }
 {
     match actuals {
         None => {}
@@ -104,7 +107,7 @@ pub fn open_fields(work: &mut Work, frame: u32, region: u32) -> Result<u32, Allo
 
 #[tactic(auto, using(check_steps::proofs::Runs::steps), unfolding(crate::specs::Statements::inside_access))]
 fn open_access(work: &mut Work, a: &Access, frame: u32) -> Result<u32, AllocError>
-    ensures { IfOk result (λ n. Does (inside_access frame a.now) n work.old work.new) }
+    ensures { IfOk result (λ n. Does (inside_access frame (access_tree a.now)) n work.old work.new) }
 {
     let kind = check_access(work, a, frame);
     match fields_in(work.tables.type_row(kind)) {
@@ -113,7 +116,7 @@ fn open_access(work: &mut Work, a: &Access, frame: u32) -> Result<u32, AllocErro
     }
 }
 
-#[tactic(auto, using(check_steps::proofs::Runs::loops, crate::proofs::Sequences::inside_next_out))]
+#[tactic(auto, using(check_steps::proofs::Runs::loops))]
 fn open_more_accesses(work: &mut Work, others: &[NextAccess], frame: u32) -> Result<u32, AllocError>
     ensures { IfOk result (λ n. Does (each inside_next frame others.now) n work.old work.new) }
 {
@@ -125,9 +128,9 @@ fn open_more_accesses(work: &mut Work, others: &[NextAccess], frame: u32) -> Res
 }
 
 #[cycle(statements)]
-#[tactic(auto, using(check_steps::proofs::Runs::steps))]
+#[tactic(auto, using(check_steps::proofs::Runs::steps, crate::proofs::Walks::accesses_each))]
 fn use_plain(work: &mut Work, p: &Plain, frame: u32) -> Result<(), AllocError>
-    ensures { IfOk result (λ _. Does (plain_uses frame p.now) tt work.old work.new) }
+    ensures { IfOk result (λ _. Does (plain_uses frame (plain_tree p.now)) tt work.old work.new) }
 {
     match p {
         Plain::Empty => Ok(()),
@@ -165,17 +168,17 @@ fn use_plain(work: &mut Work, p: &Plain, frame: u32) -> Result<(), AllocError>
 
 /// Uses the names of a compound statement, seen from a frame.
 #[cycle(statements)]
-#[tactic(auto, using(check_steps::proofs::Runs::steps, crate::proofs::Sequences::statement_outs))]
+#[tactic(auto, using(check_steps::proofs::Runs::steps, pas_tree::proofs::StatementViews::statement_views))]
 pub fn use_compound(work: &mut Work, c: &Compound, frame: u32) -> Result<(), AllocError>
-    ensures { IfOk result (λ _. Does (compound_uses frame c.now) tt work.old work.new) }
+    ensures { IfOk result (λ _. Does (compound_uses frame (compound_tree c.now)) tt work.old work.new) }
 {
     use_statements(work, &c.statements, frame)
 }
 
 #[cycle(statements)]
-#[tactic(auto, using(check_steps::proofs::Runs::steps, check_steps::proofs::Runs::loops, crate::proofs::Sequences::statements_out, crate::proofs::Sequences::next_statement_out))]
+#[tactic(auto, using(check_steps::proofs::Runs::steps, check_steps::proofs::Runs::loops, pas_tree::proofs::StatementViews::statements_view, crate::proofs::Walks::statements_each))]
 fn use_statements(work: &mut Work, s: &Statements, frame: u32) -> Result<(), AllocError>
-    ensures { IfOk result (λ _. Does (statements_uses frame s.now) tt work.old work.new) }
+    ensures { IfOk result (λ _. Does (statements_uses frame (statements_tree s.now)) tt work.old work.new) }
 {
     use_plain(work, &s.first.plain, frame)?;
     'others: for other in &s.others {
@@ -185,9 +188,9 @@ fn use_statements(work: &mut Work, s: &Statements, frame: u32) -> Result<(), All
 }
 
 #[cycle(statements)]
-#[tactic(auto, using(check_steps::proofs::Runs::steps, crate::proofs::Sequences::statement_outs))]
+#[tactic(auto, using(check_steps::proofs::Runs::steps, pas_tree::proofs::StatementViews::statement_views))]
 fn use_if(work: &mut Work, x: &If, frame: u32) -> Result<(), AllocError>
-    ensures { IfOk result (λ _. Does (if_uses frame x.now) tt work.old work.new) }
+    ensures { IfOk result (λ _. Does (if_uses frame (if_tree x.now)) tt work.old work.new) }
 {
     use_expression(work, &x.condition, frame);
     use_plain(work, &x.statement.plain, frame)?;
@@ -198,9 +201,9 @@ fn use_if(work: &mut Work, x: &If, frame: u32) -> Result<(), AllocError>
 }
 
 #[cycle(statements)]
-#[tactic(auto, using(check_steps::proofs::Runs::steps, check_steps::proofs::Runs::loops, crate::proofs::Sequences::case_out, crate::proofs::Sequences::next_branch_out))]
+#[tactic(auto, using(check_steps::proofs::Runs::steps, check_steps::proofs::Runs::loops, pas_tree::proofs::StatementViews::case_view, crate::proofs::Walks::branches_each))]
 fn use_case(work: &mut Work, x: &Case, frame: u32) -> Result<(), AllocError>
-    ensures { IfOk result (λ _. Does (case_uses frame x.now) tt work.old work.new) }
+    ensures { IfOk result (λ _. Does (case_uses frame (case_tree x.now)) tt work.old work.new) }
 {
     use_expression(work, &x.selector, frame);
     use_constants(work, &x.first.constants, frame);
@@ -213,9 +216,9 @@ fn use_case(work: &mut Work, x: &Case, frame: u32) -> Result<(), AllocError>
 }
 
 #[cycle(statements)]
-#[tactic(auto, using(check_steps::proofs::Runs::steps, crate::proofs::Sequences::statement_outs))]
+#[tactic(auto, using(check_steps::proofs::Runs::steps, pas_tree::proofs::StatementViews::statement_views))]
 fn use_repeat(work: &mut Work, x: &Repeat, frame: u32) -> Result<(), AllocError>
-    ensures { IfOk result (λ _. Does (repeat_uses frame x.now) tt work.old work.new) }
+    ensures { IfOk result (λ _. Does (repeat_uses frame (repeat_tree x.now)) tt work.old work.new) }
 {
     use_statements(work, &x.statements, frame)?;
     use_expression(work, &x.condition, frame);

@@ -1,4 +1,2 @@
-pub mod DefineRolls
 pub mod DomainSteps
-pub mod HeadingRolls
-pub mod RecordRolls
+pub mod Walks

@@ -1,22 +1,19 @@
 -- Headings (6.6.1, 6.6.2): what formal parameters and results are, and where a frame has them.
 use Rattle.std.specs.Prelude.{if◌then◌else◌, ◌+◌, ℕ, Bool, None, Option, Some, false, length, nat_le, nat_lt, true}
+use Rattle.pas_tree.specs.{ConstantTrees.NamesTree, SchemaPlaces.first_of_schema, SchemaTrees.FormalTypeTree}
 use Rattle.pas_tree.specs.HeadingPlaces.{heading_name, heading_word}
-use Rattle.pas_tree.specs.declared.{constants.Names.Names, headings.Formals.more_of-NextFormal}
-use Rattle.pas_tree.specs.declared.headings.{FormalNames.FormalNames, NextFormal.NextFormal, ResultType.ResultType}
-use Rattle.pas_tree.specs.declared.headings.Formal.{Formal, Routine', Value, Variable}
-use Rattle.pas_tree.specs.declared.headings.Formals.{Formals, Formals', Row_of-NextFormal, end_of-NextFormal}
-use Rattle.pas_tree.specs.declared.headings.FunctionHeading.{FunctionHeading, FunctionHeading'}
-use Rattle.pas_tree.specs.declared.headings.FunctionHeading.{Held-FunctionHeading-formals, None', Some'}
-use Rattle.pas_tree.specs.declared.headings.Heading.{Function, Heading, Procedure}
-use Rattle.pas_tree.specs.declared.headings.ProcedureHeading.{ProcedureHeading, ProcedureHeading'}
+use Rattle.pas_tree.specs.HeadingTrees.{FormalNamesTree, FormalTree, FormalTrees, FormalsTree, FunctionTree}
+use Rattle.pas_tree.specs.HeadingTrees.{HeadingTree, HeldFormals, ProcedureTree}
+use Rattle.pas_tree.specs.HeadingTrees as tree
+use Rattle.pas_tree.specs.SchemaTrees as schemas
+use Rattle.pas_tree.specs.declared.headings.{NextFormal.NextFormal, ResultType.ResultType}
 use Rattle.core_program.specs.{ProgramRows.size_of, declared.rows.TypeRow.TypeRow}
 use Rattle.core_program.specs.declared.rows.{ItemRow.ItemRow, Mode.Mode, NameRow.NameRow, PartRow.PartRow, Row.Row}
 use Rattle.core_program.specs.declared.rows.TypeRow.TheVariants.{Ordinal, Pointer, Subrange}
 use Rattle.check_steps.specs.Known.{frame_at, type_at}
-use Rattle.check_steps.specs.Steps.{◌>>=◌, Step, each_back, early, give, late, look, open_region, put, too_big}
+use Rattle.check_steps.specs.Steps.{◌>>=◌, Step, early, give, late, look, open_region, put, too_big}
 use Rattle.kind_checker.specs.{Names.each_name, Sizes.frame_capped, Types.named_type}
-use Rattle.denoter_checker.specs.Formals.{define_formals_at, first_formal, held_formals, is_complete}
-use Rattle.denoter_checker.specs.Formals.{opening_parenthesis, other_formals}
+use Rattle.denoter_checker.specs.Formals.{define_formals_at, is_complete}
 
 -- ---- value and variable parameters
 
@@ -39,17 +36,29 @@ parameter m level t at name = do
   cells ← cells_of m t name
   give (frame_capped (at + cells))
 
--- The parameters of a section. Rules 1 and 3: their type's name is to stand for a type.
-unfoldable pub parameters : Mode → ℕ → ℕ → FormalNames → Step ℕ
+-- No schema is taken: rule 1, at its first token, as if a type were named there that no region defines. No type stands
+-- there.
+unfoldable pub untaken : ℕ → Step ℕ
+untaken first = do
+  _ ← early 1 first false
+  give first
+
+-- rules 1 and 3: the name of a type is to stand for one
+abbrev pub formal_type : ℕ → FormalTypeTree → Step ℕ
+formal_type frame (schemas.a_formal_name n) = named_type frame n
+formal_type frame (schemas.a_schema s) = untaken (first_of_schema s)
+
+-- the parameters of a section
+unfoldable pub parameters : Mode → ℕ → ℕ → FormalNamesTree → Step ℕ
 parameters m frame at f = do
   level ← look (λ k. (frame_at k frame).level)
-  t ← named_type frame f.name
+  t ← formal_type frame f.of_type
   each_name (parameter m level t) at f.names
 
 -- ---- headings among formals
 
 -- Rule 9: a function heading without result type completes nothing among formals.
-unfoldable pub routine_formal : ℕ → ℕ → Heading → Step (Unit {0})
+unfoldable pub routine_formal : ℕ → ℕ → HeadingTree → Step (Unit {0})
 routine_formal frame at h = do
   level ← look (λ k. (frame_at k frame).level)
   _ ← put (heading_name h) (Row.Name (NameRow.RoutineFormal at level (heading_word h)))
@@ -57,7 +66,7 @@ routine_formal frame at h = do
 
 -- The region of its own formals begins at its name, inside the frame of the heading that holds it. It has no block, so
 -- its level is that of this frame. The number of its frame is given.
-unfoldable pub open_heading : ℕ → Heading → Step ℕ
+unfoldable pub open_heading : ℕ → HeadingTree → Step ℕ
 open_heading frame h = do
   level ← look (λ k. (frame_at k frame).level)
   inner ← open_region (heading_name h) (Some frame) level
@@ -67,34 +76,37 @@ open_heading frame h = do
 -- ---- the list of sections
 
 -- how many names a list has; 4,294,967,295 stands for more
-abbrev pub count_of : Names → ℕ
-count_of n = if nat_lt (length n.others.items) 4294967295 then length n.others.items + 1 else 4294967295
+abbrev pub count_of : NamesTree → ℕ
+count_of n = if nat_lt (length n.others) 4294967295 then length n.others + 1 else 4294967295
 
 -- a section, and where the next one stands
-abbrev pub section_row : Formal → ℕ → Row
-section_row (Value f) next = Row.Item (ItemRow.Section Mode.Value f.names.first (count_of f.names) next)
-section_row (Variable word f) next = Row.Item (ItemRow.Section Mode.Place f.names.first (count_of f.names) next)
-section_row (Routine' _ h) next = Row.Item (ItemRow.RoutineSection (heading_word h) next)
+abbrev pub section_row : FormalTree → ℕ → Row
+section_row (tree.value_formals f) next = Row.Item (ItemRow.Section Mode.Value f.names.first (count_of f.names) next)
+section_row (tree.variable_formals word f) next =
+    Row.Item (ItemRow.Section Mode.Place f.names.first (count_of f.names) next)
+section_row (tree.a_routine_formal h) next = Row.Item (ItemRow.RoutineSection (heading_word h) next)
 
 -- a section at its slot, which is given
-unfoldable pub put_section : ℕ → Formal → ℕ → Step ℕ
+unfoldable pub put_section : ℕ → FormalTree → ℕ → Step ℕ
 put_section slot f next = do
   _ ← put slot (section_row f next)
   give slot
 
-unfoldable pub put_next_section : ℕ → NextFormal → Step ℕ
-put_next_section next n = put_section n.semicolon n.formal next
+abbrev pub put_more_sections : FormalTrees → Step ℕ
+put_more_sections tree.end_of_formals = give 0
+put_more_sections (tree.more_formals semicolon f rest) =
+    put_more_sections rest >>= λ next. put_section semicolon f next
 
 -- The sections stand at the `(` and the semicolons, put down from the last one on.
-unfoldable pub put_sections : Formals → Step ℕ
-put_sections f = do
-  next ← each_back put_next_section 0 (other_formals f)
-  put_section (opening_parenthesis f) (first_formal f) next
+abbrev pub put_sections : FormalsTree → Step ℕ
+put_sections (tree.formal_list left first others right) = do
+  next ← put_more_sections others
+  put_section left first next
 
 -- the list of a heading's sections, which is empty without formals
-abbrev pub section_list : Option Formals → Step ℕ
-section_list None = give 0
-section_list (Some f) = put_sections f
+abbrev pub section_list : HeldFormals → Step ℕ
+section_list tree.without_formals = give 0
+section_list (tree.some_formals f) = put_sections f
 
 -- ---- results, and the rows of headings
 
@@ -119,12 +131,12 @@ abbrev pub result_or : ℕ → ℕ → Option ResultType → Step ℕ
 result_or around name None = give name
 result_or around name (Some r) = checked_result_type around r.name
 
-unfoldable pub procedure_row : ℕ → ℕ → Option Formals → Step (Unit {0})
+unfoldable pub procedure_row : ℕ → ℕ → HeldFormals → Step (Unit {0})
 procedure_row word name formals = do
   list ← section_list formals
   put word (Row.Part (PartRow.Heading name list None))
 
-unfoldable pub function_row : ℕ → ℕ → ℕ → Option Formals → Option ResultType → Step (Unit {0})
+unfoldable pub function_row : ℕ → ℕ → ℕ → HeldFormals → Option ResultType → Step (Unit {0})
 function_row around word name formals result = do
   list ← section_list formals
   t ← result_or around name result
@@ -136,51 +148,50 @@ abbrev mutual
   -- What a heading's formals and its result are. The formals' types are looked up from the frame of its own region,
   -- the result type from the frame around. In a frame the formals' cells follow the link in order; the place after
   -- them is given.
-  pub signature : ℕ → ℕ → Heading → Step ℕ
-  signature around frame (Procedure p) = procedure_signature frame p
-  signature around frame (Function f) = function_signature around frame f
+  pub signature : ℕ → ℕ → HeadingTree → Step ℕ
+  signature around frame (tree.a_procedure p) = procedure_signature frame p
+  signature around frame (tree.a_function f) = function_signature around frame f
 
-  pub procedure_signature : ℕ → ProcedureHeading → Step ℕ
-  procedure_signature frame (ProcedureHeading' word name formals) = do
-    _ ← procedure_row word name (held_formals formals)
-    places_held frame formals
+  pub procedure_signature : ℕ → ProcedureTree → Step ℕ
+  procedure_signature frame (tree.procedure_heading word name formals) = do
+    _ ← procedure_row word name formals
+    places_of frame formals
 
-  pub function_signature : ℕ → ℕ → FunctionHeading → Step ℕ
-  function_signature around frame (FunctionHeading' word name formals result) = do
-    _ ← function_row around word name (held_formals formals) result
-    places_held frame formals
+  pub function_signature : ℕ → ℕ → FunctionTree → Step ℕ
+  function_signature around frame (tree.function_heading word name formals result) = do
+    _ ← function_row around word name formals result
+    places_of frame formals
 
   -- the place after the formals
-  pub places_held : ℕ → Held-FunctionHeading-formals → Step ℕ
-  places_held frame None' = give 1
-  places_held frame (Some' f) = places frame f
+  pub places_of : ℕ → HeldFormals → Step ℕ
+  places_of frame tree.without_formals = give 1
+  places_of frame (tree.some_formals f) = places frame f
 
-  pub places : ℕ → Formals → Step ℕ
-  places frame (Formals' open' first _ others close) = do
+  pub places : ℕ → FormalsTree → Step ℕ
+  places frame (tree.formal_list left first others right) = do
     next ← formal_place frame 1 first
     more_places frame next others
 
-  pub more_places : ℕ → ℕ → {m : _} → Row_of-NextFormal m → Step ℕ
-  more_places frame at end_of-NextFormal = give at
-  more_places frame at (more_of-NextFormal semicolon formal rest) = do
-    next ← formal_place frame at formal
+  pub more_places : ℕ → ℕ → FormalTrees → Step ℕ
+  more_places frame at tree.end_of_formals = give at
+  more_places frame at (tree.more_formals semicolon f rest) = do
+    next ← formal_place frame at f
     more_places frame next rest
 
   -- the parameters of a section; a routine takes one cell
-  pub formal_place : ℕ → ℕ → Formal → Step ℕ
-  formal_place frame at (Value f) = parameters Mode.Value frame at f
-  formal_place frame at (Variable word f) = parameters Mode.Place frame at f
-  formal_place frame at (Routine' _ h) = do
+  pub formal_place : ℕ → ℕ → FormalTree → Step ℕ
+  formal_place frame at (tree.value_formals f) = parameters Mode.Value frame at f
+  formal_place frame at (tree.variable_formals word f) = parameters Mode.Place frame at f
+  formal_place frame at (tree.a_routine_formal h) = do
     _ ← routine_formal frame at h
     inner ← open_heading frame h
     _ ← signature frame inner h
     give (frame_capped (at + 1))
 
--- ---- the same over lists and options
+-- ---- one more of what the code holds
 
 unfoldable pub next_formal_place : ℕ → ℕ → NextFormal → Step ℕ
-next_formal_place frame at n = formal_place frame at n.formal
+next_formal_place frame at n = formal_place frame at (tree.formal_tree n.formal)
 
-abbrev pub places_of : ℕ → Option Formals → Step ℕ
-places_of frame None = give 1
-places_of frame (Some f) = places frame f
+unfoldable pub put_next_section : ℕ → NextFormal → Step ℕ
+put_next_section next n = put_section n.semicolon (tree.formal_tree n.formal) next

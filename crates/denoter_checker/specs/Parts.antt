@@ -1,7 +1,8 @@
 -- The parts of a block that define types and declare variables (6.2.1).
 use Rattle.std.specs.Prelude.{◌+◌, ◌-◌, ◌∷◌, ℕ, List, None, Some, nat_le, suc, zero}
-use Rattle.pas_tree.specs.declared.blocks.{TypeDefinition.TypeDefinition, TypePart.TypePart, VariablePart.VariablePart}
-use Rattle.pas_tree.specs.declared.blocks.VariableDeclaration.{VariableDeclaration}
+use Rattle.pas_tree.specs.BlockTrees.{TypeDefinitionTree, TypePartTree, VariableDeclarationTree, VariablePartTree}
+use Rattle.pas_tree.specs.BlockTrees.{type_definition_tree, variable_declaration_tree}
+use Rattle.pas_tree.specs.declared.blocks.{TypeDefinition.TypeDefinition, VariableDeclaration.VariableDeclaration}
 use Rattle.core_program.specs.ProgramRows.{size_of}
 use Rattle.core_program.specs.declared.rows.{Mode.TheVariants.Own, NameRow.NameRow, Row.Row, TypeRow.TypeRow}
 use Rattle.check_steps.specs.{Known.Known, Known.frame_at, Known.row_at, Names.define_in, declared.regions.Def.Def}
@@ -12,16 +13,16 @@ use Rattle.denoter_checker.specs.{Defines.define_denoter, Denoters.denoter}
 
 -- ---- types
 
-abbrev pub types_in : TypePart → List TypeDefinition
-types_in p = p.first ∷ p.others.items
+abbrev pub types_in : TypePartTree → List TypeDefinitionTree
+types_in p = p.first ∷ p.others
 
 -- a type may be used from the semicolon after its definition on
-unfoldable pub define_type : ℕ → Unit {0} → TypeDefinition → Step (Unit {0})
+unfoldable pub define_type : ℕ → Unit {0} → TypeDefinitionTree → Step (Unit {0})
 define_type region u d = do
   _ ← define_in region (record { def = Def.TypeName d.name; token = d.name; end = d.semicolon })
   define_denoter region d.denoter
 
-unfoldable pub type_definition : Scope → Unit {0} → TypeDefinition → Step (Unit {0})
+unfoldable pub type_definition : Scope → Unit {0} → TypeDefinitionTree → Step (Unit {0})
 type_definition s u d = do
   t ← denoter s d.denoter
   put d.name (Row.Name (NameRow.TypeName t))
@@ -47,17 +48,17 @@ abbrev pub domains : ℕ → ℕ → Step (Unit {0})
 domains first after = settle_from (after - first) first
 
 -- A part of type definitions, in front of a token. A pointer's domain is looked up as if at that token.
-abbrev pub type_part : ℕ → ℕ → TypePart → Step (Unit {0})
+abbrev pub type_part : ℕ → ℕ → TypePartTree → Step (Unit {0})
 type_part frame after p = do
   _ ← each (type_definition (record { frame = frame; domains_at = Some after })) tt (types_in p)
   domains p.word after
 
 -- ---- variables
 
-abbrev pub variables_in : VariablePart → List VariableDeclaration
-variables_in p = p.first ∷ p.others.items
+abbrev pub variables_in : VariablePartTree → List VariableDeclarationTree
+variables_in p = p.first ∷ p.others
 
-unfoldable pub define_variable : ℕ → Unit {0} → VariableDeclaration → Step (Unit {0})
+unfoldable pub define_variable : ℕ → Unit {0} → VariableDeclarationTree → Step (Unit {0})
 define_variable region u d = do
   _ ← each_name (define_name region NameKind.Variable) tt d.names
   define_denoter region d.denoter
@@ -73,8 +74,22 @@ place_variable level t at token = do
 abbrev pub at_names : ℕ → Scope
 at_names frame = record { frame = frame; domains_at = None }
 
-unfoldable pub variable_declaration : ℕ → ℕ → VariableDeclaration → Step ℕ
+unfoldable pub variable_declaration : ℕ → ℕ → VariableDeclarationTree → Step ℕ
 variable_declaration frame at d = do
   level ← look (λ k. (frame_at k frame).level)
   t ← denoter (at_names frame) d.denoter
   each_name (place_variable level t) at d.names
+
+-- ---- one more of what the code holds
+
+unfoldable pub define_next_type : ℕ → Unit {0} → TypeDefinition → Step (Unit {0})
+define_next_type region u d = define_type region u (type_definition_tree d)
+
+unfoldable pub next_type_definition : Scope → Unit {0} → TypeDefinition → Step (Unit {0})
+next_type_definition s u d = type_definition s u (type_definition_tree d)
+
+unfoldable pub define_next_variable : ℕ → Unit {0} → VariableDeclaration → Step (Unit {0})
+define_next_variable region u d = define_variable region u (variable_declaration_tree d)
+
+unfoldable pub next_variable_declaration : ℕ → ℕ → VariableDeclaration → Step ℕ
+next_variable_declaration frame at d = variable_declaration frame at (variable_declaration_tree d)

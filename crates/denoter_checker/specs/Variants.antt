@@ -1,8 +1,8 @@
 -- The tag of a variant part, and the values that choose its variants (6.4.3.3).
 use Rattle.std.specs.Prelude.{if◌then◌else◌, ◌&&◌, ◌+◌, ◌-◌, ◌||◌, ℕ, ℤ, Bool, None, Option, Some, is_none, nat_eq}
 use Rattle.std.specs.Prelude.{nat_lt, not, true}
-use Rattle.pas_tree.specs.DenoterPlaces.{first_of_constant}
-use Rattle.pas_tree.specs.declared.constants.{Constant.Constant, Constants.Constants, NextConstant.NextConstant}
+use Rattle.pas_tree.specs.{ConstantTrees.ConstantsTree, ConstantTrees.constants_tree, DenoterPlaces.first_of_constant}
+use Rattle.pas_tree.specs.declared.constants.{Constant.Constant, NextConstant.NextConstant}
 use Rattle.pas_tree.specs.declared.denoters.{NextArm.NextArm, TagField.TagField}
 use Rattle.core_program.specs.declared.rows.{ItemRow.ItemRow, NameRow.NameRow, PartRow.PartRow, Row.Row}
 use Rattle.check_steps.specs.{Items.add_item, Known.Known, Known.is_chosen, Known.type_at}
@@ -44,10 +44,10 @@ next_constant frame u n = do
   _ ← constant frame n.constant
   give tt
 
-unfoldable pub constants_uses : ℕ → Constants → Step (Unit {0})
+unfoldable pub constants_uses : ℕ → ConstantsTree → Step (Unit {0})
 constants_uses frame c = do
   _ ← constant frame c.first
-  each (next_constant frame) tt c.others.items
+  each (next_constant frame) tt c.others
 
 -- ---- lists of the values that choose
 
@@ -89,10 +89,10 @@ unfoldable pub next_choice : Choosing → ℕ → ℕ → NextConstant → Step 
 next_choice c chosen last n = case_constant c chosen last n.comma n.constant
 
 -- the constants that choose one thing; where the last item of the list stands is given
-unfoldable pub choices : Choosing → ℕ → ℕ → ℕ → Constants → Step ℕ
+unfoldable pub choices : Choosing → ℕ → ℕ → ℕ → ConstantsTree → Step ℕ
 choices c chosen last slot xs = do
   next ← case_constant c chosen last slot xs.first
-  each (next_choice c chosen) next xs.others.items
+  each (next_choice c chosen) next xs.others
 
 -- ---- variants
 
@@ -100,15 +100,15 @@ abbrev pub one_more : ℕ → ℕ
 one_more n = if nat_lt n 4294967295 then n + 1 else n
 
 -- a variant, at its `(`, its constants, and the values that choose it
-unfoldable pub arm_choices : Choosing → Listed → ℕ → ℕ → Constants → Step Listed
-arm_choices c l slot open' constants = do
-  _ ← put open' (Row.Part (PartRow.Variant l.variants (one_more l.position)))
+unfoldable pub arm_choices : Choosing → Listed → ℕ → ℕ → ConstantsTree → Step Listed
+arm_choices c l slot left constants = do
+  _ ← put left (Row.Part (PartRow.Variant l.variants (one_more l.position)))
   _ ← constants_uses c.frame constants
-  last ← choices c open' l.last slot constants
+  last ← choices c left l.last slot constants
   give (record { variants = l.variants; last = last; position = one_more l.position })
 
 unfoldable pub next_arm_choices : Choosing → Listed → NextArm → Step Listed
-next_arm_choices c l n = arm_choices c l n.semicolon n.arm.«open» n.arm.constants
+next_arm_choices c l n = arm_choices c l n.semicolon n.arm.«open» (constants_tree n.arm.constants)
 
 abbrev pub choosing_at : PartPlace → ℕ → ℕ → Choosing
 choosing_at p host of' = record { frame = p.frame; host = host; list = of' }

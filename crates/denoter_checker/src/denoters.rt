@@ -1,9 +1,12 @@
 //! Type denoters (6.4).
 
 ghost use Rattle.std.specs.Prelude.{◌≡◌, IfOk};
+ghost use Rattle.pas_tree.specs.DenoterTrees.{array_tree, denoter_tree, fields_tree, fixed_tree, part_in, section_tree};
+ghost use Rattle.pas_tree.specs.DenoterTrees.{structure_tree, variants_tree};
 ghost use Rattle.check_steps.specs.Steps.{Does, each};
 ghost use Rattle.denoter_checker.specs.Denoters.{array_denoter, denoter, fields_at, fixed_at, next_arm, next_index};
-ghost use Rattle.denoter_checker.specs.Denoters.{next_section, record_type, section, structure, variants_at};
+ghost use Rattle.denoter_checker.specs.Denoters.{next_section, record_type, section, structure, variants_after};
+ghost use Rattle.denoter_checker.specs.Denoters.{variants_at};
 
 use crate::arrays::{check_array, check_joins, put_index};
 use crate::defines::define_record;
@@ -20,8 +23,8 @@ use kind_checker::types::{
     check_subrange,
 };
 use pas_tree::denoters::{
-    ArrayDenoter, Denoter, Fields, Fixed, NextArm, NextDenoter, NextSection, Section, Structure,
-    Variants,
+    ArrayDenoter, Denoter, Fields, Fixed, NextArm, NextDenoter, NextSection, NextVariants, Section,
+    Structure, Variants,
 };
 use pas_tree::first_of_denoter;
 use std::alloc::{AllocError, Global};
@@ -35,7 +38,7 @@ pub fn check_denoter(
     d: &Denoter,
     scope: Scope,
 ) -> Result<u32, AllocError>
-    ensures { IfOk result (λ x. Does (denoter scope d.now) x work.old work.new) }
+    ensures { IfOk result (λ x. Does (denoter scope (denoter_tree d.now)) x work.old work.new) }
 {
     match d {
         Denoter::Name(token) => Ok(check_named_type(work, scope.frame, *token)),
@@ -59,7 +62,7 @@ fn check_structure(
     packed: bool,
     scope: Scope,
 ) -> Result<u32, AllocError>
-    ensures { IfOk result (λ x. Does (structure scope packed s.now) x work.old work.new) }
+    ensures { IfOk result (λ x. Does (structure scope packed (structure_tree s.now)) x work.old work.new) }
 {
     match s {
         Structure::Array(array) => check_array_denoter(work, alloc, array, packed, scope),
@@ -84,7 +87,7 @@ fn check_record(
     packed: bool,
     scope: Scope,
 ) -> Result<u32, AllocError>
-    ensures { IfOk result (λ x. Does (record_type scope packed word fields.now) x work.old work.new) }
+    ensures { IfOk result (λ x. Does (record_type scope packed word (fields_tree fields.now)) x work.old work.new) }
 {
     let frame = open_record(work, alloc, scope.frame, word)?;
     define_record(work, frame, fields)?;
@@ -93,7 +96,7 @@ fn check_record(
 }
 
 #[cycle(denoters)]
-#[tactic(auto, using(check_steps::proofs::Runs::steps, crate::proofs::RecordRolls::fields_parts))]
+#[tactic(auto, using(check_steps::proofs::Runs::steps, pas_tree::proofs::DenoterViews::fields_view))]
 fn check_fields(
     work: &mut Work,
     alloc: Global,
@@ -102,16 +105,13 @@ fn check_fields(
     holder: u32,
     offset: u32,
 ) -> Result<u32, AllocError>
-    ensures { IfOk result (λ x. Does (fields_at scope holder offset fields.now) x work.old work.new) }
+    ensures { IfOk result (λ x. Does (fields_at scope holder offset (fields_tree fields.now)) x work.old work.new) }
 {
     match fields {
         Fields::Empty => Ok(offset),
-        Fields::Fixed(fixed, variants, _) => {
+        Fields::Fixed(fixed, part, _) => {
             let next = check_fixed(work, alloc, fixed, scope, holder, offset)?;
-            match variants {
-                None => Ok(next),
-                Some(part) => check_variants(work, alloc, &part.variants, scope, holder, next),
-            }
+            check_part(work, alloc, part, scope, holder, next)
         }
         Fields::Variants(variants, _) => {
             check_variants(work, alloc, variants, scope, holder, offset)
@@ -120,7 +120,25 @@ fn check_fields(
 }
 
 #[cycle(denoters)]
-#[tactic(auto, using(check_steps::proofs::Runs::steps, crate::proofs::RecordRolls::fixed_out))]
+#[tactic(auto, using(check_steps::proofs::Runs::steps))]
+fn check_part(
+    work: &mut Work,
+    alloc: Global,
+    part: &Option<NextVariants>,
+    scope: Scope,
+    holder: u32,
+    offset: u32,
+) -> Result<u32, AllocError>
+    ensures { IfOk result (λ x. Does (variants_after scope holder offset (part_in part.now)) x work.old work.new) }
+{
+    match part {
+        None => Ok(offset),
+        Some(part) => check_variants(work, alloc, &part.variants, scope, holder, offset),
+    }
+}
+
+#[cycle(denoters)]
+#[tactic(auto, using(check_steps::proofs::Runs::steps, pas_tree::proofs::DenoterViews::fixed_view, crate::proofs::Walks::sections_each))]
 fn check_fixed(
     work: &mut Work,
     alloc: Global,
@@ -129,7 +147,7 @@ fn check_fixed(
     holder: u32,
     offset: u32,
 ) -> Result<u32, AllocError>
-    ensures { IfOk result (λ x. Does (fixed_at scope holder offset fixed.now) x work.old work.new) }
+    ensures { IfOk result (λ x. Does (fixed_at scope holder offset (fixed_tree fixed.now)) x work.old work.new) }
 {
     let next = check_section(work, alloc, &fixed.first, scope, holder, offset)?;
     check_sections(work, alloc, &fixed.others, scope, holder, next)
@@ -155,7 +173,7 @@ fn check_sections(
 }
 
 #[cycle(denoters)]
-#[tactic(auto, using(check_steps::proofs::Runs::steps), unfolding(crate::specs::Denoters::section))]
+#[tactic(auto, using(check_steps::proofs::Runs::steps))]
 fn check_section(
     work: &mut Work,
     alloc: Global,
@@ -164,14 +182,14 @@ fn check_section(
     holder: u32,
     offset: u32,
 ) -> Result<u32, AllocError>
-    ensures { IfOk result (λ x. Does (section scope holder offset s.now) x work.old work.new) }
+    ensures { IfOk result (λ x. Does (section scope holder offset (section_tree s.now)) x work.old work.new) }
 {
     let kind = check_denoter(work, alloc, &s.denoter, scope)?;
     Ok(check_field_places(work, holder, kind, offset, &s.names))
 }
 
 #[cycle(denoters)]
-#[tactic(auto, using(check_steps::proofs::Runs::steps, crate::proofs::RecordRolls::variants_out))]
+#[tactic(auto, using(check_steps::proofs::Runs::steps, pas_tree::proofs::DenoterViews::variants_view, crate::proofs::Walks::arms_each))]
 fn check_variants(
     work: &mut Work,
     alloc: Global,
@@ -180,7 +198,7 @@ fn check_variants(
     holder: u32,
     offset: u32,
 ) -> Result<u32, AllocError>
-    ensures { IfOk result (λ x. Does (variants_at scope holder offset v.now) x work.old work.new) }
+    ensures { IfOk result (λ x. Does (variants_at scope holder offset (variants_tree v.now)) x work.old work.new) }
 {
     let place = part_at(scope, v.word, holder, offset);
     let _listed = check_choosing(work, place, v)?;
@@ -210,7 +228,7 @@ fn check_arms(
 }
 
 #[cycle(denoters)]
-#[tactic(auto, using(check_steps::proofs::Runs::steps, crate::proofs::RecordRolls::array_denoter_out))]
+#[tactic(auto, using(check_steps::proofs::Runs::steps, pas_tree::proofs::DenoterViews::array_view, crate::proofs::Walks::indexes_each, crate::proofs::Walks::joins_each))]
 fn check_array_denoter(
     work: &mut Work,
     alloc: Global,
@@ -218,7 +236,7 @@ fn check_array_denoter(
     packed: bool,
     scope: Scope,
 ) -> Result<u32, AllocError>
-    ensures { IfOk result (λ x. Does (array_denoter scope packed a.now) x work.old work.new) }
+    ensures { IfOk result (λ x. Does (array_denoter scope packed (array_tree a.now)) x work.old work.new) }
 {
     let written = check_denoter(work, alloc, &a.first, scope)?;
     let index = check_ordinal(work, first_of_denoter(&a.first), a.word, written);

@@ -1,6 +1,7 @@
 //! What headings have, and the names of their formal parameters (6.6.1, 6.6.2, 6.6.3.1).
 
 ghost use Rattle.std.specs.Prelude.{◌≡◌, IfOk, option_copied};
+ghost use Rattle.pas_tree.specs.HeadingTrees.{formal_tree, formals_in, formals_tree, heading_tree};
 ghost use Rattle.check_steps.specs.Steps.{Does, each};
 ghost use Rattle.denoter_checker.specs.Formals.{define_each_formal, define_formal, define_formals, define_formals_at};
 ghost use Rattle.denoter_checker.specs.Formals.{define_next_formal, formals_of, is_complete, is_function, result_of};
@@ -13,7 +14,7 @@ use std::alloc::AllocError;
 
 /// Whether a heading is a function's.
 pub fn is_function(heading: &Heading) -> bool
-    ensures { result ≡ is_function heading.now }
+    ensures { result ≡ is_function (heading_tree heading.now) }
 {
     match heading {
         Heading::Procedure(_) => false,
@@ -22,9 +23,9 @@ pub fn is_function(heading: &Heading) -> bool
 }
 
 /// The formal parameters of a heading, in parentheses, if it has some.
-#[tactic(auto, using(crate::proofs::HeadingRolls::parts))]
+#[tactic(auto, using(pas_tree::proofs::HeadingViews::heading_views))]
 pub fn formals_of(heading: &Heading) -> Option<&Formals>
-    ensures { option_copied result ≡ formals_of heading.now }
+    ensures { formals_in (option_copied result) ≡ formals_of (heading_tree heading.now) }
 {
     match heading {
         Heading::Procedure(procedure) => procedure.formals.as_ref(),
@@ -33,9 +34,9 @@ pub fn formals_of(heading: &Heading) -> Option<&Formals>
 }
 
 /// The result type of a heading, if one is written.
-#[tactic(auto, using(crate::proofs::HeadingRolls::parts))]
+#[tactic(auto, using(pas_tree::proofs::HeadingViews::heading_views))]
 pub fn result_of(heading: &Heading) -> Option<&ResultType>
-    ensures { option_copied result ≡ result_of heading.now }
+    ensures { option_copied result ≡ result_of (heading_tree heading.now) }
 {
     match heading {
         Heading::Procedure(_) => None,
@@ -44,9 +45,9 @@ pub fn result_of(heading: &Heading) -> Option<&ResultType>
 }
 
 /// Whether a heading has a result type if it is a function's.
-#[tactic(auto, using(crate::proofs::HeadingRolls::parts))]
+#[tactic(auto, using(pas_tree::proofs::HeadingViews::heading_views))]
 pub(crate) fn is_complete(heading: &Heading) -> bool
-    ensures { result ≡ is_complete heading.now }
+    ensures { result ≡ is_complete (heading_tree heading.now) }
 {
     match heading {
         Heading::Procedure(_) => true,
@@ -56,7 +57,7 @@ pub(crate) fn is_complete(heading: &Heading) -> bool
 
 #[tactic(auto, using(check_steps::proofs::Runs::steps))]
 fn define_formal(work: &mut Work, region: u32, formal: &Formal) -> Result<(), AllocError>
-    ensures { IfOk result (λ _. Does (define_formal region formal.now) tt work.old work.new) }
+    ensures { IfOk result (λ _. Does (define_formal region (formal_tree formal.now)) tt work.old work.new) }
 {
     match formal {
         Formal::Value(section) => define_names(work, region, NameKind::Formal, &section.names),
@@ -96,9 +97,9 @@ fn define_other_formals(
     Ok(())
 }
 
-#[tactic(auto, using(check_steps::proofs::Runs::steps))]
+#[tactic(auto, using(check_steps::proofs::Runs::steps, pas_tree::proofs::HeadingViews::formals_view, crate::proofs::Walks::formals_defined))]
 fn define_each_formal(work: &mut Work, region: u32, formals: &Formals) -> Result<(), AllocError>
-    ensures { IfOk result (λ _. Does (define_each_formal region formals.now) tt work.old work.new) }
+    ensures { IfOk result (λ _. Does (define_each_formal region (formals_tree formals.now)) tt work.old work.new) }
 {
     define_formal(work, region, &formals.first)?;
     define_other_formals(work, region, &formals.others)?;
@@ -108,7 +109,7 @@ fn define_each_formal(work: &mut Work, region: u32, formals: &Formals) -> Result
 /// Defines the names of a heading's formals in a region.
 #[tactic(auto, using(check_steps::proofs::Runs::steps))]
 pub fn define_formals(work: &mut Work, region: u32, heading: &Heading) -> Result<(), AllocError>
-    ensures { IfOk result (λ _. Does (define_formals region heading.now) tt work.old work.new) }
+    ensures { IfOk result (λ _. Does (define_formals region (heading_tree heading.now)) tt work.old work.new) }
 {
     match formals_of(heading) {
         None => Ok(()),
@@ -119,7 +120,7 @@ pub fn define_formals(work: &mut Work, region: u32, heading: &Heading) -> Result
 /// Defines the names of a heading's formals in the region of a frame.
 #[tactic(auto, using(check_steps::proofs::Runs::steps), unfolding(crate::specs::Formals::define_formals_at))]
 pub fn define_formals_at(work: &mut Work, frame: u32, heading: &Heading) -> Result<(), AllocError>
-    ensures { IfOk result (λ _. Does (define_formals_at frame heading.now) tt work.old work.new) }
+    ensures { IfOk result (λ _. Does (define_formals_at frame (heading_tree heading.now)) tt work.old work.new) }
 {
     let region = work.tables.frame(frame).region;
     define_formals(work, region, heading)

@@ -1,25 +1,30 @@
 //! Headings (6.6.1, 6.6.2): what formal parameters and results are, and where a frame has them.
 
 ghost use Rattle.std.specs.Prelude.{◌≡◌, IfOk};
+ghost use Rattle.pas_tree.specs.{ConstantTrees.names_tree, SchemaTrees.formal_type_tree};
+ghost use Rattle.pas_tree.specs.HeadingTrees.{formal_names_tree, formal_tree, formals_in, formals_tree, function_tree};
+ghost use Rattle.pas_tree.specs.HeadingTrees.{heading_tree, procedure_tree};
 ghost use Rattle.check_steps.specs.Steps.{Does, each, each_back};
 ghost use Rattle.kind_checker.specs.Names.{each_name, on_name};
-ghost use Rattle.denoter_checker.specs.Headings.{cells_of, checked_result_type, count_of, formal_place, function_row};
-ghost use Rattle.denoter_checker.specs.Headings.{function_signature, may_be_result, next_formal_place, open_heading};
-ghost use Rattle.denoter_checker.specs.Headings.{parameter, parameters, places, procedure_row, procedure_signature};
-ghost use Rattle.denoter_checker.specs.Headings.{put_next_section, put_section, put_sections, result_or};
-ghost use Rattle.denoter_checker.specs.Headings.{routine_formal, section_list, section_row, signature, value_cells};
+ghost use Rattle.denoter_checker.specs.Headings.{cells_of, checked_result_type, count_of, formal_place, formal_type};
+ghost use Rattle.denoter_checker.specs.Headings.{function_row, function_signature, may_be_result, next_formal_place};
+ghost use Rattle.denoter_checker.specs.Headings.{open_heading, parameter, parameters, places, procedure_row};
+ghost use Rattle.denoter_checker.specs.Headings.{procedure_signature, put_next_section, put_section, put_sections};
+ghost use Rattle.denoter_checker.specs.Headings.{result_or, routine_formal, section_list, section_row, signature};
+ghost use Rattle.denoter_checker.specs.Headings.{untaken, value_cells};
 
 use crate::formals::{define_formals_at, is_complete};
 use check_steps::Work;
 use core_program::rows::{ItemRow, LIST_END, Mode, NameRow, PartRow, Row, TypeRow};
-use kind_checker::sizes::place_after;
+use kind_checker::sizes::{MOST_CELLS, place_after};
 use kind_checker::types::check_named_type;
 use pas_tree::constants::{Names, NextName};
 use pas_tree::headings::{
     Formal, FormalNames, Formals, FunctionHeading, Heading, NextFormal, ProcedureHeading,
     ResultType,
 };
-use pas_tree::{heading_name, heading_word};
+use pas_tree::schemas::FormalType;
+use pas_tree::{first_of_schema, heading_name, heading_word};
 use std::alloc::{AllocError, Global};
 
 #[tactic(auto, using(check_steps::proofs::Runs::steps), unfolding(crate::specs::Headings::value_cells))]
@@ -27,7 +32,7 @@ fn check_value_cells(work: &mut Work, of: u32, name: u32) -> u32
     ensures { Does (value_cells of name) result work.old work.new }
 {
     let cells = work.tables.program().size_of(of);
-    work.too_big(name, cells <= 65_536);
+    work.too_big(name, cells <= MOST_CELLS);
     cells
 }
 
@@ -99,25 +104,44 @@ fn check_each_parameter(
     at: u32,
     names: &Names,
 ) -> u32
-    ensures { Does (each_name (parameter mode level of) at names.now) result work.old work.new }
+    ensures { Does (each_name (parameter mode level of) at (names_tree names.now)) result work.old work.new }
 {
     let next = check_parameter(work, mode, level, of, at, names.first);
     check_more_parameters(work, mode, level, of, next, &names.others)
 }
 
+/// A schema is not taken, as if it were the name of a type that is not declared. No type stands at its first token.
+#[tactic(auto, using(check_steps::proofs::Runs::steps), unfolding(crate::specs::Headings::untaken))]
+fn check_untaken(work: &mut Work, first: u32) -> u32
+    ensures { Does (untaken first) result work.old work.new }
+{
+    work.early(1, first, false);
+    first
+}
+
+#[tactic(auto, using(check_steps::proofs::Runs::steps))]
+fn check_formal_type(work: &mut Work, frame: u32, of: &FormalType) -> u32
+    ensures { Does (formal_type frame (formal_type_tree of.now)) result work.old work.new }
+{
+    match of {
+        FormalType::Name(name) => check_named_type(work, frame, *name),
+        FormalType::Schema(schema) => check_untaken(work, first_of_schema(schema)),
+    }
+}
+
 /// The parameters of a section from a place in a frame on; the place after them is given.
 #[tactic(auto, using(check_steps::proofs::Runs::steps), unfolding(crate::specs::Headings::parameters))]
 fn check_parameters(work: &mut Work, mode: Mode, frame: u32, at: u32, section: &FormalNames) -> u32
-    ensures { Does (parameters mode frame at section.now) result work.old work.new }
+    ensures { Does (parameters mode frame at (formal_names_tree section.now)) result work.old work.new }
 {
     let level = work.tables.frame(frame).level;
-    let of = check_named_type(work, frame, section.name);
+    let of = check_formal_type(work, frame, &section.of);
     check_each_parameter(work, mode, level, of, at, &section.names)
 }
 
 #[tactic(auto, using(check_steps::proofs::Runs::steps), unfolding(crate::specs::Headings::routine_formal))]
 fn check_routine_formal(work: &mut Work, frame: u32, at: u32, heading: &Heading)
-    ensures { Does (routine_formal frame at heading.now) tt work.old work.new }
+    ensures { Does (routine_formal frame at (heading_tree heading.now)) tt work.old work.new }
 {
     let row = NameRow::RoutineFormal {
         place: at,
@@ -136,7 +160,7 @@ fn open_heading(
     frame: u32,
     heading: &Heading,
 ) -> Result<u32, AllocError>
-    ensures { IfOk result (λ inner. Does (open_heading frame heading.now) inner work.old work.new) }
+    ensures { IfOk result (λ inner. Does (open_heading frame (heading_tree heading.now)) inner work.old work.new) }
 {
     let level = work.tables.frame(frame).level;
     let inner = work.open_region(alloc, heading_name(heading), Some(frame), level)?;
@@ -145,7 +169,7 @@ fn open_heading(
 }
 
 fn count_of(names: &Names) -> u32
-    ensures { result ≡ count_of names.now }
+    ensures { result ≡ count_of (names_tree names.now) }
 {
     let others = names.others.len();
     if others < u32::MAX as usize {
@@ -157,7 +181,7 @@ fn count_of(names: &Names) -> u32
 
 /// A section of formals, and where the next one stands.
 fn section_row(formal: &Formal, next: u32) -> Row
-    ensures { result ≡ section_row formal.now next }
+    ensures { result ≡ section_row (formal_tree formal.now) next }
 {
     let row = match formal {
         Formal::Value(section) => ItemRow::Section {
@@ -182,7 +206,7 @@ fn section_row(formal: &Formal, next: u32) -> Row
 
 #[tactic(auto, using(check_steps::proofs::Runs::steps), unfolding(crate::specs::Headings::put_section))]
 fn put_section(work: &mut Work, slot: u32, formal: &Formal, next: u32) -> u32
-    ensures { Does (put_section slot formal.now next) result work.old work.new }
+    ensures { Does (put_section slot (formal_tree formal.now) next) result work.old work.new }
 {
     work.put(slot, section_row(formal, next));
     slot
@@ -209,9 +233,9 @@ fn put_other_sections(work: &mut Work, others: &[NextFormal]) -> u32
     next
 }
 
-#[tactic(auto, using(check_steps::proofs::Runs::steps), unfolding(crate::specs::Headings::put_sections))]
+#[tactic(auto, using(check_steps::proofs::Runs::steps, pas_tree::proofs::HeadingViews::formals_view, crate::proofs::Walks::sections_put))]
 fn put_sections(work: &mut Work, formals: &Formals) -> u32
-    ensures { Does (put_sections formals.now) result work.old work.new }
+    ensures { Does (put_sections (formals_tree formals.now)) result work.old work.new }
 {
     let next = put_other_sections(work, &formals.others);
     put_section(work, formals.open, &formals.first, next)
@@ -220,7 +244,7 @@ fn put_sections(work: &mut Work, formals: &Formals) -> u32
 /// The list of a heading's sections, which is empty without formals.
 #[tactic(auto, using(check_steps::proofs::Runs::steps))]
 fn put_section_list(work: &mut Work, formals: &Option<Formals>) -> u32
-    ensures { Does (section_list formals.now) result work.old work.new }
+    ensures { Does (section_list (formals_in formals.now)) result work.old work.new }
 {
     match formals {
         None => LIST_END,
@@ -262,7 +286,7 @@ fn check_result(work: &mut Work, around: u32, name: u32, written: &Option<Result
 
 #[tactic(auto, using(check_steps::proofs::Runs::steps), unfolding(crate::specs::Headings::procedure_row))]
 fn put_procedure(work: &mut Work, word: u32, name: u32, formals: &Option<Formals>)
-    ensures { Does (procedure_row word name formals.now) tt work.old work.new }
+    ensures { Does (procedure_row word name (formals_in formals.now)) tt work.old work.new }
 {
     let row = PartRow::Heading {
         name,
@@ -281,7 +305,7 @@ fn put_function(
     formals: &Option<Formals>,
     written: &Option<ResultType>,
 )
-    ensures { Does (function_row around word name formals.now written.now) tt work.old work.new }
+    ensures { Does (function_row around word name (formals_in formals.now) written.now) tt work.old work.new }
 {
     let sections = put_section_list(work, formals);
     let of = check_result(work, around, name, written);
@@ -305,7 +329,7 @@ pub fn check_signature(
     around: u32,
     frame: u32,
 ) -> Result<u32, AllocError>
-    ensures { IfOk result (λ end. Does (signature around frame heading.now) end work.old work.new) }
+    ensures { IfOk result (λ end. Does (signature around frame (heading_tree heading.now)) end work.old work.new) }
 {
     match heading {
         Heading::Procedure(procedure) => check_procedure(work, alloc, procedure, frame),
@@ -314,14 +338,15 @@ pub fn check_signature(
 }
 
 #[cycle(signatures)]
-#[tactic(auto, using(check_steps::proofs::Runs::steps, crate::proofs::HeadingRolls::procedure_out))]
+#[tactic(auto, using(check_steps::proofs::Runs::steps, pas_tree::proofs::HeadingViews::procedure_view))]
 fn check_procedure(
     work: &mut Work,
     alloc: Global,
     procedure: &ProcedureHeading,
     frame: u32,
 ) -> Result<u32, AllocError>
-    ensures { IfOk result (λ end. Does (procedure_signature frame procedure.now) end work.old work.new) }
+    ensures { IfOk result (λ end. Does (procedure_signature frame (procedure_tree procedure.now)) end work.old
+        work.new) }
 {
     put_procedure(work, procedure.word, procedure.name, &procedure.formals);
     match &procedure.formals {
@@ -331,7 +356,7 @@ fn check_procedure(
 }
 
 #[cycle(signatures)]
-#[tactic(auto, using(check_steps::proofs::Runs::steps, crate::proofs::HeadingRolls::function_out))]
+#[tactic(auto, using(check_steps::proofs::Runs::steps, pas_tree::proofs::HeadingViews::function_view))]
 fn check_function(
     work: &mut Work,
     alloc: Global,
@@ -339,7 +364,8 @@ fn check_function(
     around: u32,
     frame: u32,
 ) -> Result<u32, AllocError>
-    ensures { IfOk result (λ end. Does (function_signature around frame function.now) end work.old work.new) }
+    ensures { IfOk result (λ end. Does (function_signature around frame (function_tree function.now)) end work.old
+        work.new) }
 {
     put_function(
         work,
@@ -357,14 +383,14 @@ fn check_function(
 
 /// The formals have the cells of a frame from 1 on; the place after them is given.
 #[cycle(signatures)]
-#[tactic(auto, using(check_steps::proofs::Runs::steps, crate::proofs::HeadingRolls::places_out))]
+#[tactic(auto, using(check_steps::proofs::Runs::steps, pas_tree::proofs::HeadingViews::formals_view, crate::proofs::Walks::places_each))]
 fn check_places(
     work: &mut Work,
     alloc: Global,
     formals: &Formals,
     frame: u32,
 ) -> Result<u32, AllocError>
-    ensures { IfOk result (λ end. Does (places frame formals.now) end work.old work.new) }
+    ensures { IfOk result (λ end. Does (places frame (formals_tree formals.now)) end work.old work.new) }
 {
     let next = check_formal(work, alloc, &formals.first, frame, 1)?;
     check_other_formals(work, alloc, &formals.others, frame, next)
@@ -411,7 +437,7 @@ fn check_formal(
     frame: u32,
     at: u32,
 ) -> Result<u32, AllocError>
-    ensures { IfOk result (λ end. Does (formal_place frame at formal.now) end work.old work.new) }
+    ensures { IfOk result (λ end. Does (formal_place frame at (formal_tree formal.now)) end work.old work.new) }
 {
     match formal {
         Formal::Value(section) => Ok(check_parameters(work, Mode::Value, frame, at, section)),

@@ -1,11 +1,14 @@
 //! The parts of a block that define types and declare variables (6.2.1).
 
 ghost use Rattle.std.specs.Prelude.{◌≡◌, IfOk};
+ghost use Rattle.pas_tree.specs.{BlockTrees.variable_part_tree, ConstantTrees.names_tree};
+ghost use Rattle.pas_tree.specs.BlockTrees.{type_definition_tree, type_part_tree, variable_declaration_tree};
 ghost use Rattle.check_steps.specs.Steps.{Does, each};
 ghost use Rattle.kind_checker.specs.Names.{each_name, on_name};
-ghost use Rattle.denoter_checker.specs.Parts.{at_names, define_type, define_variable, domains, place_variable};
-ghost use Rattle.denoter_checker.specs.Parts.{settle_domain, settled, type_definition, type_part, types_in};
-ghost use Rattle.denoter_checker.specs.Parts.{variable_declaration, variables_in};
+ghost use Rattle.denoter_checker.specs.Parts.{at_names, define_next_type, define_next_variable, define_type};
+ghost use Rattle.denoter_checker.specs.Parts.{define_variable, domains, next_type_definition};
+ghost use Rattle.denoter_checker.specs.Parts.{next_variable_declaration, place_variable, settle_domain, settled};
+ghost use Rattle.denoter_checker.specs.Parts.{type_definition, type_part, types_in, variable_declaration, variables_in};
 
 use crate::defines::define_denoter;
 use crate::denoters::check_denoter;
@@ -13,7 +16,7 @@ use check_steps::{Def, Definition, Tables, Work};
 use core_program::rows::{Mode, NameRow, Row, TypeRow};
 use kind_checker::Scope;
 use kind_checker::names::{NameKind, define_names};
-use kind_checker::sizes::place_after;
+use kind_checker::sizes::{MOST_CELLS, place_after};
 use kind_checker::types::type_named;
 use pas_tree::blocks::{TypeDefinition, TypePart, VariableDeclaration, VariablePart};
 use pas_tree::constants::{Names, NextName};
@@ -21,7 +24,7 @@ use std::alloc::{AllocError, Global};
 
 #[tactic(auto, using(check_steps::proofs::Runs::steps), unfolding(crate::specs::Parts::define_type))]
 fn define_type(work: &mut Work, region: u32, d: &TypeDefinition) -> Result<(), AllocError>
-    ensures { IfOk result (λ _. Does (define_type region tt d.now) tt work.old work.new) }
+    ensures { IfOk result (λ _. Does (define_type region tt (type_definition_tree d.now)) tt work.old work.new) }
 {
     let definition = Definition {
         def: Def::TypeName(d.name),
@@ -33,13 +36,13 @@ fn define_type(work: &mut Work, region: u32, d: &TypeDefinition) -> Result<(), A
     Ok(())
 }
 
-#[tactic(auto, using(check_steps::proofs::Runs::loops))]
+#[tactic(auto, using(check_steps::proofs::Runs::loops), unfolding(crate::specs::Parts::define_next_type))]
 fn define_more_types(
     work: &mut Work,
     region: u32,
     parts: &[TypeDefinition],
 ) -> Result<(), AllocError>
-    ensures { IfOk result (λ _. Does (each (define_type region) tt parts.now) tt work.old work.new) }
+    ensures { IfOk result (λ _. Does (each (define_next_type region) tt parts.now) tt work.old work.new) }
 {
     'parts: for part in parts {
         define_type(work, region, part)?;
@@ -48,9 +51,10 @@ fn define_more_types(
 }
 
 /// Defines the types of a part, and the constants of the enumerations in them.
-#[tactic(auto, using(check_steps::proofs::Runs::steps))]
+#[tactic(auto, using(check_steps::proofs::Runs::steps, crate::proofs::Walks::types_defined))]
 pub fn define_types(work: &mut Work, region: u32, part: &TypePart) -> Result<(), AllocError>
-    ensures { IfOk result (λ _. Does (each (define_type region) tt (types_in part.now)) tt work.old work.new) }
+    ensures { IfOk result (λ _. Does (each (define_type region) tt (types_in (type_part_tree part.now))) tt work.old
+        work.new) }
 {
     define_type(work, region, &part.first)?;
     define_more_types(work, region, &part.others)?;
@@ -64,21 +68,21 @@ fn check_type_definition(
     d: &TypeDefinition,
     scope: Scope,
 ) -> Result<(), AllocError>
-    ensures { IfOk result (λ _. Does (type_definition scope tt d.now) tt work.old work.new) }
+    ensures { IfOk result (λ _. Does (type_definition scope tt (type_definition_tree d.now)) tt work.old work.new) }
 {
     let of = check_denoter(work, alloc, &d.denoter, scope)?;
     work.put(d.name, Row::Name(NameRow::TypeName { of }));
     Ok(())
 }
 
-#[tactic(auto, using(check_steps::proofs::Runs::loops))]
+#[tactic(auto, using(check_steps::proofs::Runs::loops), unfolding(crate::specs::Parts::next_type_definition))]
 fn check_more_types(
     work: &mut Work,
     alloc: Global,
     parts: &[TypeDefinition],
     scope: Scope,
 ) -> Result<(), AllocError>
-    ensures { IfOk result (λ _. Does (each (type_definition scope) tt parts.now) tt work.old work.new) }
+    ensures { IfOk result (λ _. Does (each (next_type_definition scope) tt parts.now) tt work.old work.new) }
 {
     'parts: for part in parts {
         check_type_definition(work, alloc, part, scope)?;
@@ -86,14 +90,15 @@ fn check_more_types(
     Ok(())
 }
 
-#[tactic(auto, using(check_steps::proofs::Runs::steps))]
+#[tactic(auto, using(check_steps::proofs::Runs::steps, crate::proofs::Walks::types_each))]
 fn check_each_type(
     work: &mut Work,
     alloc: Global,
     part: &TypePart,
     scope: Scope,
 ) -> Result<(), AllocError>
-    ensures { IfOk result (λ _. Does (each (type_definition scope) tt (types_in part.now)) tt work.old work.new) }
+    ensures { IfOk result (λ _. Does (each (type_definition scope) tt (types_in (type_part_tree part.now))) tt work.old
+        work.new) }
 {
     check_type_definition(work, alloc, &part.first, scope)?;
     check_more_types(work, alloc, &part.others, scope)?;
@@ -139,7 +144,7 @@ pub fn check_types(
     frame: u32,
     after: u32,
 ) -> Result<(), AllocError>
-    ensures { IfOk result (λ _. Does (type_part frame after part.now) tt work.old work.new) }
+    ensures { IfOk result (λ _. Does (type_part frame after (type_part_tree part.now)) tt work.old work.new) }
 {
     let scope = Scope {
         frame,
@@ -152,20 +157,21 @@ pub fn check_types(
 
 #[tactic(auto, using(check_steps::proofs::Runs::steps), unfolding(crate::specs::Parts::define_variable))]
 fn define_variable(work: &mut Work, region: u32, d: &VariableDeclaration) -> Result<(), AllocError>
-    ensures { IfOk result (λ _. Does (define_variable region tt d.now) tt work.old work.new) }
+    ensures { IfOk result (λ _. Does (define_variable region tt (variable_declaration_tree d.now)) tt work.old
+        work.new) }
 {
     define_names(work, region, NameKind::Variable, &d.names)?;
     define_denoter(work, &d.denoter, region)?;
     Ok(())
 }
 
-#[tactic(auto, using(check_steps::proofs::Runs::loops))]
+#[tactic(auto, using(check_steps::proofs::Runs::loops), unfolding(crate::specs::Parts::define_next_variable))]
 fn define_more_variables(
     work: &mut Work,
     region: u32,
     parts: &[VariableDeclaration],
 ) -> Result<(), AllocError>
-    ensures { IfOk result (λ _. Does (each (define_variable region) tt parts.now) tt work.old work.new) }
+    ensures { IfOk result (λ _. Does (each (define_next_variable region) tt parts.now) tt work.old work.new) }
 {
     'parts: for part in parts {
         define_variable(work, region, part)?;
@@ -174,9 +180,10 @@ fn define_more_variables(
 }
 
 /// Defines the variables of a part, and the constants of the enumerations in their types.
-#[tactic(auto, using(check_steps::proofs::Runs::steps))]
+#[tactic(auto, using(check_steps::proofs::Runs::steps, crate::proofs::Walks::variables_defined))]
 pub fn define_variables(work: &mut Work, region: u32, part: &VariablePart) -> Result<(), AllocError>
-    ensures { IfOk result (λ _. Does (each (define_variable region) tt (variables_in part.now)) tt work.old work.new) }
+    ensures { IfOk result (λ _. Does (each (define_variable region) tt (variables_in (variable_part_tree part.now))) tt
+        work.old work.new) }
 {
     define_variable(work, region, &part.first)?;
     define_more_variables(work, region, &part.others)?;
@@ -195,7 +202,7 @@ fn check_place(work: &mut Work, level: u32, of: u32, at: u32, token: u32) -> u32
     };
     work.put(token, Row::Name(row));
     let cells = work.tables.program().size_of(of);
-    work.too_big(token, cells <= 65_536);
+    work.too_big(token, cells <= MOST_CELLS);
     place_after(at, cells)
 }
 
@@ -220,7 +227,7 @@ fn check_more_places(work: &mut Work, level: u32, of: u32, at: u32, names: &[Nex
 /// The places of variables of one type, and the place after them.
 #[tactic(auto, using(check_steps::proofs::Runs::steps))]
 fn check_places(work: &mut Work, level: u32, of: u32, at: u32, names: &Names) -> u32
-    ensures { Does (each_name (place_variable level of) at names.now) result work.old work.new }
+    ensures { Does (each_name (place_variable level of) at (names_tree names.now)) result work.old work.new }
 {
     let next = check_place(work, level, of, at, names.first);
     check_more_places(work, level, of, next, &names.others)
@@ -243,14 +250,15 @@ fn check_variable(
     frame: u32,
     at: u32,
 ) -> Result<u32, AllocError>
-    ensures { IfOk result (λ x. Does (variable_declaration frame at d.now) x work.old work.new) }
+    ensures { IfOk result (λ x. Does (variable_declaration frame at (variable_declaration_tree d.now)) x work.old
+        work.new) }
 {
     let level = work.tables.frame(frame).level;
     let of = check_denoter(work, alloc, &d.denoter, at_names(frame))?;
     Ok(check_places(work, level, of, at, &d.names))
 }
 
-#[tactic(auto, using(check_steps::proofs::Runs::loops))]
+#[tactic(auto, using(check_steps::proofs::Runs::loops), unfolding(crate::specs::Parts::next_variable_declaration))]
 fn check_more_variables(
     work: &mut Work,
     alloc: Global,
@@ -258,7 +266,7 @@ fn check_more_variables(
     frame: u32,
     at: u32,
 ) -> Result<u32, AllocError>
-    ensures { IfOk result (λ x. Does (each (variable_declaration frame) at parts.now) x work.old work.new) }
+    ensures { IfOk result (λ x. Does (each (next_variable_declaration frame) at parts.now) x work.old work.new) }
 {
     let mut next = at;
     'parts: for part in parts {
@@ -268,7 +276,7 @@ fn check_more_variables(
 }
 
 /// The places of the variables of a part from a place in the frame on, and the place after them.
-#[tactic(auto, using(check_steps::proofs::Runs::steps))]
+#[tactic(auto, using(check_steps::proofs::Runs::steps, crate::proofs::Walks::variables_each))]
 pub fn check_variables(
     work: &mut Work,
     alloc: Global,
@@ -276,8 +284,8 @@ pub fn check_variables(
     frame: u32,
     at: u32,
 ) -> Result<u32, AllocError>
-    ensures { IfOk result (λ x. Does (each (variable_declaration frame) at (variables_in part.now)) x
-        work.old work.new) }
+    ensures { IfOk result (λ x. Does (each (variable_declaration frame) at (variables_in (variable_part_tree part.now)))
+        x work.old work.new) }
 {
     let next = check_variable(work, alloc, &part.first, frame, at)?;
     check_more_variables(work, alloc, &part.others, frame, next)

@@ -1,6 +1,8 @@
 //! Records: their regions and their fixed fields (6.4.3.3).
 
 ghost use Rattle.std.specs.Prelude.{◌≡◌, IfOk};
+ghost use Rattle.pas_tree.specs.ConstantTrees.{names_tree};
+ghost use Rattle.pas_tree.specs.DenoterTrees.{arm_tree, arm_trees, fields_tree, variants_tree};
 ghost use Rattle.check_steps.specs.Steps.{Does, each};
 ghost use Rattle.kind_checker.specs.Names.{each_name, on_name};
 ghost use Rattle.denoter_checker.specs.Denoters.{choosing_in, choosing_of, field_place, open_record, part_at};
@@ -78,7 +80,7 @@ pub(crate) fn check_field_places(
     offset: u32,
     names: &Names,
 ) -> u32
-    ensures { Does (each_name (field_place holder of) offset names.now) result work.old work.new }
+    ensures { Does (each_name (field_place holder of) offset (names_tree names.now)) result work.old work.new }
 {
     let next = check_field_place(work, holder, of, offset, names.first);
     check_more_fields(work, holder, of, next, &names.others)
@@ -108,9 +110,9 @@ pub(crate) fn put_record(
 }
 
 /// The number of the variant part of a field list.
-#[tactic(auto, using(crate::proofs::RecordRolls::words))]
+#[tactic(auto, using(pas_tree::proofs::DenoterViews::fields_view, pas_tree::proofs::DenoterViews::variants_view))]
 pub(crate) fn variants_word(fields: &Fields) -> Option<u32>
-    ensures { result ≡ variants_word fields.now }
+    ensures { result ≡ variants_word (fields_tree fields.now) }
 {
     match fields {
         Fields::Empty => None,
@@ -133,7 +135,7 @@ pub(crate) fn part_at(scope: Scope, word: u32, holder: u32, offset: u32) -> Part
 }
 
 /// The tag of a variant part, and the values that choose its first variant and the others.
-#[tactic(auto, using(check_steps::proofs::Runs::steps), unfolding(crate::specs::Denoters::choosing_of))]
+#[tactic(auto, using(check_steps::proofs::Runs::steps, crate::proofs::Walks::choices_each), unfolding(crate::specs::Denoters::choosing_of))]
 fn check_choosing_of(
     work: &mut Work,
     place: PartPlace,
@@ -142,7 +144,7 @@ fn check_choosing_of(
     first: &Arm,
     others: &[NextArm],
 ) -> Result<Listed, AllocError>
-    ensures { IfOk result (λ l. Does (choosing_of place tag.now of first.now.constants first.now.«open» others.now) l
+    ensures { IfOk result (λ l. Does (choosing_of place tag.now of (arm_tree first.now) (arm_trees others.now)) l
         work.old work.new) }
 {
     let host = check_tag(work, place, tag);
@@ -153,13 +155,13 @@ fn check_choosing_of(
 }
 
 /// The tag of a variant part, and the values that choose its variants.
-#[tactic(auto, using(crate::proofs::RecordRolls::choosing_out))]
+#[tactic(auto, using(pas_tree::proofs::DenoterViews::variants_view))]
 pub(crate) fn check_choosing(
     work: &mut Work,
     place: PartPlace,
     v: &Variants,
 ) -> Result<Listed, AllocError>
-    ensures { IfOk result (λ l. Does (choosing_in place v.now) l work.old work.new) }
+    ensures { IfOk result (λ l. Does (choosing_in place (variants_tree v.now)) l work.old work.new) }
 {
     check_choosing_of(work, place, &v.tag, v.of, &v.first, &v.others)
 }

@@ -1,6 +1,7 @@
 //! The tag of a variant part, and the values that choose its variants (6.4.3.3).
 
 ghost use Rattle.std.specs.Prelude.{◌≡◌, IfOk};
+ghost use Rattle.pas_tree.specs.ConstantTrees.{constants_tree};
 ghost use Rattle.check_steps.specs.Steps.{Does, each};
 ghost use Rattle.denoter_checker.specs.Variants.{add_choice, arm_choices, case_constant, choices, choosing_at};
 ghost use Rattle.denoter_checker.specs.Variants.{chosen_value, constants_uses, hidden_tag, is_choice, listed_choice};
@@ -115,7 +116,7 @@ fn use_more_constants(work: &mut Work, others: &[NextConstant], frame: u32)
 /// The names and signs of case constants.
 #[tactic(auto, using(check_steps::proofs::Runs::steps), unfolding(crate::specs::Variants::constants_uses))]
 pub fn use_constants(work: &mut Work, c: &Constants, frame: u32)
-    ensures { Does (constants_uses frame c.now) tt work.old work.new }
+    ensures { Does (constants_uses frame (constants_tree c.now)) tt work.old work.new }
 {
     check_constant(work, frame, &c.first);
     use_more_constants(work, &c.others, frame);
@@ -255,7 +256,8 @@ pub fn check_choices(
     slot: u32,
     constants: &Constants,
 ) -> Result<u32, AllocError>
-    ensures { IfOk result (λ n. Does (choices choosing chosen last slot constants.now) n work.old work.new) }
+    ensures { IfOk result (λ n. Does (choices choosing chosen last slot (constants_tree constants.now)) n work.old
+        work.new) }
 {
     let next = check_choice(work, choosing, chosen, last, slot, &constants.first)?;
     check_more_choices(work, choosing, chosen, next, &constants.others)
@@ -277,7 +279,8 @@ pub(crate) fn check_arm_choices(
     paren: u32,
     constants: &Constants,
 ) -> Result<Listed, AllocError>
-    ensures { IfOk result (λ l. Does (arm_choices choosing listed slot paren constants.now) l work.old work.new) }
+    ensures { IfOk result (λ l. Does (arm_choices choosing listed slot paren (constants_tree constants.now)) l work.old
+        work.new) }
 {
     let variants = listed.variants;
     let position = one_more(listed.position);

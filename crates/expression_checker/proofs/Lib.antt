@@ -1,5 +1,3 @@
 pub mod Holders
-pub mod NamesAlone
-pub mod Operands
-pub mod Parts
 pub mod Sections
+pub mod Walks

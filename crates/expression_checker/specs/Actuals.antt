@@ -1,10 +1,5 @@
 -- Actual parameters against formal ones (6.6.3, 6.7.3).
-use Rattle.std.specs.Prelude.{if◌then◌else◌, ◌&&◌, ◌+◌, ◌||◌, ℕ, Bool, None, Option, Some, false, is_none, length}
-use Rattle.std.specs.Prelude.{nat_eq, nat_lt, true}
-use Rattle.pas_tree.specs.declared.expressions.{Factor.Access', Factor.Factor, Term.Term, Term.out-Term}
-use Rattle.pas_tree.specs.declared.expressions.Access.{Access, Row_of-Selector, end_of-Selector, more_of-Selector}
-use Rattle.pas_tree.specs.declared.expressions.Expression.{Expression, out-Expression}
-use Rattle.pas_tree.specs.declared.expressions.Simple.{Simple, out-Simple}
+use Rattle.std.specs.Prelude.{if◌then◌else◌, ◌&&◌, ◌+◌, ◌||◌, ℕ, Bool, None, Option, Some, false, nat_lt, true}
 use Rattle.core_program.specs.declared.rows.{ItemRow.ItemRow, Mode.Mode, NameRow.NameRow, Row.Row}
 use Rattle.core_program.specs.declared.rows.OrdinalFunction.{OrdinalFunction}
 use Rattle.core_program.specs.declared.rows.TextFile.{TextFile, TheVariants.Input, TheVariants.Output}
@@ -108,35 +103,6 @@ argued f first v = do
   give (record { item = item_of f v; value = operand_in f v })
 
 -- ---- names alone as actuals
-
-abbrev pub is_name : {m : _} → Row_of-Selector m → Bool
-is_name end_of-Selector = true
-is_name (more_of-Selector s rest) = false
-
-abbrev pub name_if : Bool → ℕ → Option ℕ
-name_if alone name = if alone then Some name else None
-
-abbrev pub factor_name : Factor → Option ℕ
-factor_name (Access' name _ selectors) = name_if (is_name selectors) name
-factor_name f = None
-
--- the name that an access is, if it is a name alone
-abbrev pub access_name : Access → Option ℕ
-access_name a = name_if (nat_eq (length a.selectors.items) 0) a.name
-
-abbrev pub name_of_if : Bool → Option ℕ → Option ℕ
-name_of_if alone name = if alone then name else None
-
-abbrev pub term_name : Term → Option ℕ
-term_name t = name_of_if (nat_eq (length (out-Term t).others.items) 0) (factor_name (out-Term t).first)
-
-abbrev pub simple_name : Simple → Option ℕ
-simple_name s = name_of_if (is_none (out-Simple s).sign && nat_eq (length (out-Simple s).others.items) 0)
-    (term_name (out-Simple s).first)
-
--- the name that an expression is, if it is a name alone
-abbrev pub name_alone : Expression → Option ℕ
-name_alone e = name_of_if (is_none (out-Expression e).relation) (simple_name (out-Expression e).left)
 
 abbrev pub file_in : Row → Option TextFile
 file_in (Row.Name (NameRow.TextFile file)) = Some file

@@ -7,3 +7,4 @@ pub mod Operations
 pub mod Selectors
 pub mod Threats
 pub mod Typed
+pub mod NamesAlone

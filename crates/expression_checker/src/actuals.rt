@@ -1,13 +1,15 @@
 //! Actual parameters against formal ones (6.6.3, 6.7.3).
 
 ghost use Rattle.std.specs.Prelude.{◌≡◌};
+ghost use Rattle.pas_tree.specs.ExpressionTrees.{access_tree, expression_tree, factor_tree, simple_tree, term_tree};
 ghost use Rattle.check_steps.specs.Steps.{Does};
-ghost use Rattle.expression_checker.specs.Actuals.{access_name, after_section, argued, factor_name, file_argued};
-ghost use Rattle.expression_checker.specs.Actuals.{file_in, file_of, formal_at, formal_in, formals_after, is_actual};
-ghost use Rattle.expression_checker.specs.Actuals.{is_argument, is_congruous, is_free, is_input, is_of_type};
-ghost use Rattle.expression_checker.specs.Actuals.{is_variable_actual, item_if_any, item_of, lone_file, lone_of};
-ghost use Rattle.expression_checker.specs.Actuals.{name_alone, name_if, name_of_if, operand_in, passed, routine_argued};
-ghost use Rattle.expression_checker.specs.Actuals.{routine_item, rule_of, simple_name, term_name, threat_by};
+ghost use Rattle.expression_checker.specs.Actuals.{after_section, argued, file_argued, file_in, file_of, formal_at};
+ghost use Rattle.expression_checker.specs.Actuals.{formal_in, formals_after, is_actual, is_argument, is_congruous};
+ghost use Rattle.expression_checker.specs.Actuals.{is_free, is_input, is_of_type, is_variable_actual, item_if_any};
+ghost use Rattle.expression_checker.specs.Actuals.{item_of, lone_file, lone_of, operand_in, passed, routine_argued};
+ghost use Rattle.expression_checker.specs.Actuals.{routine_item, rule_of, threat_by};
+ghost use Rattle.expression_checker.specs.NamesAlone.{access_name, factor_name, name_alone, name_if, name_of_if};
+ghost use Rattle.expression_checker.specs.NamesAlone.{simple_name, term_name};
 
 use crate::callees::{Callee, ExpectedFormals, callee_of};
 use crate::threats::check_threat_alone;
@@ -245,15 +247,16 @@ fn name_if(alone: bool, name: u32) -> Option<u32>
 }
 
 /// The name that an access is, if it is a name alone.
+#[tactic(auto, using(crate::proofs::Walks::name_items))]
 pub fn access_name(access: &Access) -> Option<u32>
-    ensures { result ≡ access_name access.now }
+    ensures { result ≡ access_name (access_tree access.now) }
 {
     name_if(access.selectors.len() == 0, access.name)
 }
 
-#[tactic(auto, using(crate::proofs::NamesAlone::name_factor))]
+#[tactic(auto, using(pas_tree::proofs::ExpressionViews::access_view, crate::proofs::Walks::name_items))]
 fn factor_name(factor: &Factor) -> Option<u32>
-    ensures { result ≡ factor_name factor.now }
+    ensures { result ≡ factor_name (factor_tree factor.now) }
 {
     match factor {
         Factor::Access(access) => access_name(access),
@@ -267,23 +270,26 @@ fn name_of_if(alone: bool, name: Option<u32>) -> Option<u32>
     if alone { name } else { None }
 }
 
+#[tactic(auto, using(pas_tree::proofs::ExpressionViews::term_view, crate::proofs::Walks::factor_items))]
 fn term_name(term: &Term) -> Option<u32>
-    ensures { result ≡ term_name term.now }
+    ensures { result ≡ term_name (term_tree term.now) }
 {
     let alone = term.others.len() == 0;
     name_of_if(alone, factor_name(&term.first))
 }
 
+#[tactic(auto, using(pas_tree::proofs::ExpressionViews::simple_view, crate::proofs::Walks::term_items))]
 fn simple_name(simple: &Simple) -> Option<u32>
-    ensures { result ≡ simple_name simple.now }
+    ensures { result ≡ simple_name (simple_tree simple.now) }
 {
     let alone = simple.sign.is_none() && simple.others.len() == 0;
     name_of_if(alone, term_name(&simple.first))
 }
 
 /// The name that an expression is, if it is a name alone.
+#[tactic(auto, using(pas_tree::proofs::ExpressionViews::expression_view, crate::proofs::Walks::relation_none))]
 pub fn name_alone(expression: &Expression) -> Option<u32>
-    ensures { result ≡ name_alone expression.now }
+    ensures { result ≡ name_alone (expression_tree expression.now) }
 {
     let alone = expression.relation.is_none();
     name_of_if(alone, simple_name(&expression.left))

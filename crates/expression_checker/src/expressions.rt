@@ -2,11 +2,13 @@
 
 ghost use Rattle.std.specs.Prelude.{◌≡◌};
 ghost use Rattle.pas_tree.specs.ExpressionPlaces.{first_of_expression};
+ghost use Rattle.pas_tree.specs.ExpressionTrees.{access_tree, arguments_tree, expression_tree, factor_tree, index_tree};
+ghost use Rattle.pas_tree.specs.ExpressionTrees.{member_tree, members_tree, selector_tree, simple_tree, term_tree};
 ghost use Rattle.check_steps.specs.Steps.{Does, each};
 ghost use Rattle.expression_checker.specs.Actuals.{argued_as};
 ghost use Rattle.expression_checker.specs.Expressions.{access, actual, call, constructor, count_of, designator};
 ghost use Rattle.expression_checker.specs.Expressions.{expression, factor, index_at, member, name_factor, named_as};
-ghost use Rattle.expression_checker.specs.Expressions.{passing_to, root_name, selector, simple, term};
+ghost use Rattle.expression_checker.specs.Expressions.{next_selector, passing_to, root_name, selector, simple, term};
 
 use crate::actuals::{
     Argument, ExpectedFormal, Lone, Passing, check_argued, check_file, check_passed, check_routine,
@@ -83,17 +85,18 @@ pub fn passing_to(called: Called, name: u32) -> Passing
     }
 }
 
+#[tactic(auto, using(pas_tree::proofs::ExpressionViews::arguments_view, crate::proofs::Walks::count_items))]
 fn count_of(arguments: &Arguments) -> usize
-    ensures { result ≡ count_of arguments.now }
+    ensures { result ≡ count_of (arguments_tree arguments.now) }
 {
     arguments.others.len() + 1
 }
 
 /// An expression, seen from a frame.
 #[cycle(expressions)]
-#[tactic(auto, using(check_steps::proofs::Runs::steps, crate::proofs::Operands::expression_out, crate::proofs::Operands::related_out))]
+#[tactic(auto, using(check_steps::proofs::Runs::steps, pas_tree::proofs::ExpressionViews::expression_view))]
 pub fn check_expression(work: &mut Work, e: &Expression, frame: u32) -> Typed
-    ensures { Does (expression frame e.now) result work.old work.new }
+    ensures { Does (expression frame (expression_tree e.now)) result work.old work.new }
 {
     let left = check_simple(work, &e.left, frame);
     match &e.relation {
@@ -108,9 +111,9 @@ pub fn check_expression(work: &mut Work, e: &Expression, frame: u32) -> Typed
 }
 
 #[cycle(expressions)]
-#[tactic(auto, using(check_steps::proofs::Runs::steps, check_steps::proofs::Runs::loops, crate::proofs::Operands::simple_out, crate::proofs::Operands::next_term_out))]
+#[tactic(auto, using(check_steps::proofs::Runs::steps, check_steps::proofs::Runs::loops, pas_tree::proofs::ExpressionViews::simple_view, crate::proofs::Walks::terms_each))]
 fn check_simple(work: &mut Work, s: &Simple, frame: u32) -> Typed
-    ensures { Does (simple frame s.now) result work.old work.new }
+    ensures { Does (simple frame (simple_tree s.now)) result work.old work.new }
 {
     let first = check_term(work, &s.first, frame);
     let mut value = check_signed(work, &s.sign, first);
@@ -124,9 +127,9 @@ fn check_simple(work: &mut Work, s: &Simple, frame: u32) -> Typed
 }
 
 #[cycle(expressions)]
-#[tactic(auto, using(check_steps::proofs::Runs::steps, check_steps::proofs::Runs::loops, crate::proofs::Operands::term_out, crate::proofs::Operands::next_factor_out))]
+#[tactic(auto, using(check_steps::proofs::Runs::steps, check_steps::proofs::Runs::loops, pas_tree::proofs::ExpressionViews::term_view, crate::proofs::Walks::factors_each))]
 fn check_term(work: &mut Work, t: &Term, frame: u32) -> Typed
-    ensures { Does (term frame t.now) result work.old work.new }
+    ensures { Does (term frame (term_tree t.now)) result work.old work.new }
 {
     let mut value = check_factor(work, &t.first, frame);
     'others: for other in &t.others {
@@ -139,9 +142,9 @@ fn check_term(work: &mut Work, t: &Term, frame: u32) -> Typed
 }
 
 #[cycle(expressions)]
-#[tactic(auto, using(check_steps::proofs::Runs::steps, crate::proofs::Operands::access_factor))]
+#[tactic(auto, using(check_steps::proofs::Runs::steps, pas_tree::proofs::ExpressionViews::access_view, crate::proofs::Walks::name_items, crate::proofs::Walks::selected_each))]
 fn check_factor(work: &mut Work, f: &Factor, frame: u32) -> Typed
-    ensures { Does (factor frame f.now) result work.old work.new }
+    ensures { Does (factor frame (factor_tree f.now)) result work.old work.new }
 {
     match f {
         Factor::Number(token) => check_number(work, *token),
@@ -168,9 +171,9 @@ fn check_factor(work: &mut Work, f: &Factor, frame: u32) -> Typed
 
 /// A function designator with this many actual parameters.
 #[cycle(expressions)]
-#[tactic(auto, using(check_steps::proofs::Runs::steps, check_steps::proofs::Runs::loops, crate::proofs::Parts::call_out, crate::proofs::Parts::next_argument_out))]
+#[tactic(auto, using(check_steps::proofs::Runs::steps, check_steps::proofs::Runs::loops, pas_tree::proofs::ExpressionViews::arguments_view, crate::proofs::Walks::arguments_each))]
 fn check_call(work: &mut Work, a: &Arguments, name: u32, frame: u32, count: usize) -> Typed
-    ensures { Does (call frame name count a.now) result work.old work.new }
+    ensures { Does (call frame name count (arguments_tree a.now)) result work.old work.new }
 {
     let called = check_called(work, name, frame, count);
     let passing = passing_to(called, name);
@@ -183,7 +186,7 @@ fn check_call(work: &mut Work, a: &Arguments, name: u32, frame: u32, count: usiz
 
 /// One more actual parameter of a list, at the parenthesis or comma before it.
 #[cycle(expressions)]
-#[tactic(auto, using(check_steps::proofs::Runs::steps), unfolding(crate::specs::Expressions::actual, crate::specs::Actuals::actual_by))]
+#[tactic(auto, using(check_steps::proofs::Runs::steps), unfolding(crate::specs::Actuals::actual_by))]
 pub fn check_actual(
     work: &mut Work,
     e: &Expression,
@@ -191,7 +194,7 @@ pub fn check_actual(
     passing: Passing,
     slot: u32,
 ) -> Passing
-    ensures { Does (actual frame passing slot e.now) result work.old work.new }
+    ensures { Does (actual frame passing slot (expression_tree e.now)) result work.old work.new }
 {
     let name = name_alone(e);
     let formal = formal_at(&work.tables, passing.formals);
@@ -211,8 +214,8 @@ fn check_argument(
     formal: ExpectedFormal,
     lone: Lone,
 ) -> Argument
-    ensures { Does (argued_as frame formal lone (first_of_expression e.now) (expression frame e.now)) result
-        work.old work.new }
+    ensures { Does (argued_as frame formal lone (first_of_expression (expression_tree e.now))
+        (expression frame (expression_tree e.now))) result work.old work.new }
 {
     match lone {
         Lone::None => {
@@ -225,9 +228,9 @@ fn check_argument(
 }
 
 /// An access of a variable, a parameter or a field, seen from a frame.
-#[tactic(auto, using(check_steps::proofs::Runs::steps), unfolding(crate::specs::Expressions::access))]
+#[tactic(auto, using(check_steps::proofs::Runs::steps, crate::proofs::Walks::selected_each))]
 pub fn check_access(work: &mut Work, a: &Access, frame: u32) -> Typed
-    ensures { Does (access frame a.now) result work.old work.new }
+    ensures { Does (access frame (access_tree a.now)) result work.old work.new }
 {
     let root = check_variable(work, a.name, frame);
     check_selectors(work, &a.selectors, frame, root)
@@ -236,7 +239,7 @@ pub fn check_access(work: &mut Work, a: &Access, frame: u32) -> Typed
 #[cycle(expressions)]
 #[tactic(auto, using(check_steps::proofs::Runs::loops))]
 fn check_selectors(work: &mut Work, selectors: &[Selector], frame: u32, root: Typed) -> Typed
-    ensures { Does (each (selector frame) root selectors.now) result work.old work.new }
+    ensures { Does (each (next_selector frame) root selectors.now) result work.old work.new }
 {
     let mut place = root;
     'selectors: for selector in selectors {
@@ -248,7 +251,7 @@ fn check_selectors(work: &mut Work, selectors: &[Selector], frame: u32, root: Ty
 #[cycle(expressions)]
 #[tactic(auto, using(check_steps::proofs::Runs::steps))]
 fn check_selector(work: &mut Work, s: &Selector, frame: u32, place: Typed) -> Typed
-    ensures { Does (selector frame place s.now) result work.old work.new }
+    ensures { Does (selector frame place (selector_tree s.now)) result work.old work.new }
 {
     match s {
         Selector::Index(index) => check_index(work, index, frame, place),
@@ -258,9 +261,9 @@ fn check_selector(work: &mut Work, s: &Selector, frame: u32, place: Typed) -> Ty
 }
 
 #[cycle(expressions)]
-#[tactic(auto, using(check_steps::proofs::Runs::steps, check_steps::proofs::Runs::loops, crate::proofs::Parts::index_out, crate::proofs::Parts::next_index_out))]
+#[tactic(auto, using(check_steps::proofs::Runs::steps, check_steps::proofs::Runs::loops, pas_tree::proofs::ExpressionViews::index_view, crate::proofs::Walks::indexes_each))]
 fn check_index(work: &mut Work, x: &Index, frame: u32, place: Typed) -> Typed
-    ensures { Does (index_at frame place x.now) result work.old work.new }
+    ensures { Does (index_at frame place (index_tree x.now)) result work.old work.new }
 {
     let index = check_expression(work, &x.first, frame);
     let mut part = check_indexed(work, place, x.open, first_of_expression(&x.first), index);
@@ -273,9 +276,9 @@ fn check_index(work: &mut Work, x: &Index, frame: u32, place: Typed) -> Typed
 }
 
 #[cycle(expressions)]
-#[tactic(auto, using(check_steps::proofs::Runs::steps, check_steps::proofs::Runs::loops, crate::proofs::Parts::some_members_out, crate::proofs::Parts::next_member_out))]
+#[tactic(auto, using(check_steps::proofs::Runs::steps, check_steps::proofs::Runs::loops, pas_tree::proofs::ExpressionViews::members_view, crate::proofs::Walks::members_each))]
 fn check_constructor(work: &mut Work, m: &Members, frame: u32) -> Typed
-    ensures { Does (constructor frame m.now) result work.old work.new }
+    ensures { Does (constructor frame (members_tree m.now)) result work.old work.new }
 {
     match m {
         Members::Empty(_, close) => check_set(work, nothing_gathered(*close), LIST_END, *close),
@@ -291,9 +294,9 @@ fn check_constructor(work: &mut Work, m: &Members, frame: u32) -> Typed
 }
 
 #[cycle(expressions)]
-#[tactic(auto, using(check_steps::proofs::Runs::steps, crate::proofs::Parts::member_out, crate::proofs::Parts::range_out))]
+#[tactic(auto, using(check_steps::proofs::Runs::steps, pas_tree::proofs::ExpressionViews::member_view))]
 fn check_member(work: &mut Work, m: &Member, frame: u32, gathered: Gathered, slot: u32) -> Gathered
-    ensures { Does (member frame gathered slot m.now) result work.old work.new }
+    ensures { Does (member frame gathered slot (member_tree m.now)) result work.old work.new }
 {
     let value = check_expression(work, &m.first, frame);
     let begun = MemberStart {

@@ -5,7 +5,7 @@ use Rattle.grammar.proofs.{Every.every_at, Larger.IsPart, Larger.none_in}
 use Rattle.grammar.proofs.Decided.{Begun, Tested, begun, freed, none_begun, none_tested, starts_up, tested}
 use Rattle.grammar.specs.{Nodes.Node, Nodes.spell, Terminals.every, Terminals.every_of, Tested.Is, Tested.Within, declared.terminals.Terminal.Terminal}
 use Rattle.grammar.specs.Deciding.{IsDecided, LevelTables, all_levels, both, closed, decides, first, implies, level_is_decided, none, nullable, sane}
-use Rattle.grammar.specs.Grammars.{Free, FreeWithin, Grammar, IsNone, Level, block, by_end, by_until, denoter, factor, heading, statement, variant_part}
+use Rattle.grammar.specs.Grammars.{Free, FreeWithin, Grammar, IsNone, Level, block, by_end, by_until, denoter, factor, heading, schema, statement, variant_part}
 
 pub every_level : (t : Level → Bool) → every_of t all_levels ≡ true → (l : Level) → t l ≡ true
 every_level t e block = every_at t 0 all_levels e
@@ -15,8 +15,9 @@ every_level t e (statement true by_end) = every_at t 3 all_levels e
 every_level t e (statement false by_until) = every_at t 4 all_levels e
 every_level t e (statement true by_until) = every_at t 5 all_levels e
 every_level t e denoter = every_at t 6 all_levels e
-every_level t e variant_part = every_at t 7 all_levels e
-every_level t e factor = every_at t 8 all_levels e
+every_level t e schema = every_at t 7 all_levels e
+every_level t e variant_part = every_at t 8 all_levels e
+every_level t e factor = every_at t 9 all_levels e
 
 pub record LevelParts (t : LevelTables) (l : Level) : Type 0 where
   pub sound : sane (t.rule l) ≡ true

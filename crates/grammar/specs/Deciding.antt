@@ -2,7 +2,7 @@
 use Rattle.std.specs.Prelude.{◌&&◌, ◌||◌, ◌∷◌, [], Bool, List, None, Option, Some, cond, false, not, true}
 use Rattle.grammar.specs.{Terminals.every, Terminals.every_of, Terminals.one_of, declared.terminals.Terminal.Terminal}
 use Rattle.grammar.specs.Grammars.{Grammar, Level, again, block, by_end, by_until, choice, denoter, factor, greedy}
-use Rattle.grammar.specs.Grammars.{heading, level, loop, nothing, seq, statement, token, variant_part}
+use Rattle.grammar.specs.Grammars.{heading, level, loop, nothing, schema, seq, statement, token, variant_part}
 
 abbrev pub both : Bool → Bool → Bool
 both a b = a && b
@@ -145,7 +145,7 @@ abbrev pub all_levels : List Level
 all_levels =
     block ∷ heading ∷ statement false by_end ∷ statement true by_end ∷ statement false by_until
     ∷ statement true by_until
-    ∷ denoter ∷ variant_part ∷ factor ∷ []
+    ∷ denoter ∷ schema ∷ variant_part ∷ factor ∷ []
 
 -- One token decides each choice, in the grammar of whole texts and in the rules of all levels.
 abbrev pub IsDecided : LevelTables → Grammar → Bool

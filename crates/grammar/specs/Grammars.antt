@@ -15,6 +15,7 @@ pub data Level : Type 0 where
   heading : Level
   statement : (inner : Bool) (closer : Closer) → Level
   denoter : Level
+  schema : Level
   variant_part : Level
   factor : Level
 

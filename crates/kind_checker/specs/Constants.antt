@@ -2,9 +2,9 @@
 use Rattle.std.specs.Prelude.{if◌then◌else◌, ◌∷◌, [], ℕ, ℤ, Bool, List, None, Option, Some, false, nat_eq, nat_le}
 use Rattle.std.specs.{Prelude.negsuc, Prelude.pos, Prelude.true, Int.RustNames.int_lt}
 use lib.IntN.{neg_ℤ}
-use Rattle.pas_tree.specs.OperatorPlaces.{sign_token}
+use Rattle.pas_tree.specs.{BlockTrees.ConstantPartTree, OperatorPlaces.sign_token}
 use Rattle.pas_tree.specs.declared.{constants.Constant.Constant, operators.Sign.Sign}
-use Rattle.pas_tree.specs.declared.blocks.{ConstantDefinition.ConstantDefinition, ConstantPart.ConstantPart}
+use Rattle.pas_tree.specs.declared.blocks.ConstantDefinition.{ConstantDefinition}
 use Rattle.core_program.specs.{ProgramRows.text_at, declared.rows.NameRow.NameRow, declared.rows.Row.Row}
 use Rattle.check_steps.specs.Known.{Known, row_at, spelled_at}
 use Rattle.check_steps.specs.Names.{define_in, use_again, use_at}
@@ -120,8 +120,8 @@ constant_again frame (Constant.Text n) = look (λ k. Some (text_value n (text_at
 
 -- ---- the constant part
 
-abbrev pub constants_in : ConstantPart → List ConstantDefinition
-constants_in p = p.first ∷ p.others.items
+abbrev pub constants_in : ConstantPartTree → List ConstantDefinition
+constants_in p = p.first ∷ p.others
 
 -- a constant may be used from the semicolon after its definition on
 unfoldable pub define_constant : ℕ → Unit {0} → ConstantDefinition → Step (Unit {0})

@@ -1,6 +1,6 @@
 -- The names of a list.
 use Rattle.std.specs.Prelude.{ℕ}
-use Rattle.pas_tree.specs.declared.constants.{Names.Names, NextName.NextName}
+use Rattle.pas_tree.specs.{ConstantTrees.NamesTree, declared.constants.NextName.NextName}
 use Rattle.check_steps.specs.{Names.define_in, Steps.◌>>=◌, Steps.Step, Steps.each, declared.regions.Def.Def}
 use Rattle.kind_checker.specs.declared.names.NameKind.{NameKind}
 
@@ -8,10 +8,10 @@ unfoldable pub on_name : {A : Type 0} → (A → ℕ → Step A) → A → NextN
 on_name f a n = f a n.name
 
 -- a step for each name of a list in turn
-abbrev pub each_name : {A : Type 0} → (A → ℕ → Step A) → A → Names → Step A
+abbrev pub each_name : {A : Type 0} → (A → ℕ → Step A) → A → NamesTree → Step A
 each_name f a n = do
   b ← f a n.first
-  each (on_name f) b n.others.items
+  each (on_name f) b n.others
 
 abbrev pub defined_as : NameKind → ℕ → Def
 defined_as NameKind.Constant token = Def.Constant token

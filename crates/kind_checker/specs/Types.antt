@@ -1,7 +1,7 @@
 -- Type denoters without others inside: names, enumerations, subranges, pointers; and sets of a base.
 use Rattle.std.specs.Prelude.{if◌then◌else◌, ◌&&◌, ◌+ℤ◌, ℕ, ℤ, Bool, None, Option, Some, false, nat_eq, negsuc, pos}
 use Rattle.std.specs.{Prelude.true, Prelude.unwrap_or, Int.RustNames.int_le, Int.RustNames.int_lt}
-use Rattle.pas_tree.specs.declared.denoters.Enumeration.{Enumeration}
+use Rattle.pas_tree.specs.DenoterTrees.{EnumerationTree}
 use Rattle.core_program.specs.declared.rows.{NameRow.NameRow, Row.Row, TypeRow.TypeRow}
 use Rattle.check_steps.specs.{Known.Known, Known.row_at, Known.type_at, Names.use_at}
 use Rattle.check_steps.specs.Steps.{◌>>=◌, Step, early, give, late, look, put}
@@ -69,11 +69,11 @@ enumerated of' last name = do
   give (successor last)
 
 -- the constants have the ordinals from 0 on
-unfoldable pub enumeration : Enumeration → Step ℕ
+unfoldable pub enumeration : EnumerationTree → Step ℕ
 enumeration e = do
-  greatest ← each_name (enumerated e.«open») (negsuc 0) e.names
-  _ ← put e.«open» (Row.Type (TypeRow.Ordinal (pos 0) greatest))
-  give e.«open»
+  greatest ← each_name (enumerated e.left) (negsuc 0) e.names
+  _ ← put e.left (Row.Type (TypeRow.Ordinal (pos 0) greatest))
+  give e.left
 
 -- ---- pointers
 

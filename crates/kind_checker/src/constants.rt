@@ -1,6 +1,7 @@
 //! Constants (6.3).
 
 ghost use Rattle.std.specs.Prelude.{◌≡◌, IfOk};
+ghost use Rattle.pas_tree.specs.BlockTrees.{constant_part_tree};
 ghost use Rattle.check_steps.specs.{Known.spelled_at, Steps.Does, Steps.each};
 ghost use Rattle.kind_checker.specs.Constants.{constant, constant_again, constant_part, constants_in, define_constant};
 ghost use Rattle.kind_checker.specs.Constants.{integer_in, is_constant, is_integer, named_again, named_constant};
@@ -264,7 +265,8 @@ fn define_more_constants(
 /// Defines the constants of a part.
 #[tactic(auto, using(check_steps::proofs::Runs::steps))]
 pub fn define_constants(work: &mut Work, region: u32, part: &ConstantPart) -> Result<(), AllocError>
-    ensures { IfOk result (λ _. Does (each (define_constant region) tt (constants_in part.now)) tt work.old work.new) }
+    ensures { IfOk result (λ _. Does (each (define_constant region) tt (constants_in (constant_part_tree part.now))) tt
+        work.old work.new) }
 {
     define_constant(work, region, &part.first)?;
     define_more_constants(work, region, &part.others)?;
@@ -302,7 +304,7 @@ fn check_more_constants(work: &mut Work, frame: u32, parts: &[ConstantDefinition
 /// What the constants of a part stand for.
 #[tactic(auto, using(check_steps::proofs::Runs::steps))]
 pub fn check_constants(work: &mut Work, frame: u32, part: &ConstantPart)
-    ensures { Does (each (constant_part frame) tt (constants_in part.now)) tt work.old work.new }
+    ensures { Does (each (constant_part frame) tt (constants_in (constant_part_tree part.now))) tt work.old work.new }
 {
     check_constant_part(work, frame, &part.first);
     check_more_constants(work, frame, &part.others);

@@ -1,6 +1,7 @@
 //! The names of a list.
 
 ghost use Rattle.std.specs.Prelude.{◌≡◌, IfOk};
+ghost use Rattle.pas_tree.specs.ConstantTrees.{names_tree};
 ghost use Rattle.check_steps.specs.Steps.{Does, each};
 ghost use Rattle.kind_checker.specs.Names.{define_name, defined_as, each_name, on_name};
 
@@ -83,7 +84,8 @@ pub fn define_names(
     kind: NameKind,
     names: &Names,
 ) -> Result<(), AllocError>
-    ensures { IfOk result (λ _. Does (each_name (define_name region kind) tt names.now) tt work.old work.new) }
+    ensures { IfOk result (λ _. Does (each_name (define_name region kind) tt (names_tree names.now)) tt work.old
+        work.new) }
 {
     define_name(work, region, kind, names.first)?;
     define_more_names(work, region, kind, &names.others)?;

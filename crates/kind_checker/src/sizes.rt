@@ -7,7 +7,10 @@ ghost use Rattle.kind_checker.specs.Sizes.{is_within_bytes, values_from, values_
 use check_steps::Tables;
 use core_program::rows::TypeRow;
 
-/// What stands for more cells of a type than a variable may have.
+/// The most cells of a variable, a value parameter or an argument of `new`.
+pub const MOST_CELLS: u32 = 65_536;
+
+/// What stands for more cells of a type than that.
 const CELLS: u32 = 65_537;
 
 /// What stands for more cells than a frame may have.

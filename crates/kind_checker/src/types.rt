@@ -2,6 +2,7 @@
 //! of a base (6.4.3.4).
 
 ghost use Rattle.std.specs.Prelude.{◌≡◌};
+ghost use Rattle.pas_tree.specs.{ConstantTrees.names_tree, DenoterTrees.enumeration_tree};
 ghost use Rattle.check_steps.specs.Steps.{Does, each};
 ghost use Rattle.kind_checker.specs.Names.{each_name, on_name};
 ghost use Rattle.kind_checker.specs.Types.{base_type, definition_of, domain_named, enumerated, enumeration, is_range};
@@ -170,7 +171,7 @@ fn check_more_enumerated(work: &mut Work, of: u32, last: i32, names: &[NextName]
 
 #[tactic(auto, using(check_steps::proofs::Runs::steps))]
 fn check_each_enumerated(work: &mut Work, of: u32, last: i32, names: &Names) -> i32
-    ensures { Does (each_name (enumerated of) last names.now) result work.old work.new }
+    ensures { Does (each_name (enumerated of) last (names_tree names.now)) result work.old work.new }
 {
     let first = check_enumerated(work, of, last, names.first);
     check_more_enumerated(work, of, first, &names.others)
@@ -179,7 +180,7 @@ fn check_each_enumerated(work: &mut Work, of: u32, last: i32, names: &Names) -> 
 /// An enumerated type, at its `(`, and its constants.
 #[tactic(auto, using(check_steps::proofs::Runs::steps), unfolding(crate::specs::Types::enumeration))]
 pub fn check_enumeration(work: &mut Work, e: &Enumeration) -> u32
-    ensures { Does (enumeration e.now) result work.old work.new }
+    ensures { Does (enumeration (enumeration_tree e.now)) result work.old work.new }
 {
     let greatest = check_each_enumerated(work, e.open, -1, &e.names);
     work.put(e.open, Row::Type(TypeRow::Ordinal { least: 0, greatest }));

@@ -11,6 +11,7 @@ ghost use Rattle.pas_tree.specs.Rules.{formal_rule, formals_rule, function_rule,
 ghost use Rattle.pas_tree.specs.Rules.{procedure_rule, result_rule, variables_formal_rule};
 ghost use Rattle.pas_phrases.specs.Items.{ReadsAs, items_from};
 
+use crate::schemas::read_formal_type;
 use grammar::Terminal;
 use pas_phrases::ParseFault;
 use pas_phrases::constants::read_names;
@@ -219,8 +220,8 @@ fn read_formal_names(
 {
     let (names, after) = read_names(alloc, tokens, at, depth)?;
     let (colon, after) = tokens.expect(after, Terminal::Colon)?;
-    let (name, after) = tokens.expect(after, Terminal::Name)?;
-    Ok((FormalNames { names, colon, name }, after))
+    let (of, after) = read_formal_type(alloc, tokens, after, depth)?;
+    Ok((FormalNames { names, colon, of }, after))
 }
 
 /// Whether a heading may begin here.

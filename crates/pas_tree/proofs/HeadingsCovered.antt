@@ -3,6 +3,7 @@ use Rattle.std.proofs.Common.{◌∷◌, [], None, Some, refl}
 use Rattle.grammar.specs.{Grammars.Level, Nesting.Trees, declared.terminals.Terminal.Terminal}
 use Rattle.pas_tree.proofs.{ConstantsCovered.names_covered, HeadingRolls.formals_rolled, Levels.Levels, Memory.boxed, Parts.parts, Repeated.listed}
 use Rattle.pas_tree.proofs.Covers.{Covers, absent, choose, four, made, one, pair, three}
+use Rattle.pas_tree.proofs.SchemasCovered.{formal_type_covered}
 use Rattle.pas_tree.specs.Headings as node
 use Rattle.pas_tree.specs.Rules as r
 use Rattle.pas_tree.specs.declared.headings.{Formals.roll-Formals, Heading.Function, Heading.Procedure, ProcedureHeading.ProcedureHeading'}
@@ -12,7 +13,8 @@ use Rattle.pas_tree.specs.declared.headings.FunctionHeading.{FunctionHeading', N
 module _ {E : Level → Trees} (levels : Levels E) where
   formal_names_covered : Covers E r.variables_formal_rule node.formal_names_node
   unfolding r.variables_formal_rule
-  formal_names_covered = made (λ (names, colon, name). record { names = names; colon = colon; name = name }) (λ _. refl) (three names_covered one one)
+  formal_names_covered = made (λ (names, colon, of). record { names = names; colon = colon; of = of }) (λ _. refl)
+      (three names_covered one (formal_type_covered levels))
 
   formal_covered : Covers E r.formal_rule node.formal_node
   unfolding r.formal_rule

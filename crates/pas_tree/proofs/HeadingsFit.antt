@@ -1,7 +1,7 @@
 -- Every heading's node fits its rule.
 use Rattle.std.proofs.Common.{◌∷◌, [], None, Option, Some, refl}
 use Rattle.grammar.specs.{Grammars.many, declared.terminals.Terminal.Terminal}
-use Rattle.pas_tree.proofs.ConstantsFit.{names_fits}
+use Rattle.pas_tree.proofs.{ConstantsFit.names_fits, SchemasFit.formal_type_fits}
 use Rattle.pas_tree.proofs.Fits.{Fits, absent, cons, deeper, left, nil, one, pair, right}
 use Rattle.pas_tree.specs.Headings as node
 use Rattle.pas_tree.specs.Rules as r
@@ -13,7 +13,7 @@ use Rattle.pas_tree.specs.declared.headings.ProcedureHeading.{ProcedureHeading, 
 
 formal_names_fits : (f : FormalNames) → Fits r.variables_formal_rule (node.formal_names_node f)
 unfolding r.variables_formal_rule
-formal_names_fits f = pair (names_fits f.names) (pair (one refl) (one refl))
+formal_names_fits f = pair (names_fits f.names) (pair (one refl) (formal_type_fits f.of))
 
 result_fits : (t : Option ResultType) → Fits r.result_rule (node.result_node t)
 unfolding r.result_rule

@@ -2,12 +2,11 @@
 use Rattle.std.proofs.Common.{◌<◌, ◌∷◌, ◌≡◌, [], ℕ, List, None, Option, Some, ap, arith, map, refl}
 use Rattle.grammar.specs.{Terminals.place, declared.terminals.Terminal.Terminal}
 use Rattle.grammar.specs.Nodes.{Leaf, Node, Nothing, Pair, row}
+use Rattle.pas_tree.specs.{ConstantTrees.constants_tree, ConstantTrees.names_tree, declared.operators.MultiplyingOperator.MultiplyingOperator}
 use Rattle.pas_tree.specs.Constants.{constant_node, constants_node, names_node, next_constant_node, next_name_node}
 use Rattle.pas_tree.specs.Operators.{adding_node, direction_node, multiplying_node, relational_node, sign_leaf, sign_node, token_node}
-use Rattle.pas_tree.specs.SameConstants.{AllSame, SameConstants, SameNames, SameNextConstant, SameNextName}
-use Rattle.pas_tree.specs.declared.constants.{Constant.Constant, Constants.Constants, Names.Names}
+use Rattle.pas_tree.specs.declared.constants.{Constant.Constant, Constants.Constants, Names.Names, NextConstant.NextConstant, NextName.NextName}
 use Rattle.pas_tree.specs.declared.operators.{AddingOperator.AddingOperator, Direction.Direction, RelationalOperator.RelationalOperator, Sign.Sign}
-use Rattle.pas_tree.specs.declared.operators.MultiplyingOperator.{MultiplyingOperator}
 
 abbrev pub form : Node → ℕ
 form (Leaf item) = 0
@@ -95,11 +94,18 @@ direction_told (Direction.Downto n) (Direction.Downto m) e = ap Direction.Downto
 direction_told d c e = absurd (omega (arith, ap lead e))
 
 -- lists
-pub all_told : {A : Type 0} (view : A → Node) (same : A → A → Type 0) → ((x y : A) → view x ≡ view y → same x y) → (xs ys : List A)
-    → row (map view xs) ≡ row (map view ys) → AllSame same xs ys
-all_told view same told [] [] e = tt
-all_told view same told (x ∷ xs) (y ∷ ys) e = (told x y (ap left e), all_told view same told xs ys (ap right e))
-all_told view same told xs ys e = absurd (omega (arith, ap form e))
+pub all_told : {A B : Type 0} (view : A → Node) (tree : A → B) → ((x y : A) → view x ≡ view y → tree x ≡ tree y) → (xs ys : List A)
+    → row (map view xs) ≡ row (map view ys) → map tree xs ≡ map tree ys
+all_told view tree told [] [] e = refl
+all_told view tree told (x ∷ xs) (y ∷ ys) e = λ i. told x y (ap left e) i ∷ all_told view tree told xs ys (ap right e) i
+all_told view tree told xs ys e = absurd (omega (arith, ap form e))
+
+-- the same of items that hold no memory
+pub items_told : {A : Type 0} (view : A → Node) → ((x y : A) → view x ≡ view y → x ≡ y) → (xs ys : List A)
+    → row (map view xs) ≡ row (map view ys) → xs ≡ ys
+items_told view told [] [] e = refl
+items_told view told (x ∷ xs) (y ∷ ys) e = λ i. told x y (ap left e) i ∷ items_told view told xs ys (ap right e) i
+items_told view told xs ys e = absurd (omega (arith, ap form e))
 
 pub row_form : (l : List Node) → 0 < form (row l)
 row_form [] = omega arith
@@ -112,9 +118,15 @@ token_told kind p q e = absurd (omega (arith, ap form e))
 
 -- ---- names and constants
 
-pub names_told : (a b : Names) → names_node a ≡ names_node b → SameNames a b
+next_name_told : (a b : NextName) → next_name_node a ≡ next_name_node b → a ≡ b
+next_name_told a b e = λ i. record { comma = ap left_number e i; name = ap number (ap right e) i }
+
+pub names_told : (a b : Names) → names_node a ≡ names_node b → names_tree a ≡ names_tree b
 names_told a b e =
-    (ap left_number e, all_told next_name_node SameNextName (λ x y q. (ap left_number q, ap number (ap right q))) a.others.items b.others.items (ap right e))
+    λ i. record {
+      first = ap left_number e i;
+      others = items_told next_name_node next_name_told a.others.items b.others.items (ap right e) i;
+    }
 
 abbrev constant_place : Constant → ℕ
 constant_place (Constant.Number s n) = place Terminal.Number
@@ -136,9 +148,12 @@ constant_told (Constant.Name (Some s) n) (Constant.Name (Some t) m) e = cc (sign
 constant_told (Constant.Text n) (Constant.Text m) e = ap Constant.Text (ap number e)
 constant_told c d e = absurd (omega (arith, ap form e, ap last e, constant_last c, constant_last d))
 
-pub constants_told : (a b : Constants) → constants_node a ≡ constants_node b → SameConstants a b
-constants_told a b e = (
-  constant_told a.first b.first (ap left e),
-  all_told next_constant_node SameNextConstant (λ x y q. (ap left_number q, constant_told x.constant y.constant (ap right q))) a.others.items b.others.items
-      (ap right e),
-)
+next_constant_told : (a b : NextConstant) → next_constant_node a ≡ next_constant_node b → a ≡ b
+next_constant_told a b e = λ i. record { comma = ap left_number e i; constant = constant_told a.constant b.constant (ap right e) i }
+
+pub constants_told : (a b : Constants) → constants_node a ≡ constants_node b → constants_tree a ≡ constants_tree b
+constants_told a b e =
+    λ i. record {
+      first = constant_told a.first b.first (ap left e) i;
+      others = items_told next_constant_node next_constant_told a.others.items b.others.items (ap right e) i;
+    }

@@ -1,9 +1,9 @@
 -- Each grammatical node whose lists are short is that of a typed tree.
 use Rattle.std.proofs.Common.{ℕ, None, suc, zero}
 use Rattle.grammar.specs.{Grammars.FreeWithin, Grammars.IsNone, Grammars.Level, Grammars.level, Nesting.Trees, Nodes.Node}
-use Rattle.pas_tree.proofs.{BlocksCovered.block_covered, BlocksCovered.program_covered, Covers.Covers, ExpressionsCovered.factor_covered, Fits.loose_rule}
-use Rattle.pas_tree.proofs.{HeadingsCovered.heading_covered, Levels.Levels, ShapedIsGrammatical.shaped_is_grammatical, StatementsCovered.statement_covered}
-use Rattle.pas_tree.proofs.DenotersCovered.{denoter_covered, variant_part_covered}
+use Rattle.pas_tree.proofs.{BlocksCovered.block_covered, BlocksCovered.program_covered, Covers.Covers, DenotersCovered.denoter_covered}
+use Rattle.pas_tree.proofs.{DenotersCovered.variant_part_covered, ExpressionsCovered.factor_covered, Fits.loose_rule, HeadingsCovered.heading_covered}
+use Rattle.pas_tree.proofs.{Levels.Levels, SchemasCovered.schema_covered, ShapedIsGrammatical.shaped_is_grammatical, StatementsCovered.statement_covered}
 use Rattle.pas_tree.specs.{FirstFollow.pascal, Rules.program_rule, Rules.rule, TypedTrees.GrammaticalHaveTrees, TypedTrees.ShapedHaveTrees}
 
 abbrev LooseWithin : ℕ → Level → Trees
@@ -24,6 +24,7 @@ levels_within zero = record {
   heading = no_tree;
   statement = λ inner closer. no_tree;
   denoter = no_tree;
+  schema = no_tree;
   variant_part = no_tree;
   factor = no_tree;
 }
@@ -32,6 +33,7 @@ levels_within (suc n) = record {
   heading = deeper n (heading_covered (levels_within n));
   statement = λ inner closer. deeper n (statement_covered (levels_within n) inner closer);
   denoter = deeper n (denoter_covered (levels_within n));
+  schema = deeper n (schema_covered (levels_within n));
   variant_part = deeper n (variant_part_covered (levels_within n));
   factor = deeper n (factor_covered (levels_within n));
 }

@@ -2,7 +2,7 @@
 use Rattle.std.specs.Prelude.{◌∷◌, [], Bool, false, true}
 use Rattle.grammar.specs.{Grammars.variant_part, Terminals.is, Terminals.one_of, declared.terminals.Terminal.Terminal}
 use Rattle.grammar.specs.Deciding.{LevelTables, both, either}
-use Rattle.grammar.specs.Grammars.{Closer, Level, block, by_end, by_until, denoter, factor, heading, statement}
+use Rattle.grammar.specs.Grammars.{Closer, Level, block, by_end, by_until, denoter, factor, heading, schema, statement}
 use Rattle.grammar.specs.declared.terminals.Terminal.TheVariants as k
 use Rattle.pas_tree.specs.Rules.{rule}
 
@@ -13,6 +13,7 @@ first_of (statement inner closer) = one_of (k.Number ∷ k.Name ∷ k.WGoto ∷ 
     ∷ k.WWhile ∷ k.WFor ∷ k.WWith ∷ [])
 first_of denoter = one_of (k.Name ∷ k.LeftParen ∷ k.Number ∷ k.Plus ∷ k.Minus ∷ k.Text ∷ k.Caret ∷ k.WPacked ∷ k.WArray
     ∷ k.WRecord ∷ k.WSet ∷ [])
+first_of schema = one_of (k.WPacked ∷ k.WArray ∷ [])
 first_of variant_part = one_of (k.WCase ∷ [])
 first_of factor = one_of (k.Number ∷ k.Text ∷ k.WNil ∷ k.Name ∷ k.LeftParen ∷ k.LeftBracket ∷ k.WNot ∷ [])
 
@@ -21,6 +22,7 @@ nullable_of block = false
 nullable_of heading = false
 nullable_of (statement inner closer) = true
 nullable_of denoter = false
+nullable_of schema = false
 nullable_of variant_part = false
 nullable_of factor = false
 
@@ -34,6 +36,7 @@ follow_of heading j = one_of (k.Semicolon ∷ k.RightParen ∷ []) j
 follow_of (statement inner closer) j = either (one_of (k.Semicolon ∷ closer_word closer ∷ []) j)
     (both (is k.WElse j) inner)
 follow_of denoter j = one_of (k.Semicolon ∷ k.Comma ∷ k.RightBracket ∷ k.RightParen ∷ k.WEnd ∷ []) j
+follow_of schema j = one_of (k.Semicolon ∷ k.RightParen ∷ []) j
 follow_of variant_part j = one_of (k.RightParen ∷ k.WEnd ∷ []) j
 follow_of factor j =
     one_of (k.Star ∷ k.WDiv ∷ k.WMod ∷ k.WAnd ∷ k.Plus ∷ k.Minus ∷ k.WOr ∷ k.Equal ∷ k.NotEqual ∷ k.Less ∷ k.AtMost

@@ -2,7 +2,7 @@
 use Rattle.std.specs.Prelude.{None, Option, Some}
 use Rattle.grammar.specs.Nodes.{Node, Nothing, Pair, leaf}
 use Rattle.grammar.specs.declared.terminals.Terminal.TheVariants as k
-use Rattle.pas_tree.specs.{Constants.names_node, declared.headings.Formals.more_of-NextFormal}
+use Rattle.pas_tree.specs.{Constants.names_node, Schemas.formal_type_node, declared.headings.Formals.more_of-NextFormal}
 use Rattle.pas_tree.specs.declared.headings.{FormalNames.FormalNames, NextFormal.NextFormal, ResultType.ResultType}
 use Rattle.pas_tree.specs.declared.headings.Formal.{Formal, Routine', Value, Variable}
 use Rattle.pas_tree.specs.declared.headings.Formals.{Formals, Formals', Row_of-NextFormal, end_of-NextFormal}
@@ -12,7 +12,7 @@ use Rattle.pas_tree.specs.declared.headings.Heading.{Function, Heading, Procedur
 use Rattle.pas_tree.specs.declared.headings.ProcedureHeading.{ProcedureHeading, ProcedureHeading'}
 
 abbrev pub formal_names_node : FormalNames → Node
-formal_names_node f = Pair (names_node f.names) (Pair (leaf k.Colon f.colon) (leaf k.Name f.name))
+formal_names_node f = Pair (names_node f.names) (Pair (leaf k.Colon f.colon) (formal_type_node f.of))
 
 abbrev pub result_node : Option ResultType → Node
 result_node None = Nothing

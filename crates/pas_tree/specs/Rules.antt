@@ -1,9 +1,9 @@
 -- The grammar of Pascal, ISO 7185 clauses 6.2 to 6.10. Rules that begin alike are one rule up to where they part,
 -- and the token there leads on.
 use Rattle.std.specs.Prelude.{◌∷◌, [], Bool, List, false, true}
+use Rattle.grammar.specs.{Grammars.word, declared.terminals.Terminal.Terminal}
 use Rattle.grammar.specs.Grammars.{Closer, Grammar, Level, block, by_end, by_until, choice, denoter, factor, greedy}
-use Rattle.grammar.specs.Grammars.{heading, level, many, nothing, seq, series, statement, token, variant_part, word}
-use Rattle.grammar.specs.declared.terminals.Terminal.{Terminal}
+use Rattle.grammar.specs.Grammars.{heading, level, many, nothing, schema, seq, series, statement, token, variant_part}
 use Rattle.grammar.specs.declared.terminals.Terminal.TheVariants as k
 
 -- what may be left out, and begins with one of these
@@ -203,8 +203,35 @@ denoter_rule =
 
 -- ---- headings and formals
 
+unfoldable pub spec_rule : Grammar
+spec_rule = seq (word k.Name) (seq (word k.Range) (seq (word k.Name) (seq (word k.Colon) (word k.Name))))
+
+unfoldable pub next_spec_rule : Grammar
+next_spec_rule = seq (word k.Semicolon) spec_rule
+
+unfoldable pub specs_rule : Grammar
+specs_rule = seq spec_rule (many (k.Semicolon ∷ []) next_spec_rule)
+
+-- A type's name, or a schema. Such a name is no type denoter, so it counts as no level.
+unfoldable pub formal_type_rule : Grammar
+formal_type_rule = choice (k.Name ∷ []) (word k.Name) (level schema)
+
+-- a packed schema has one spec, and a type's name after its `of`
+unfoldable pub packed_schema_rule : Grammar
+packed_schema_rule =
+    seq (word k.WPacked) (seq (word k.WArray) (seq (word k.LeftBracket)
+    (seq spec_rule (seq (word k.RightBracket) (seq (word k.WOf) (word k.Name))))))
+
+unfoldable pub unpacked_schema_rule : Grammar
+unpacked_schema_rule =
+    seq (word k.WArray) (seq (word k.LeftBracket)
+    (seq specs_rule (seq (word k.RightBracket) (seq (word k.WOf) formal_type_rule))))
+
+unfoldable pub schema_rule : Grammar
+schema_rule = choice (k.WPacked ∷ []) packed_schema_rule unpacked_schema_rule
+
 unfoldable pub variables_formal_rule : Grammar
-variables_formal_rule = seq names_rule (seq (word k.Colon) (word k.Name))
+variables_formal_rule = seq names_rule (seq (word k.Colon) formal_type_rule)
 
 unfoldable pub formal_rule : Grammar
 formal_rule = choice (k.Name ∷ []) variables_formal_rule
@@ -380,5 +407,6 @@ rule block = block_rule
 rule heading = heading_rule
 rule (statement inner closer) = statement_rule inner closer
 rule denoter = denoter_rule
+rule schema = schema_rule
 rule variant_part = variant_part_rule
 rule factor = factor_rule

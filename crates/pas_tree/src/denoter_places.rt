@@ -3,6 +3,7 @@
 ghost use Rattle.std.specs.Prelude.{◌≡◌};
 ghost use Rattle.pas_tree.specs.DenoterPlaces.{first_of_constant, first_of_denoter, first_of_signed};
 ghost use Rattle.pas_tree.specs.DenoterPlaces.{first_of_structure};
+ghost use Rattle.pas_tree.specs.DenoterTrees.{denoter_tree, structure_tree};
 
 use crate::constants::Constant;
 use crate::denoters::{Denoter, Structure};
@@ -31,8 +32,9 @@ pub fn first_of_constant(constant: &Constant) -> u32
 }
 
 /// The first token of what is structured, the word `packed` aside.
+#[tactic(auto, using(crate::proofs::DenoterViews::array_view))]
 pub fn first_of_structure(structure: &Structure) -> u32
-    ensures { result ≡ first_of_structure structure.now }
+    ensures { result ≡ first_of_structure (structure_tree structure.now) }
 {
     match structure {
         Structure::Array(array) => array.word,
@@ -43,7 +45,7 @@ pub fn first_of_structure(structure: &Structure) -> u32
 
 /// The first token of a type denoter.
 pub fn first_of_denoter(denoter: &Denoter) -> u32
-    ensures { result ≡ first_of_denoter denoter.now }
+    ensures { result ≡ first_of_denoter (denoter_tree denoter.now) }
 {
     match denoter {
         Denoter::Name(token) => *token,

@@ -1,6 +1,7 @@
 //! Headings of procedures and functions, and their formal parameters (6.6).
 
 use crate::constants::Names;
+use crate::schemas::FormalType;
 
 /// A heading of a procedure or of a function.
 #[derive(Drop)]
@@ -64,10 +65,10 @@ pub enum Formal {
     Routine(Box<Heading>),
 }
 
-/// Names of parameters, a colon and their type's name.
+/// Names of parameters, a colon and their type.
 #[derive(Drop)]
 pub struct FormalNames {
     pub names: Names,
     pub colon: u32,
-    pub name: u32,
+    pub of: FormalType,
 }

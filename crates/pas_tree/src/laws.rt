@@ -2,8 +2,8 @@
 
 ghost use Rattle.std.specs.Prelude.{◌≡◌, true};
 ghost use Rattle.grammar.specs.{Deciding.IsDecided, Loose.IsGrammatical};
-ghost use Rattle.pas_tree.specs.{Blocks.tree_node, FirstFollow.pascal, Rules.program_rule, Rules.rule};
-ghost use Rattle.pas_tree.specs.{SameTrees.NodesTellTrees, SameTrees.TextTellsTree, declared.blocks.Tree.Tree};
+ghost use Rattle.pas_tree.specs.{Blocks.tree_node, FirstFollow.pascal, OneTree.NodesTellTrees, OneTree.TextTellsTree};
+ghost use Rattle.pas_tree.specs.{Rules.program_rule, Rules.rule, declared.blocks.Tree.Tree};
 ghost use Rattle.pas_tree.specs.FirstRefused.{IsExactWhereFirst, IsExactWhereRead};
 
 /// In the grammar of Pascal the next token decides each choice, and the tables of what begins and
@@ -17,7 +17,7 @@ pub fn trees_fit_the_grammar()
     ensures { (t : Tree) → IsGrammatical rule program_rule (tree_node t) }
 {}
 
-/// Trees with equal nodes are the same wherever they lie in memory: a node keeps all that a tree says.
+/// Programs with equal nodes have equal trees without memory: a node keeps all that a tree says.
 /// So a text has at most one formed tree.
 pub fn nodes_tell_trees()
     ensures nodes { NodesTellTrees }

@@ -18,6 +18,8 @@ mod laws;
 mod operator_places;
 pub mod operators;
 mod place_laws;
+mod schema_places;
+pub mod schemas;
 mod statement_places;
 pub mod statements;
 
@@ -32,3 +34,4 @@ pub use operator_places::{
     adding_token, direction_token, multiplying_token, relational_token, sign_token,
 };
 pub use place_laws::places_begin;
+pub use schema_places::first_of_schema;

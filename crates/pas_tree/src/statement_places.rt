@@ -2,12 +2,14 @@
 
 ghost use Rattle.std.specs.Prelude.{◌≡◌};
 ghost use Rattle.pas_tree.specs.StatementPlaces.{first_of_plain, first_of_statement};
+ghost use Rattle.pas_tree.specs.StatementTrees.{plain_tree, statement_tree};
 
 use crate::statements::{Plain, Statement};
 
 /// The first token of a statement without its label, and None of an empty one.
+#[tactic(auto, using(crate::proofs::StatementViews::statement_views))]
 pub fn first_of_plain(plain: &Plain) -> Option<u32>
-    ensures { result ≡ first_of_plain plain.now }
+    ensures { result ≡ first_of_plain (plain_tree plain.now) }
 {
     match plain {
         Plain::Empty => None,
@@ -26,7 +28,7 @@ pub fn first_of_plain(plain: &Plain) -> Option<u32>
 
 /// The first token of a statement, its label counting, and None of an empty one without label.
 pub fn first_of_statement(statement: &Statement) -> Option<u32>
-    ensures { result ≡ first_of_statement statement.now }
+    ensures { result ≡ first_of_statement (statement_tree statement.now) }
 {
     match &statement.label {
         Some(label) => Some(label.number),

@@ -1,7 +1,6 @@
 -- What tables that statements leave as they are say of constants and types.
 use Rattle.std.proofs.Common.{◌++◌, ◌+◌, ◌-◌, ◌<◌, ◌∙◌, ◌∷◌, ◌≡◌, ◌≤◌, ◌⊎◌, [], ℕ, List, None, Option, Some, ap, arith, inl, inr, length, refl, slice_get, suc}
-use Rattle.std.proofs.Common.{sym, unwrap_or, zero}
-use Rattle.std.proofs.lemmas.{List.append-nil, List.append_assoc, List.length-append, Option.none-some}
+use Rattle.std.proofs.{Common.sym, Common.unwrap_or, Common.zero, lemmas.List.append-nil, lemmas.List.length-append, lemmas.Option.none-some}
 use Rattle.grammar.specs.Nodes.{Node}
 use Rattle.pas_tree.specs.declared.constants.Constant.{Constant}
 use Rattle.core_program.specs.{ProgramRows.type_in, declared.rows.NameRow.NameRow, declared.rows.Row.Row}
@@ -10,7 +9,7 @@ use Rattle.check_steps.specs.Known.{Known, find, find_from, found_in, found_with
 use Rattle.check_steps.specs.declared.{regions.Found.Found, regions.Frame.Frame, words.Spelled.Spelled, words.SpelledToken.SpelledToken}
 use Rattle.kind_checker.specs.Constants.{integer_in, text_value, value_in, value_of}
 use Rattle.kind_checker.specs.declared.constants.ConstantValue.{ConstantValue}
-use Rattle.rule_laws.proofs.{Every.Of, Faces.Shown, Faces.said, Touches.Longer, Touches.Same}
+use Rattle.rule_laws.proofs.{Every.Of, Faces.Shown, Faces.said, Touches.Longer, Touches.Same, Touches.longer_still}
 use Rattle.rule_laws.specs.{CaseConstants.stands_for, CaseConstants.with_sign_of, CaseLaws.IsFree, Tokens.Has}
 
 -- what a row says of a type or a constant
@@ -44,19 +43,13 @@ alike_self k = record {
   sayings = λ n. refl;
 }
 
-longer_then : (xs ys zs : List Frame) → Longer xs ys → Longer ys zs → Longer xs zs
-longer_then xs ys zs a b = record {
-  more = a.more ++ b.more;
-  is = b.is ∙ ap (λ (l : List Frame). l ++ b.more) a.is ∙ append_assoc xs a.more b.more;
-}
-
 pub alike_after : {Q : ℕ → Type 0} {strict : Shown} (part : Node) (k j i : Known) → IsUntold k part → ((n : ℕ) → Of Q n → Has part n) → Alike k j
     → Same Q strict j i → Alike k i
 alike_after part k j i untold inside a s = record {
   words = s.words ∙ a.words;
   texts = s.texts ∙ a.texts;
   regions = s.regions ∙ a.regions;
-  frames = longer_then k.frames j.frames i.frames a.frames s.frames;
+  frames = longer_still k.frames j.frames i.frames a.frames s.frames;
   sayings = λ n. elim (s.sayings n) [
     | inl p ↦ sym (denoted_said (row_at i n)) ∙ ap denoted p.1 ∙ sym (untold n (elim p.0 [
       | inl q ↦ inl (inside n q)
@@ -112,38 +105,39 @@ value_still k j a (Some f) =
 no_frame : Frame
 no_frame = record { region = 0; outer = None; level = 0; withs = 0 }
 
-got_left : (fs gs : List Frame) (d : Frame) (f : ℕ) → f < length fs → unwrap_or (slice_get (fs ++ gs) f) d ≡ unwrap_or (slice_get fs f) d
+pub got_left : (fs gs : List Frame) (d : Frame) (f : ℕ) → f < length fs → unwrap_or (slice_get (fs ++ gs) f) d ≡ unwrap_or (slice_get fs f) d
 got_left [] gs d f below = absurd (omega (arith, below))
 got_left (x ∷ xs) gs d zero below = refl
 got_left (x ∷ xs) gs d (suc f) below = got_left xs gs d f (omega (arith, below))
 
-pub frame_still : (k j : Known) → Alike k j → (f : ℕ) → f < length k.frames → frame_at j f ≡ frame_at k f
-frame_still k j a f below =
-    ap (λ (fs : List Frame). unwrap_or (slice_get fs f) (record { region = 0; outer = None; level = 0; withs = 0 })) a.frames.is
-    ∙ got_left k.frames a.frames.more (record { region = 0; outer = None; level = 0; withs = 0 }) f below
+pub frame_still : (k j : Known) → Longer k.frames j.frames → (f : ℕ) → f < length k.frames → frame_at j f ≡ frame_at k f
+frame_still k j longer f below =
+    ap (λ (fs : List Frame). unwrap_or (slice_get fs f) (record { region = 0; outer = None; level = 0; withs = 0 })) longer.is
+    ∙ got_left k.frames longer.more (record { region = 0; outer = None; level = 0; withs = 0 }) f below
 
-find-outermost : (k : Known) (n name : ℕ) → find_from n k None name ≡ None
+pub find-outermost : (k : Known) (n name : ℕ) → find_from n k None name ≡ None
 find-outermost k zero name = refl
 find-outermost k (suc n) name = refl
 
-find_further : (k j : Known) (name : ℕ) → Alike k j → ((f : ℕ) → reach (frame_in k.frames f).outer ≤ f) → (n m : ℕ) (at : Option ℕ)
+pub find_further : (k j : Known) (name : ℕ) → j.regions ≡ k.regions → Longer k.frames j.frames → ((f : ℕ) → reach (frame_in k.frames f).outer ≤ f)
+    → (n m : ℕ) (at : Option ℕ)
     → reach at ≤ length k.frames → reach at ≤ n → reach at ≤ m → find_from n j at name ≡ find_from m k at name
-find_further k j name a falls n m None within b c = find-outermost j n name ∙ sym (find-outermost k m name)
-find_further k j name a falls zero m (Some f) within b c = absurd (omega (arith, b))
-find_further k j name a falls (suc n) zero (Some f) within b c = absurd (omega (arith, c))
-find_further k j name a falls (suc n) (suc m) (Some f) within b c =
+find_further k j name regions longer falls n m None within b c = find-outermost j n name ∙ sym (find-outermost k m name)
+find_further k j name regions longer falls zero m (Some f) within b c = absurd (omega (arith, b))
+find_further k j name regions longer falls (suc n) zero (Some f) within b c = absurd (omega (arith, c))
+find_further k j name regions longer falls (suc n) (suc m) (Some f) within b c =
     let out : reach (frame_at k f).outer ≤ f = falls f in
     ap (λ (g : Frame). or_else (found_with f (defined_in j.regions g.region name)) (find_from n j g.outer name))
-    (frame_still k j a f (omega (arith, within)))
-    ∙ ap (λ (rs : List RegionRows). or_else (found_with f (defined_in rs (frame_at k f).region name)) (find_from n j (frame_at k f).outer name)) a.regions
+    (frame_still k j longer f (omega (arith, within)))
+    ∙ ap (λ (rs : List RegionRows). or_else (found_with f (defined_in rs (frame_at k f).region name)) (find_from n j (frame_at k f).outer name)) regions
     ∙ ap (λ o. or_else (found_in k f name) o)
-    (find_further k j name a falls n m (frame_at k f).outer (omega (arith, out, within)) (omega (arith, out, b)) (omega (arith, out, c)))
+    (find_further k j name regions longer falls n m (frame_at k f).outer (omega (arith, out, within)) (omega (arith, out, b)) (omega (arith, out, c)))
 
 find_still : (k j : Known) → Falls k.frames → Alike k j → (frame name : ℕ) → frame < length k.frames → find j frame name ≡ find k frame name
 unfolding Falls
 find_still k j falls a frame name below =
     let longer : length j.frames ≡ length k.frames + length a.frames.more = ap length a.frames.is ∙ length-append k.frames a.frames.more in
-    find_further k j name a falls (length j.frames) (length k.frames) (Some frame) (omega (arith, below)) (omega (arith, below, longer))
+    find_further k j name a.regions a.frames falls (length j.frames) (length k.frames) (Some frame) (omega (arith, below)) (omega (arith, below, longer))
     (omega (arith, below))
 
 -- ---- constants

@@ -2,8 +2,9 @@
 use Rattle.std.proofs.Common.{◌++◌, ◌<◌, ◌∙◌, ◌∷◌, ◌≡◌, [], ℕ, List, None, Option, Some, ap, arith, false, inl, inr, length, map, nat_eq, refl, subst, sym}
 use Rattle.std.proofs.Common.{true}
 use Rattle.grammar.specs.Nodes.{Node, row}
-use Rattle.pas_tree.specs.{Constants.constant_node, Constants.constants_node, Constants.next_constant_node, DenoterPlaces.first_of_constant}
-use Rattle.pas_tree.specs.declared.{constants.Constant.Constant, constants.Constants.Constants, constants.NextConstant.NextConstant, operators.Sign.Sign}
+use Rattle.pas_tree.specs.{ConstantTrees.ConstantsTree, DenoterPlaces.first_of_constant, TreeNodes.constants_node}
+use Rattle.pas_tree.specs.Constants.{constant_node, next_constant_node}
+use Rattle.pas_tree.specs.declared.{constants.Constant.Constant, constants.NextConstant.NextConstant, operators.Sign.Sign}
 use Rattle.check_steps.specs.{Around.Falls, Breaks.number, Known.Known, Names.use_again, Steps.◌>>=◌, Steps.Step, Steps.each}
 use Rattle.check_steps.specs.declared.breaks.{Break.Break, Broken.TheVariants.Late}
 use Rattle.kind_checker.specs.Constants.{constant_again, named_again, sign_again, signed_again}
@@ -165,9 +166,9 @@ others_tell p is list chosen last (n ∷ ns) inside =
     goes_then (n.constant ∷ []) (map in_next ns) (one_tells p is list chosen last n.comma n.constant inside.0.0 inside.0.1)
     (λ next. others_tell p is list chosen next ns inside.1)
 
-pub choices_tell : (p : Place) → IsPlace p → Has p.part p.c.list → (chosen last slot : ℕ) (xs : Constants) → Of (Has p.part) slot
+pub choices_tell : (p : Place) → IsPlace p → Has p.part p.c.list → (chosen last slot : ℕ) (xs : ConstantsTree) → Of (Has p.part) slot
     → Every (Has p.part) (constants_node xs) → Goes (rule_of p) (listed xs) (choices p.c chosen last slot xs)
 unfolding choices
 choices_tell p is list chosen last slot xs slot-in inside =
-    goes_then (xs.first ∷ []) (map in_next xs.others.items) (one_tells p is list chosen last slot xs.first slot-in inside.0)
-    (λ next. others_tell p is list chosen next xs.others.items inside.1)
+    goes_then (xs.first ∷ []) (map in_next xs.others) (one_tells p is list chosen last slot xs.first slot-in inside.0)
+    (λ next. others_tell p is list chosen next xs.others inside.1)

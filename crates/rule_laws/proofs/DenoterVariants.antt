@@ -1,8 +1,8 @@
 -- What the steps of `Rattle.denoter_checker.specs.Variants` touch.
 use Rattle.std.proofs.Common.{◌+◌, ◌-◌, ℕ, ℤ, Bool, None, Option, Some, refl}
-use Rattle.pas_tree.specs.{DenoterPlaces.first_of_constant, Denoters.tag_rest_node}
-use Rattle.pas_tree.specs.Constants.{constant_node, constants_node, next_constant_node}
-use Rattle.pas_tree.specs.declared.{constants.Constant.Constant, constants.Constants.Constants, constants.NextConstant.NextConstant, denoters.TagField.TagField}
+use Rattle.pas_tree.specs.{ConstantTrees.ConstantsTree, DenoterPlaces.first_of_constant, Denoters.tag_rest_node, TreeNodes.constants_node}
+use Rattle.pas_tree.specs.Constants.{constant_node, next_constant_node}
+use Rattle.pas_tree.specs.declared.{constants.Constant.Constant, constants.NextConstant.NextConstant, denoters.TagField.TagField}
 use Rattle.core_program.specs.declared.rows.{ItemRow.ItemRow, NameRow.NameRow, PartRow.PartRow, Row.Row}
 use Rattle.kind_checker.specs.Sizes.{capped, host_of}
 use Rattle.denoter_checker.specs.Variants.{add_choice, arm_choices, case_constant, choices, chosen_value, constants_uses, hidden_tag, is_choice, listed_choice}
@@ -37,11 +37,11 @@ pub next_constant-touches : {Q : ℕ → Type 0} {strict : Shown} (frame : ℕ) 
 unfolding next_constant
 next_constant-touches frame u n n-in = bind-touches (constant-touches frame n.constant n-in.1) (λ _. give-touches tt)
 
-pub constants_uses-touches : {Q : ℕ → Type 0} {strict : Shown} (frame : ℕ) (c : Constants) → Every Q (constants_node c)
+pub constants_uses-touches : {Q : ℕ → Type 0} {strict : Shown} (frame : ℕ) (c : ConstantsTree) → Every Q (constants_node c)
     → Touches Q strict (constants_uses frame c)
 unfolding constants_uses
 constants_uses-touches frame c c-in = bind-touches (constant-touches frame c.first c-in.0) (λ _. each-touches (next_constant frame) next_constant_node (λ a x h.
-    next_constant-touches frame a x h) tt c.others.items c-in.1)
+    next_constant-touches frame a x h) tt c.others c-in.1)
 
 pub add_choice-touches : {Q : ℕ → Type 0} {strict : Shown} (value : ℤ) (chosen : ℕ) (last : ℕ) (slot : ℕ) → Of Q slot
     → Touches Q strict (add_choice value chosen last slot)
@@ -74,14 +74,15 @@ pub next_choice-touches : {Q : ℕ → Type 0} {strict : Shown} (c : Choosing) (
 unfolding next_choice
 next_choice-touches c chosen last n list-in n-in = case_constant-touches c chosen last n.comma n.constant list-in n-in.0 n-in.1
 
-pub choices-touches : {Q : ℕ → Type 0} {strict : Shown} (c : Choosing) (chosen : ℕ) (last : ℕ) (slot : ℕ) (xs : Constants) → Of Q c.list → Of Q slot
+pub choices-touches : {Q : ℕ → Type 0} {strict : Shown} (c : Choosing) (chosen : ℕ) (last : ℕ) (slot : ℕ) (xs : ConstantsTree) → Of Q c.list → Of Q slot
     → Every Q (constants_node xs)
     → Touches Q strict (choices c chosen last slot xs)
 unfolding choices
 choices-touches c chosen last slot xs list-in slot-in xs-in = bind-touches (case_constant-touches c chosen last slot xs.first list-in slot-in xs-in.0) (λ next.
-    each-touches (next_choice c chosen) next_constant_node (λ a x h. next_choice-touches c chosen a x list-in h) next xs.others.items xs-in.1)
+    each-touches (next_choice c chosen) next_constant_node (λ a x h. next_choice-touches c chosen a x list-in h) next xs.others xs-in.1)
 
-pub arm_choices-touches : {Q : ℕ → Type 0} {strict : Shown} (c : Choosing) (l : Listed) (slot : ℕ) (open' : ℕ) (constants : Constants) → Of Q c.list → Of Q slot
+pub arm_choices-touches : {Q : ℕ → Type 0} {strict : Shown} (c : Choosing) (l : Listed) (slot : ℕ) (open' : ℕ) (constants : ConstantsTree) → Of Q c.list
+    → Of Q slot
     → Of Q open' → Every Q (constants_node constants)
     → Touches Q strict (arm_choices c l slot open' constants)
 unfolding arm_choices

@@ -1,33 +1,30 @@
 -- Which labels of a block's statements break rule 15.
 use Rattle.std.proofs.Common.{◌++◌, ◌∷◌, ◌≡◌, ◌⊎◌, [], ℕ, List, None, Option, Some, ap, inr, refl, subst, sym}
 use Rattle.grammar.specs.Nodes.{Node}
-use Rattle.pas_tree.specs.{Denoters.last_semicolon_node, Statements.statements_node}
-use Rattle.pas_tree.specs.Statements.{branches_node, case_node, compound_node, else_node, if_node, label_node, more_statements_node, plain_node, repeat_node}
-use Rattle.pas_tree.specs.declared.statements.{Label.Label, Repeat.Repeat, Repeat.Repeat' as RepeatTree'}
-use Rattle.pas_tree.specs.declared.statements.Case.{Case, Case' as CaseTree', Row_of-NextBranch, end_of-NextBranch, more_of-NextBranch}
-use Rattle.pas_tree.specs.declared.statements.Compound.{Compound, Compound' as CompoundTree'}
-use Rattle.pas_tree.specs.declared.statements.If.{Held-If-alternative, If, If' as IfTree', None', Some'}
-use Rattle.pas_tree.specs.declared.statements.Plain.{Assignment as Assignment', Call, Case', Compound', Empty, For', Goto, If', Plain, Repeat', While', With'}
-use Rattle.pas_tree.specs.declared.statements.Statements.{Row_of-NextStatement, Statements, Statements', end_of-NextStatement, more_of-NextStatement}
+use Rattle.pas_tree.specs.{Denoters.last_semicolon_node, StatementTrees.StatementTrees, StatementTrees.StatementsTree, Statements.label_node}
+use Rattle.pas_tree.specs.{TreeNodes.statement_node, TreeNodes.statements_node, declared.statements.Label.Label}
+use Rattle.pas_tree.specs.StatementTrees.{BranchTree, BranchTrees, CaseTree, CompoundTree, ElseTree, IfTree, PlainTree, RepeatTree, StatementTree}
+use Rattle.pas_tree.specs.StatementTrees as tree
+use Rattle.pas_tree.specs.TreeNodes.{branch_node, branches_node, case_node, compound_node, else_node, if_node, more_statements_node, plain_node, repeat_node}
 use Rattle.check_steps.specs.{Around.Falls, Known.Known, Steps.◌>>=◌, Steps.Step}
 use Rattle.denoter_checker.specs.declared.variants.Choosing.{Choosing}
 use Rattle.statement_checker.specs.{Labels.labelled, Labels.leave, Records.put_with, Sequences.link_element}
-use Rattle.statement_checker.specs.Statements.{branching, case_statement, compound, element, else_held, if_statement, label_token, labelled_by, more_branches}
-use Rattle.statement_checker.specs.Statements.{more_statements, plain, repeat_statement, sequence}
+use Rattle.statement_checker.specs.Statements.{branch_step, branching, case_statement, compound, element, else_statement, if_statement, label_token}
+use Rattle.statement_checker.specs.Statements.{labelled_by, more_branches, more_statements, plain, repeat_statement, sequence, statement_step}
 use Rattle.statement_checker.specs.declared.{parts.Selected.Selected, sequences.Branching.Branching, sequences.Element.Element}
 use Rattle.rule_laws.proofs.{Breaks.contained, Breaks.found, DenoterVariants.choices-touches, Every.Every, Every.Of, Faces.face, Faces.marking}
 use Rattle.rule_laws.proofs.{LabelMarks.label_marks, LabelRecords.with_marks, Once.every_has, StatementChoices.case_row-touches}
 use Rattle.rule_laws.proofs.{StatementParts.selected-touches, StatementRecords.put_with-touches, Touches.Touches, Touches.bind-touches, Touches.give-touches}
-use Rattle.rule_laws.proofs.InTurn.{Goes, Wrong, calm_gives, calm_goes, calm_then, gives_calm, goes_calm, goes_then, one_wrong, wrong_one}
+use Rattle.rule_laws.proofs.InTurn.{Goes, Wrong, calm_gives, calm_goes, calm_then, gives_calm, goes_calm, goes_gives, goes_then, one_wrong, wrong_one}
 use Rattle.rule_laws.proofs.LabelTurns.{Inside, IsSpot, Seen, Spot, Turn, calm_of, rule_of}
 use Rattle.rule_laws.proofs.StatementLabels.{jump-touches, labelled-touches, leave-touches, leave_all-touches, reach_all-touches, reach_label-touches}
 use Rattle.rule_laws.proofs.StatementParts.{assignment-touches, call_statement-touches, condition_row-touches, for_begins-touches, for_ends-touches}
-use Rattle.rule_laws.proofs.StatementSequences.{add_element-touches, added, compound_row-touches, empty-touches, if_else_row-touches, if_row-touches}
+use Rattle.rule_laws.proofs.StatementSequences.{add_element-touches, compound_row-touches, empty-touches, if_else_row-touches, if_row-touches}
 use Rattle.rule_laws.proofs.StatementSequences.{link_element-touches, repeat_row-touches, while_row-touches}
-use Rattle.rule_laws.proofs.StatementStatements.{selected_list, sequence_last}
+use Rattle.rule_laws.proofs.StatementStatements.{added_slot, selected_list, sequence_last}
 use Rattle.rule_laws.specs.{CaseLaws.late_at, LabelLaws.BlocksTellLabels, LabelLaws.IsBlockBegun, Tokens.Has}
-use Rattle.rule_laws.specs.BlockLabels.{branch_labels, case_labels, compound_labels, else_labels, if_labels, in_front, labels_inside, more_labels}
-use Rattle.rule_laws.specs.BlockLabels.{repeat_labels, sequence_labels}
+use Rattle.rule_laws.specs.BlockLabels.{branch_labels, branches_labels, case_labels, compound_labels, else_labels, if_labels, in_front, labels_inside}
+use Rattle.rule_laws.specs.BlockLabels.{labels_of_statement, more_labels, repeat_labels, sequence_labels}
 
 -- a statement that has a label is left
 left_behind : (p : Spot) (f : ℕ) (l : Label) (n : ℕ) → Every (Has p.part) (label_node (Some l))
@@ -45,123 +42,114 @@ labelled_marks p is S f f-in (Some l) m xs inside h =
 
 -- the same between parts
 mutual
-  plain_marks : (p : Spot) → IsSpot p → (S : ℕ → Type 0) (f : ℕ) → S f → (label : Option ℕ) (s : Plain) → Every (Has p.part) (plain_node s)
+  statement_marks : (p : Spot) → IsSpot p → (S : ℕ → Type 0) (f : ℕ) → S f → (s : StatementTree) → Every (Has p.part) (statement_node s)
+      → Goes (rule_of p S) (labels_of_statement s) (statement_step f s)
+  statement_marks p is S f f-in (tree.a_statement label s) inside =
+      labelled_marks p is S f f-in label (plain f (label_token label) s) (labels_inside s) inside.0 (plain_marks p is S f f-in (label_token label) s inside.1)
+
+  plain_marks : (p : Spot) → IsSpot p → (S : ℕ → Type 0) (f : ℕ) → S f → (label : Option ℕ) (s : PlainTree) → Every (Has p.part) (plain_node s)
       → Goes (rule_of p S) (labels_inside s) (plain f label s)
-  plain_marks p is S f f-in label Empty inside = calm_goes (calm_of p is S empty-touches)
-  plain_marks p is S f f-in label (Assignment' a) inside = calm_goes (calm_of p is S (assignment-touches refl f label a.value inside))
-  plain_marks p is S f f-in label (Call name actuals) inside = calm_goes (calm_of p is S (call_statement-touches f label name actuals inside.0 inside.1))
-  plain_marks p is S f f-in label (Goto word target) inside = calm_goes (calm_of p is S (jump-touches f label word target inside.0 inside.1))
-  plain_marks p is S f f-in label (Compound' _ c) inside = compound_marks p is S f f-in c inside
-  plain_marks p is S f f-in label (If' _ i) inside = if_marks p is S f f-in label i inside
-  plain_marks p is S f f-in label (Case' _ c) inside = case_marks p is S f f-in label c inside
-  plain_marks p is S f f-in label (Repeat' _ r) inside = repeat_marks p is S f f-in label r inside
-  plain_marks p is S f f-in label (While' _ word condition do_word inner s) inside =
-      calm_then (in_front inner ++ labels_inside s) (calm_of p is S (condition_row-touches f condition inside.1.0)) (λ c.
-      goes_calm (in_front inner ++ labels_inside s)
-      (labelled_marks p is S f f-in inner (plain f (label_token inner) s) (labels_inside s) inside.1.1.1.0
-      (plain_marks p is S f f-in (label_token inner) s inside.1.1.1.1))
+  plain_marks p is S f f-in label tree.an_empty inside = calm_goes (calm_of p is S empty-touches)
+  plain_marks p is S f f-in label (tree.an_assignment x) inside = calm_goes (calm_of p is S (assignment-touches refl f label x inside))
+  plain_marks p is S f f-in label (tree.a_procedure_call name actuals) inside =
+      calm_goes (calm_of p is S (call_statement-touches f label name actuals inside.0 inside.1))
+  plain_marks p is S f f-in label (tree.a_goto word target) inside = calm_goes (calm_of p is S (jump-touches f label word target inside.0 inside.1))
+  plain_marks p is S f f-in label (tree.a_compound c) inside = compound_marks p is S f f-in c inside
+  plain_marks p is S f f-in label (tree.an_if i) inside = if_marks p is S f f-in label i inside
+  plain_marks p is S f f-in label (tree.a_case c) inside = case_marks p is S f f-in label c inside
+  plain_marks p is S f f-in label (tree.a_repeat r) inside = repeat_marks p is S f f-in label r inside
+  plain_marks p is S f f-in label (tree.a_while word condition do_word s) inside =
+      calm_then (labels_of_statement s) (calm_of p is S (condition_row-touches f condition inside.1.0)) (λ c.
+      goes_calm (labels_of_statement s) (statement_marks p is S f f-in s inside.1.1.1)
       (λ body. calm_of p is S (while_row-touches label word c body inside.0)))
-  plain_marks p is S f f-in label (For' _ word name becomes initial direction last do_word inner s) inside =
-      calm_then (in_front inner ++ labels_inside s)
-      (calm_of p is S (for_begins-touches f name initial last inside.1.0 inside.1.1.1.0 inside.1.1.1.1.1.0)) (λ b.
-      goes_calm (in_front inner ++ labels_inside s)
-      (labelled_marks p is S f f-in inner (plain f (label_token inner) s) (labels_inside s) inside.1.1.1.1.1.1.1.0
-      (plain_marks p is S f f-in (label_token inner) s inside.1.1.1.1.1.1.1.1))
+  plain_marks p is S f f-in label (tree.a_for word name becomes initial direction last do_word s) inside =
+      calm_then (labels_of_statement s) (calm_of p is S (for_begins-touches f name initial last inside.1.0 inside.1.1.1.0 inside.1.1.1.1.1.0)) (λ b.
+      goes_calm (labels_of_statement s) (statement_marks p is S f f-in s inside.1.1.1.1.1.1.1)
       (λ body. calm_of p is S (for_ends-touches label word direction b body inside.0 inside.1.1.1.1.0)))
-  plain_marks p is S f f-in label (With' _ word first others do_word inner s) inside =
-      with_marks p is S f word first others.items (in_front inner ++ labels_inside s)
-      (λ all. link_element all.last 0 >>= λ _. labelled_by all.frame inner (plain all.frame (label_token inner) s) >>= λ body.
-      put_with label word do_word body)
+  plain_marks p is S f f-in label (tree.a_with word first others do_word s) inside =
+      with_marks p is S f word first others (labels_of_statement s)
+      (λ all. link_element all.last 0 >>= λ _. statement_step all.frame s >>= λ body. put_with label word do_word body)
       f-in inside.0 inside.1.0 inside.1.1.0 (λ all slot.
-      calm_then (in_front inner ++ labels_inside s) (calm_of p is (λ g. S g ⊎ (g ≡ all.frame)) (link_element-touches all.last 0 slot)) (λ _.
-      goes_calm (in_front inner ++ labels_inside s)
-      (labelled_marks p is (λ g. S g ⊎ (g ≡ all.frame)) all.frame (inr refl) inner (plain all.frame (label_token inner) s) (labels_inside s)
-      inside.1.1.1.1.0 (plain_marks p is (λ g. S g ⊎ (g ≡ all.frame)) all.frame (inr refl) (label_token inner) s inside.1.1.1.1.1))
+      calm_then (labels_of_statement s) (calm_of p is (λ g. S g ⊎ (g ≡ all.frame)) (link_element-touches all.last 0 slot)) (λ _.
+      goes_calm (labels_of_statement s) (statement_marks p is (λ g. S g ⊎ (g ≡ all.frame)) all.frame (inr refl) s inside.1.1.1.1)
       (λ body. calm_of p is (λ g. S g ⊎ (g ≡ all.frame)) (put_with-touches label word do_word body inside.1.1.1.0))))
 
-  compound_marks : (p : Spot) → IsSpot p → (S : ℕ → Type 0) (f : ℕ) → S f → (c : Compound) → Every (Has p.part) (compound_node c)
+  compound_marks : (p : Spot) → IsSpot p → (S : ℕ → Type 0) (f : ℕ) → S f → (c : CompoundTree) → Every (Has p.part) (compound_node c)
       → Goes (rule_of p S) (compound_labels c) (compound f c)
-  compound_marks p is S f f-in (CompoundTree' begin statements end) inside =
-      calm_then (sequence_labels statements) (calm_of p is S (reach_all-touches f statements inside.1.0)) (λ _.
-      gives_calm (λ (e : Element). Of (Has p.part) e.slot) (sequence_labels statements) (sequence_marks p is S f begin f-in statements inside.0 inside.1.0)
-      (sequence_last f begin statements inside.0 inside.1.0) (λ last slot.
-      calm_of p is S (bind-touches (leave_all-touches f statements inside.1.0) (λ _. compound_row-touches begin last end slot inside.1.1))))
+  compound_marks p is S f f-in (tree.compound_statement word body end) inside =
+      calm_then (sequence_labels body) (calm_of p is S (reach_all-touches f body inside.1.0)) (λ _.
+      gives_calm (λ (e : Element). Of (Has p.part) e.slot) (sequence_labels body) (sequence_marks p is S f f-in word body inside.0 inside.1.0)
+      (sequence_last f word body inside.0 inside.1.0) (λ last slot.
+      calm_of p is S (bind-touches (leave_all-touches f body inside.1.0) (λ _. compound_row-touches word last end slot inside.1.1))))
 
-  sequence_marks : (p : Spot) → IsSpot p → (S : ℕ → Type 0) (f list : ℕ) → S f → (s : Statements) → Of (Has p.part) list
+  sequence_marks : (p : Spot) → IsSpot p → (S : ℕ → Type 0) (f : ℕ) → S f → (list : ℕ) (s : StatementsTree) → Of (Has p.part) list
       → Every (Has p.part) (statements_node s)
       → Goes (rule_of p S) (sequence_labels s) (sequence f list s)
-  sequence_marks p is S f list f-in (Statements' label s _ others) slot inside =
-      goes_then (in_front label ++ labels_inside s) (more_labels others)
-      (labelled_marks p is S f f-in label (plain f (label_token label) s) (labels_inside s) inside.0.0
-      (plain_marks p is S f f-in (label_token label) s inside.0.1))
+  sequence_marks p is S f f-in list (tree.statement_sequence first others) slot inside =
+      goes_then (labels_of_statement first) (more_labels others) (statement_marks p is S f f-in first inside.0)
       (λ n. more_marks p is S f f-in (element list n) others slot inside.1)
 
-  more_marks : (p : Spot) → IsSpot p → (S : ℕ → Type 0) (f : ℕ) → S f → (last : Element) {m : _} (r : Row_of-NextStatement m) → Of (Has p.part) last.slot
-      → Every (Has p.part) (more_statements_node r) → Goes (rule_of p S) (more_labels r) (more_statements f last r)
-  more_marks p is S f f-in last end_of-NextStatement slot inside = calm_goes (calm_of p is S (give-touches last))
-  more_marks p is S f f-in last (more_of-NextStatement semicolon label s rest) slot inside =
-      goes_then (in_front label ++ labels_inside s) (more_labels rest)
-      (labelled_marks p is S f f-in label (plain f (label_token label) s) (labels_inside s) inside.0.1.0
-      (plain_marks p is S f f-in (label_token label) s inside.0.1.1))
-      (λ n. calm_gives (λ (e : Element). Of (Has p.part) e.slot) (more_labels rest) (calm_of p is S (add_element-touches last semicolon n slot))
-      (added last semicolon n inside.0.0) (λ next next-in. more_marks p is S f f-in next rest next-in inside.1))
+  more_marks : (p : Spot) → IsSpot p → (S : ℕ → Type 0) (f : ℕ) → S f → (last : Element) (r : StatementTrees) → Of (Has p.part) last.slot
+      → Every (Has p.part) (more_statements_node r)
+      → Goes (rule_of p S) (more_labels r) (more_statements f last r)
+  more_marks p is S f f-in last tree.end_of_statements slot inside = calm_goes (calm_of p is S (give-touches last))
+  more_marks p is S f f-in last (tree.more_statements semicolon s rest) slot inside =
+      goes_gives (λ (e : Element). Of (Has p.part) e.slot) (labels_of_statement s) (more_labels rest)
+      (goes_calm (labels_of_statement s) (statement_marks p is S f f-in s inside.0.1) (λ n. calm_of p is S (add_element-touches last semicolon n slot)))
+      (added_slot last semicolon (statement_step f s) inside.0.0) (λ next next-in. more_marks p is S f f-in next rest next-in inside.1)
 
-  if_marks : (p : Spot) → IsSpot p → (S : ℕ → Type 0) (f : ℕ) → S f → (label : Option ℕ) (i : If) → Every (Has p.part) (if_node i)
+  if_marks : (p : Spot) → IsSpot p → (S : ℕ → Type 0) (f : ℕ) → S f → (label : Option ℕ) (i : IfTree) → Every (Has p.part) (if_node i)
       → Goes (rule_of p S) (if_labels i) (if_statement f label i)
-  if_marks p is S f f-in label (IfTree' word condition then' inner s alternative) inside =
-      calm_then ((in_front inner ++ labels_inside s) ++ else_labels alternative) (calm_of p is S (condition_row-touches f condition inside.1.0)) (λ c.
-      goes_then (in_front inner ++ labels_inside s) (else_labels alternative)
-      (labelled_marks p is S f f-in inner (plain f (label_token inner) s) (labels_inside s) inside.1.1.1.0.0
-      (plain_marks p is S f f-in (label_token inner) s inside.1.1.1.0.1))
+  if_marks p is S f f-in label (tree.if_statement word condition then_word s alternative) inside =
+      calm_then (labels_of_statement s ++ else_labels alternative) (calm_of p is S (condition_row-touches f condition inside.1.0)) (λ c.
+      goes_then (labels_of_statement s) (else_labels alternative) (statement_marks p is S f f-in s inside.1.1.1.0)
       (λ n. else_marks p is S f f-in (branching label word c n) alternative inside.0 inside.1.1.1.1))
 
-  else_marks : (p : Spot) → IsSpot p → (S : ℕ → Type 0) (f : ℕ) → S f → (b : Branching) (a : Held-If-alternative) → Of (Has p.part) b.word
-      → Every (Has p.part) (else_node a)
-      → Goes (rule_of p S) (else_labels a) (else_held f b a)
-  else_marks p is S f f-in b None' word inside = calm_goes (calm_of p is S (if_row-touches b word))
-  else_marks p is S f f-in b (Some' else' label s) word inside =
-      goes_calm (in_front label ++ labels_inside s)
-      (labelled_marks p is S f f-in label (plain f (label_token label) s) (labels_inside s) inside.1.0
-      (plain_marks p is S f f-in (label_token label) s inside.1.1))
-      (λ n. calm_of p is S (if_else_row-touches b n word))
+  else_marks : (p : Spot) → IsSpot p → (S : ℕ → Type 0) (f : ℕ) → S f → (b : Branching) (e : ElseTree) → Of (Has p.part) b.word
+      → Every (Has p.part) (else_node e)
+      → Goes (rule_of p S) (else_labels e) (else_statement f b e)
+  else_marks p is S f f-in b tree.without_else word inside = calm_goes (calm_of p is S (if_row-touches b word))
+  else_marks p is S f f-in b (tree.an_else else_word s) word inside =
+      goes_calm (labels_of_statement s) (statement_marks p is S f f-in s inside.1) (λ n. calm_of p is S (if_else_row-touches b n word))
 
-  case_marks : (p : Spot) → IsSpot p → (S : ℕ → Type 0) (f : ℕ) → S f → (label : Option ℕ) (c : Case) → Every (Has p.part) (case_node c)
+  case_marks : (p : Spot) → IsSpot p → (S : ℕ → Type 0) (f : ℕ) → S f → (label : Option ℕ) (c : CaseTree) → Every (Has p.part) (case_node c)
       → Goes (rule_of p S) (case_labels c) (case_statement f label c)
-  case_marks p is S f f-in label (CaseTree' word selector of constants colon inner s _ others semicolon end) inside =
-      calm_gives (λ (x : Selected). x.choosing.list ≡ of) ((in_front inner ++ labels_inside s) ++ branch_labels others)
-      (calm_of p is S (selected-touches f of selector inside.1.0)) (selected_list f of selector) (λ x list.
+  case_marks p is S f f-in label (tree.case_statement word selector of_word first others semicolon end) inside =
+      calm_gives (λ (x : Selected). x.choosing.list ≡ of_word) (branch_labels first ++ branches_labels others)
+      (calm_of p is S (selected-touches f of_word selector inside.1.0)) (selected_list f of_word selector) (λ x list.
       let list-in = subst (Of (Has p.part)) (sym list) inside.1.1.0 in
-      goes_then (in_front inner ++ labels_inside s) (branch_labels others)
-      (labelled_marks p is S f f-in inner (plain f (label_token inner) s) (labels_inside s) inside.1.1.1.0.1.1.0
-      (plain_marks p is S f f-in (label_token inner) s inside.1.1.1.0.1.1.1))
-      (λ n. calm_then (branch_labels others)
-      (calm_of p is S (choices-touches x.choosing n of of constants list-in inside.1.1.0 inside.1.1.1.0.0)) (λ last.
-      goes_calm (branch_labels others) (branch_marks p is S f f-in x.choosing last others (last_semicolon_node semicolon) list-in inside.1.1.1.1.0)
-      (λ _. calm_of p is S (case_row-touches label word x.row of inside.0)))))
+      goes_then (branch_labels first) (branches_labels others)
+      (branch_marks p is S f f-in x.choosing of_word of_word first list-in inside.1.1.0 inside.1.1.1.0) (λ last.
+      goes_calm (branches_labels others) (branches_mark p is S f f-in x.choosing last others (last_semicolon_node semicolon) list-in inside.1.1.1.1.0)
+      (λ _. calm_of p is S (case_row-touches label word x.row of_word inside.0))))
 
-  branch_marks : (p : Spot) → IsSpot p → (S : ℕ → Type 0) (f : ℕ) → S f → (c : Choosing) (last : ℕ) {m : _} (r : Row_of-NextBranch m) (end : Node)
-      → Of (Has p.part) c.list
-      → Every (Has p.part) (branches_node r end) → Goes (rule_of p S) (branch_labels r) (more_branches f c last r)
-  branch_marks p is S f f-in c last end_of-NextBranch end list inside = calm_goes (calm_of p is S (give-touches last))
-  branch_marks p is S f f-in c last (more_of-NextBranch semicolon constants colon label s rest) end list inside =
-      goes_then (in_front label ++ labels_inside s) (branch_labels rest)
-      (labelled_marks p is S f f-in label (plain f (label_token label) s) (labels_inside s) inside.1.0.1.1.0
-      (plain_marks p is S f f-in (label_token label) s inside.1.0.1.1.1))
-      (λ n. calm_then (branch_labels rest) (calm_of p is S (choices-touches c n last semicolon constants list inside.0 inside.1.0.0))
-      (λ next. branch_marks p is S f f-in c next rest end list inside.1.1))
+  branch_marks : (p : Spot) → IsSpot p → (S : ℕ → Type 0) (f : ℕ) → S f → (c : Choosing) (last slot : ℕ) (b : BranchTree) → Of (Has p.part) c.list
+      → Of (Has p.part) slot
+      → Every (Has p.part) (branch_node b) → Goes (rule_of p S) (branch_labels b) (branch_step f c last slot b)
+  branch_marks p is S f f-in c last slot (tree.a_branch constants colon s) list slot-in inside =
+      goes_calm (labels_of_statement s) (statement_marks p is S f f-in s inside.1.1)
+      (λ n. calm_of p is S (choices-touches c n last slot constants list slot-in inside.0))
 
-  repeat_marks : (p : Spot) → IsSpot p → (S : ℕ → Type 0) (f : ℕ) → S f → (label : Option ℕ) (r : Repeat) → Every (Has p.part) (repeat_node r)
+  branches_mark : (p : Spot) → IsSpot p → (S : ℕ → Type 0) (f : ℕ) → S f → (c : Choosing) (last : ℕ) (r : BranchTrees) (end : Node) → Of (Has p.part) c.list
+      → Every (Has p.part) (branches_node r end)
+      → Goes (rule_of p S) (branches_labels r) (more_branches f c last r)
+  branches_mark p is S f f-in c last tree.end_of_branches end list inside = calm_goes (calm_of p is S (give-touches last))
+  branches_mark p is S f f-in c last (tree.more_branches semicolon b rest) end list inside =
+      goes_then (branch_labels b) (branches_labels rest) (branch_marks p is S f f-in c last semicolon b list inside.0 inside.1.0)
+      (λ next. branches_mark p is S f f-in c next rest end list inside.1.1)
+
+  repeat_marks : (p : Spot) → IsSpot p → (S : ℕ → Type 0) (f : ℕ) → S f → (label : Option ℕ) (r : RepeatTree) → Every (Has p.part) (repeat_node r)
       → Goes (rule_of p S) (repeat_labels r) (repeat_statement f label r)
-  repeat_marks p is S f f-in label (RepeatTree' word statements until condition) inside =
-      calm_then (sequence_labels statements) (calm_of p is S (reach_all-touches f statements inside.1.0)) (λ _.
-      gives_calm (λ (e : Element). Of (Has p.part) e.slot) (sequence_labels statements) (sequence_marks p is S f word f-in statements inside.0 inside.1.0)
-      (sequence_last f word statements inside.0 inside.1.0) (λ last slot.
-      calm_of p is S (bind-touches (leave_all-touches f statements inside.1.0) (λ _. bind-touches (link_element-touches last 0 slot) (λ _.
-      bind-touches (condition_row-touches f condition inside.1.1.1) (λ c. repeat_row-touches label word until c inside.1.1.0))))))
+  repeat_marks p is S f f-in label (tree.repeat_statement word body until_word condition) inside =
+      calm_then (sequence_labels body) (calm_of p is S (reach_all-touches f body inside.1.0)) (λ _.
+      gives_calm (λ (e : Element). Of (Has p.part) e.slot) (sequence_labels body) (sequence_marks p is S f f-in word body inside.0 inside.1.0)
+      (sequence_last f word body inside.0 inside.1.0) (λ last slot.
+      calm_of p is S (bind-touches (leave_all-touches f body inside.1.0) (λ _. bind-touches (link_element-touches last 0 slot) (λ _.
+      bind-touches (condition_row-touches f condition inside.1.1.1) (λ c. repeat_row-touches label word until_word c inside.1.1.0))))))
 
 -- ---- the law
 
-begun_turn : (k : Known) (frame : ℕ) (c : Compound) (t : ℕ) → IsBlockBegun k frame c
+begun_turn : (k : Known) (frame : ℕ) (c : CompoundTree) (t : ℕ) → IsBlockBegun k frame c
     → Turn (record { k = k; frame = frame; t = t; part = compound_node c }) [] k
 unfolding Falls
 begun_turn k frame c t begun = record {

@@ -2,7 +2,7 @@
 use Rattle.std.proofs.Common.{if◌then◌else◌, ◌++◌, ◌<◌, ◌||◌, ◌∙◌, ◌∷◌, ◌≡◌, [], ℕ, Bool, List, None, Option, Some, ap, arith, cond, false, inl, inr, is_none}
 use Rattle.std.proofs.Common.{is_some, length, length-set, map, nat_eq, nat_le, refl, subst, sym, true}
 use Rattle.std.{proofs.lemmas.Bool.eqb-true, specs.List.list_any, specs.Map.lookup}
-use Rattle.pas_tree.specs.declared.blocks.{LabelPart.LabelPart, NextLabel.NextLabel}
+use Rattle.pas_tree.specs.{BlockTrees.LabelPartTree, declared.blocks.NextLabel.NextLabel}
 use Rattle.check_steps.specs.{Breaks.number, Known.Known, Known.and_label, Known.label_at, Names.declare_in}
 use Rattle.check_steps.specs.Regions.{RegionRows, declared_in, or_else, region_at}
 use Rattle.check_steps.specs.Steps.{◌>>=◌, add_label, ask, change, each, give, look, when}
@@ -182,9 +182,9 @@ unfolding define_next_label
 next_go p [] = goes_nowhere tt
 next_go p (n ∷ ns) = goes_then (n.number ∷ []) (map label_token ns) (label_goes p n.number) (λ _. next_go p ns)
 
-part_goes : (p : LabelPartOf) (c : Option LabelPart) → Goes (rule_two p) (labels_of c) (define_labels p.here c)
+part_goes : (p : LabelPartOf) (c : Option LabelPartTree) → Goes (rule_two p) (labels_of c) (define_labels p.here c)
 part_goes p None = goes_nowhere tt
-part_goes p (Some c) = goes_then (c.first ∷ []) (map label_token c.others.items) (label_goes p c.first) (λ _. next_go p c.others.items)
+part_goes p (Some c) = goes_then (c.first ∷ []) (map label_token c.others) (label_goes p c.first) (λ _. next_go p c.others)
 
 pub label_part_law : LabelPartsTellLabels
 label_part_law k here part before label after below same one =
@@ -204,7 +204,7 @@ or_true true = refl
 or_true false = refl
 
 -- a label that one before it is equal to
-pub labels_told : (k : Known) (here : Frame) (part : Option LabelPart) (before : List ℕ) (label : ℕ) (after : List ℕ) → here.region < length k.regions
+pub labels_told : (k : Known) (here : Frame) (part : Option LabelPartTree) (before : List ℕ) (label : ℕ) (after : List ℕ) → here.region < length k.regions
     → labels_of part ≡ before ++ label ∷ after → list_any (λ y. nat_eq (label_at k label) (label_at k y)) before ≡ true
     → In (broken_at 2 label) (define_labels here part k).broken
 labels_told k here part before label after below same second =

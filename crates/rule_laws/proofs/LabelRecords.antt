@@ -2,7 +2,7 @@
 use Rattle.std.proofs.Common.{◌++◌, ◌<◌, ◌∙◌, ◌∷◌, ◌≡◌, ◌≤◌, ◌⊎◌, [], ℕ, Bool, List, None, Option, Some, ap, arith, false, inl, inr, length, map, refl, subst}
 use Rattle.std.proofs.{Common.suc, Common.sym, Common.true, Common.zero, lemmas.Bool.cases_order, lemmas.Option.none-some}
 use Rattle.grammar.specs.Nodes.{row}
-use Rattle.pas_tree.specs.{Expressions.access_node, Statements.next_access_node, declared.expressions.Access.Access, declared.statements.NextAccess.NextAccess}
+use Rattle.pas_tree.specs.{ExpressionTrees.AccessTree, StatementTrees.NextAccessTree, TreeNodes.access_node, TreeNodes.next_access_node}
 use Rattle.core_program.specs.ProgramRows.{type_in}
 use Rattle.check_steps.specs.{Around.reach, Breaks.number, Frames.frame_in, Regions.RegionRows, Regions.declared_in, Regions.or_else}
 use Rattle.check_steps.specs.Known.{Known, and_frame, find_label, find_label_from, frame_at, row_at, type_at}
@@ -11,7 +11,7 @@ use Rattle.check_steps.specs.declared.{breaks.Break.Break, regions.Frame.Frame}
 use Rattle.kind_checker.specs.declared.shapes.ExpressionType.{ExpressionType}
 use Rattle.decl_checker.specs.Statements.{fields_in, inside_of, one_more_with, open_fields}
 use Rattle.expression_checker.specs.{Expressions.access, Selectors.is_record, Selectors.type_row, declared.typed.Typed.Typed}
-use Rattle.statement_checker.specs.{Parts.first_record, Parts.next_record, Records.inside_record, Sequences.add_element}
+use Rattle.statement_checker.specs.{Parts.another_record, Parts.first_record, Records.inside_record, Sequences.add_element}
 use Rattle.statement_checker.specs.declared.{parts.Opened.Opened, sequences.Element.Element}
 use Rattle.rule_laws.proofs.{Alike.type_said, Breaks.In, Breaks.in_either, Breaks.in_right, Every.Every, Every.Of, ExpressionExpressions.access-touches}
 use Rattle.rule_laws.proofs.{Faces.marking, InTurn.Goes, StatementSequences.add_element-touches, Touches.bind-touches, Touches.give-touches}
@@ -26,11 +26,11 @@ frame_before [] x f below = absurd (omega (arith, below))
 frame_before (y ∷ ys) x zero below = refl
 frame_before (y ∷ ys) x (suc f) below = frame_before ys x f (omega (arith, below))
 
-frame_last : (fs : List Frame) (x : Frame) → frame_in (fs ++ x ∷ []) (length fs) ≡ x
+pub frame_last : (fs : List Frame) (x : Frame) → frame_in (fs ++ x ∷ []) (length fs) ≡ x
 frame_last [] x = refl
 frame_last (y ∷ ys) x = frame_last ys x
 
-one_longer : (fs : List Frame) (x : Frame) → length (fs ++ x ∷ []) ≡ suc (length fs)
+pub one_longer : (fs : List Frame) (x : Frame) → length (fs ++ x ∷ []) ≡ suc (length fs)
 one_longer [] x = refl
 one_longer (y ∷ ys) x = ap suc (one_longer ys x)
 
@@ -230,7 +230,7 @@ leads_join p done j i h one two xs ys a b = record {
 
 -- ---- the records of a with statement
 
-first_leads : (p : Spot) → IsSpot p → (done : List ℕ) (j : Known) (f word : ℕ) (a : Access) → Turn p done j → Inside p j f
+first_leads : (p : Spot) → IsSpot p → (done : List ℕ) (j : Known) (f word : ℕ) (a : AccessTree) → Turn p done j → Inside p j f
     → Every (Has p.part) (access_node a) → let d = first_record f word a j in Leads p done j d.known d.value.frame d.broken
 unfolding first_record ◌>>=◌ give
 first_leads p is done j f word a t here inside =
@@ -244,10 +244,10 @@ first_leads p is done j f word a t here inside =
 abbrev opened : ℕ → Element → Opened
 opened frame last = record { frame = frame; last = last }
 
-next_leads : (p : Spot) → IsSpot p → (done : List ℕ) (j : Known) (o : Opened) (n : NextAccess) → Turn p done j → Inside p j o.frame
+next_leads : (p : Spot) → IsSpot p → (done : List ℕ) (j : Known) (o : Opened) (n : NextAccessTree) → Turn p done j → Inside p j o.frame
     → Of (Has p.part) o.last.slot → Every (Has p.part) (next_access_node n)
-    → let d = next_record o n j in Leads p done j d.known d.value.frame d.broken
-unfolding next_record ◌>>=◌ give
+    → let d = another_record o n j in Leads p done j d.known d.value.frame d.broken
+unfolding another_record ◌>>=◌ give
 next_leads p is done j o n t here slot inside =
     let calm = still_of p is (access-touches {strict = marking} o.frame n.access inside.1) in
     let v = access o.frame n.access j in
@@ -259,30 +259,30 @@ next_leads p is done j o n t here slot inside =
     (leads_then p done added v.known d.known d.value d.broken
     (record_leads p is done v.known o.frame n.access.name v.value (calm.turn done j t) (calm.inside done j t o.frame here)))
 
-each_leads : (p : Spot) → IsSpot p → (done : List ℕ) (j : Known) (o : Opened) (ns : List NextAccess) → Turn p done j → Inside p j o.frame
+each_leads : (p : Spot) → IsSpot p → (done : List ℕ) (j : Known) (o : Opened) (ns : List NextAccessTree) → Turn p done j → Inside p j o.frame
     → Of (Has p.part) o.last.slot → Every (Has p.part) (row (map next_access_node ns))
-    → let d = each next_record o ns j in Leads p done j d.known d.value.frame d.broken
+    → let d = each another_record o ns j in Leads p done j d.known d.value.frame d.broken
 unfolding ◌>>=◌ give
 each_leads p is done j o [] t here slot inside = record { turn = t; inside = λ g h. h; here = here; none = λ i. absurd i }
 each_leads p is done j o (n ∷ ns) t here slot inside =
-    let d = next_record o n j in
+    let d = another_record o n j in
     let one = next_leads p is done j o n t here slot inside.0 in
-    let e = each next_record d.value ns d.known in
+    let e = each another_record d.value ns d.known in
     let two = each_leads p is done d.known d.value ns one.turn one.here (record_opened o n inside.0.0 j) inside.1 in
     leads_join p done j d.known e.known d.value.frame e.value.frame d.broken e.broken one two
 
 -- a with statement goes over the labels inside of it
-pub with_marks : (p : Spot) → IsSpot p → (S : ℕ → Type 0) (f word : ℕ) (a : Access) (ns : List NextAccess) (xs : List ℕ) (r : Opened → Step ℕ) → S f
+pub with_marks : (p : Spot) → IsSpot p → (S : ℕ → Type 0) (f word : ℕ) (a : AccessTree) (ns : List NextAccessTree) (xs : List ℕ) (r : Opened → Step ℕ) → S f
     → Of (Has p.part) word → Every (Has p.part) (access_node a) → Every (Has p.part) (row (map next_access_node ns))
     → ((o : Opened) → Of (Has p.part) o.last.slot → Goes (rule_of p (λ g. S g ⊎ (g ≡ o.frame))) xs (r o))
-    → Goes (rule_of p S) xs (first_record f word a >>= λ one. each next_record one ns >>= r)
+    → Goes (rule_of p S) xs (first_record f word a >>= λ one. each another_record one ns >>= r)
 unfolding ◌>>=◌
 with_marks p is S f word a ns xs r f-in word-in a-in ns-in rest = record {
   of = λ done j s.
       let b = late_at 15 p.t in
       let d = first_record f word a j in
       let one = first_leads p is done j f word a s.turn (s.inside f f-in) a-in in
-      let e = each next_record d.value ns d.known in
+      let e = each another_record d.value ns d.known in
       let slot = first_opened f word a word-in j in
       let two = each_leads p is done d.known d.value ns one.turn one.here slot ns-in in
       let R : ℕ → Type 0 = λ g. S g ⊎ (g ≡ e.value.frame) in

@@ -1,6 +1,7 @@
 -- What the steps of the declarations keep: whatever each change of the tables keeps that they make.
 use Rattle.std.proofs.Common.{◌+◌, ◌∷◌, ◌≡◌, ◌≤◌, [], ℕ, ℤ, Bool, List, None, Option, Some, arith, false, is_none, length, refl, subst, true}
-use Rattle.pas_tree.specs.declared.{blocks.Routine.Routine, constants.Names.Names, constants.NextName.NextName}
+use Rattle.pas_tree.specs.{ConstantTrees.NamesTree, declared.constants.NextName.NextName}
+use Rattle.pas_tree.specs.BlockTrees.{RoutineTree, routine_body, routine_heading}
 use Rattle.core_program.specs.declared.{program.Routine.Routine as RoutineRow, rows.NameRow.NameRow, rows.PartRow.PartRow, rows.Row.Row, rows.TypeRow.TypeRow}
 use Rattle.check_steps.specs.{Items.link, Items.row_on, Names.declare_in, Names.define_in, Regions.declared_in, Regions.defined_in, Required.require}
 use Rattle.check_steps.specs.{Required.required_def, Steps.open_region, Steps.put, Steps.put_routine, Steps.when}
@@ -26,7 +27,7 @@ with_completion k first position function name =
     with_row (with_row k first (Row.Part (PartRow.Forward function (Some position)))) name (Row.Part (PartRow.Completing first))
 
 -- The routines are those of the text.
-pub record Lasting (G : Routine → Type 0) (I : Known → Type 0) : Type 0 where
+pub record Lasting (G : RoutineTree → Type 0) (I : Known → Type 0) : Type 0 where
   pub puts : (k : Known) (m : ℕ) (r : Row) → is_quiet r ≡ true → I k → I (with_row k m r)
   pub stays : (k : Known) (m : ℕ) → I k → I (with_row k m (row_at k m))
   pub bodies : (k : Known) (n : ℕ) (r : RoutineRow) → I k → I (with_routine k n r)
@@ -38,31 +39,32 @@ pub record Lasting (G : Routine → Type 0) (I : Known → Type 0) : Type 0 wher
   pub declares : (k : Known) (region value token : ℕ) → I k → I (and_label k region value token)
   pub chooses : (k : Known) (list : ℕ) (value : ℤ) → I k → I (and_choice k list value)
   -- a heading that a directive follows waits for a block
-  pub waits : (k : Known) (r : Routine) → G r → is_block r.body ≡ false → I k
-      → I (with_row k (routine_name r) (Row.Part (PartRow.Forward (is_function r.heading) None)))
-  pub completes : (k : Known) (region first position : ℕ) (r : Routine) → G r → completed_by k region r.heading r.body ≡ Some first → I k
-      → I (with_completion k first position (is_function r.heading) (routine_name r))
+  pub waits : (k : Known) (r : RoutineTree) → G r → is_block (routine_body r) ≡ false → I k
+      → I (with_row k (routine_name r) (Row.Part (PartRow.Forward (is_function (routine_heading r)) None)))
+  pub completes : (k : Known) (region first position : ℕ) (r : RoutineTree) → G r → completed_by k region (routine_heading r) (routine_body r) ≡ Some first
+      → I k
+      → I (with_completion k first position (is_function (routine_heading r)) (routine_name r))
 
 -- ---- rows
 
-pub put-lasts : {G : Routine → Type 0} {I : Known → Type 0} → Lasting G I → (m : ℕ) (r : Row) → is_quiet r ≡ true → Keeps I (put m r)
+pub put-lasts : {G : RoutineTree → Type 0} {I : Known → Type 0} → Lasting G I → (m : ℕ) (r : Row) → is_quiet r ≡ true → Keeps I (put m r)
 put-lasts c m r quiet = put-keeps m r (λ k i. c.puts k m r quiet i)
 
-on_same : {G : Routine → Type 0} {I : Known → Type 0} → Lasting G I → (k : Known) (m next : ℕ) (r : Row) → row_at k m ≡ r → I k
+on_same : {G : RoutineTree → Type 0} {I : Known → Type 0} → Lasting G I → (k : Known) (m next : ℕ) (r : Row) → row_at k m ≡ r → I k
     → I (with_row k m (row_on r next))
 on_same c k m next (Row.Item i) e h = c.puts k m (row_on (Row.Item i) next) refl h
 on_same {I = I} c k m next r e h = subst (λ (x : Row). I (with_row k m x)) e (c.stays k m h)
 
-pub link-lasts : {G : Routine → Type 0} {I : Known → Type 0} → Lasting G I → (last next : ℕ) → Keeps I (link last next)
+pub link-lasts : {G : RoutineTree → Type 0} {I : Known → Type 0} → Lasting G I → (last next : ℕ) → Keeps I (link last next)
 unfolding link look ◌>>=◌ change
 link-lasts c last next = record { of = λ k i. on_same c k last next (row_at k last) refl i }
 
-settled_same : {G : Routine → Type 0} {I : Known → Type 0} → Lasting G I → (k : Known) (m : ℕ) (r : Row) → row_at k m ≡ r → I k
+settled_same : {G : RoutineTree → Type 0} {I : Known → Type 0} → Lasting G I → (k : Known) (m : ℕ) (r : Row) → row_at k m ≡ r → I k
     → I (with_row k m (settled k r))
 settled_same c k m (Row.Type (TypeRow.Pointer domain)) e h = c.puts k m (settled k (Row.Type (TypeRow.Pointer domain))) refl h
 settled_same {I = I} c k m r e h = subst (λ (x : Row). I (with_row k m x)) e (c.stays k m h)
 
-pub settle_domain-lasts : {G : Routine → Type 0} {I : Known → Type 0} → Lasting G I → (token : ℕ) → Keeps I (settle_domain token)
+pub settle_domain-lasts : {G : RoutineTree → Type 0} {I : Known → Type 0} → Lasting G I → (token : ℕ) → Keeps I (settle_domain token)
 unfolding settle_domain look ◌>>=◌ change
 settle_domain-lasts c token = record { of = λ k i. settled_same c k token (row_at k token) refl i }
 
@@ -76,44 +78,44 @@ extends : {I : Known → Type 0} {A : Type 0} (value : Known → A) (f : Known �
 unfolding extend
 extends value f h = record { of = h }
 
-pub put_routine-lasts : {G : Routine → Type 0} {I : Known → Type 0} → Lasting G I → (number : ℕ) (r : RoutineRow) → Keeps I (put_routine number r)
+pub put_routine-lasts : {G : RoutineTree → Type 0} {I : Known → Type 0} → Lasting G I → (number : ℕ) (r : RoutineRow) → Keeps I (put_routine number r)
 put_routine-lasts c number r = changes (λ k. with_routine k number r) (λ k i. c.bodies k number r i)
 
-pub add_routine-lasts : {G : Routine → Type 0} {I : Known → Type 0} → Lasting G I → (r : RoutineRow) → Keeps I (add_routine r)
+pub add_routine-lasts : {G : RoutineTree → Type 0} {I : Known → Type 0} → Lasting G I → (r : RoutineRow) → Keeps I (add_routine r)
 add_routine-lasts c r = extends (λ k. length k.program.routines) (λ k. and_routine k r) (λ k i. c.routines k r i)
 
-pub open_frame-lasts : {G : Routine → Type 0} {I : Known → Type 0} → Lasting G I → (f : Frame) → Keeps I (open_frame f)
+pub open_frame-lasts : {G : RoutineTree → Type 0} {I : Known → Type 0} → Lasting G I → (f : Frame) → Keeps I (open_frame f)
 open_frame-lasts c f = extends (λ k. length k.frames) (λ k. and_frame k f) (λ k i. c.frames k f i)
 
-pub open_region-lasts : {G : Routine → Type 0} {I : Known → Type 0} → Lasting G I → (token : ℕ) (outer : Option ℕ) (level : ℕ)
+pub open_region-lasts : {G : RoutineTree → Type 0} {I : Known → Type 0} → Lasting G I → (token : ℕ) (outer : Option ℕ) (level : ℕ)
     → Keeps I (open_region token outer level)
 open_region-lasts c token outer level =
     let f : Known → Frame = λ k. record { region = length k.regions; outer = outer; level = level; withs = 0 } in
     extends (λ k. length k.frames) (λ k. and_region k token (f k)) (λ k i. c.regions k token (f k) i)
 
-pub add_chosen-lasts : {G : Routine → Type 0} {I : Known → Type 0} → Lasting G I → (list : ℕ) (value : ℤ) → Keeps I (add_chosen list value)
+pub add_chosen-lasts : {G : RoutineTree → Type 0} {I : Known → Type 0} → Lasting G I → (list : ℕ) (value : ℤ) → Keeps I (add_chosen list value)
 add_chosen-lasts c list value = changes (λ k. and_choice k list value) (λ k i. c.chooses k list value i)
 
 -- ---- names
 
-when_defined : {G : Routine → Type 0} {I : Known → Type 0} → Lasting G I → (ok : Bool) (k : Known) (region : ℕ) (d : Definition) → I k
+when_defined : {G : RoutineTree → Type 0} {I : Known → Type 0} → Lasting G I → (ok : Bool) (k : Known) (region : ℕ) (d : Definition) → I k
     → I (when ok (add_definition region (name_at k d.token) d) k).known
 unfolding when change give
 when_defined c true k region d i = c.defines k region d i
 when_defined c false k region d i = i
 
-pub define_in-lasts : {G : Routine → Type 0} {I : Known → Type 0} → Lasting G I → (region : ℕ) (d : Definition) → Keeps I (define_in region d)
+pub define_in-lasts : {G : RoutineTree → Type 0} {I : Known → Type 0} → Lasting G I → (region : ℕ) (d : Definition) → Keeps I (define_in region d)
 unfolding define_in look ◌>>=◌ ask
 define_in-lasts c region d =
     record { of = λ k i. when_defined c (is_none (defined_in k.regions region (name_at k d.token))) k region d i }
 
-pub declare_in-lasts : {G : Routine → Type 0} {I : Known → Type 0} → Lasting G I → (region value token : ℕ) → Keeps I (declare_in region value token)
+pub declare_in-lasts : {G : RoutineTree → Type 0} {I : Known → Type 0} → Lasting G I → (region value token : ℕ) → Keeps I (declare_in region value token)
 unfolding declare_in
 declare_in-lasts c region value token = bind-keeps (look-keeps (λ k. declared_in k.regions region value)) (λ held.
     bind-keeps (ask-keeps _ token (is_none held)) (λ _.
     when-keeps (is_none held) (changes (λ k. and_label k region value token) (λ k i. c.declares k region value token i))))
 
-when_required : {G : Routine → Type 0} {I : Known → Type 0} → Lasting G I → (ok : Bool) (k : Known) (name : ℕ) (d : Definition)
+when_required : {G : RoutineTree → Type 0} {I : Known → Type 0} → Lasting G I → (ok : Bool) (k : Known) (name : ℕ) (d : Definition)
     → length k.words ≤ d.token → I k → I (when ok (add_definition 0 name d) k).known
 unfolding when change give
 when_required c true k name d behind i = c.requires k name d behind i
@@ -122,7 +124,7 @@ when_required c false k name d behind i = i
 no_less : (n m : ℕ) → n ≤ n + m
 no_less n m = omega arith
 
-pub require-lasts : {G : Routine → Type 0} {I : Known → Type 0} → Lasting G I → (name : ℕ) (r : NameRow) → Keeps I (require name r)
+pub require-lasts : {G : RoutineTree → Type 0} {I : Known → Type 0} → Lasting G I → (name : ℕ) (r : NameRow) → Keeps I (require name r)
 unfolding require look ◌>>=◌ change
 require-lasts c name r = record {
   of = λ k i.
@@ -154,9 +156,9 @@ pub on_name-lasts : {I : Known → Type 0} {A : Type 0} (f : A → ℕ → Step 
 unfolding on_name
 on_name-lasts f a n h = h a n.name
 
-pub each_name-lasts : {I : Known → Type 0} {A : Type 0} (f : A → ℕ → Step A) (a : A) (n : Names) → ((a : A) (t : ℕ) → Keeps I (f a t))
+pub each_name-lasts : {I : Known → Type 0} {A : Type 0} (f : A → ℕ → Step A) (a : A) (n : NamesTree) → ((a : A) (t : ℕ) → Keeps I (f a t))
     → Keeps I (each_name f a n)
-each_name-lasts f a n h = bind-keeps (h a n.first) (λ b. each-lasts (on_name f) (λ a x. on_name-lasts f a x h) b n.others.items)
+each_name-lasts f a n h = bind-keeps (h a n.first) (λ b. each-lasts (on_name f) (λ a x. on_name-lasts f a x h) b n.others)
 
 pub by-lasts : {I : Known → Type 0} (w : Wanted) (fields constants : Step (Unit {0})) → Keeps I fields → Keeps I constants
     → Keeps I (by w fields constants)

@@ -1,68 +1,67 @@
 -- What the steps of `Rattle.decl_checker.specs.Blocks` leave as it was.
 use Rattle.std.proofs.Common.{ℕ, None, Option, Some}
-use Rattle.pas_tree.specs.declared.blocks.{ConstantPart.ConstantPart, Routine.Routine, TypePart.TypePart, VariablePart.VariablePart}
-use Rattle.pas_tree.specs.declared.blocks.Block.{Block, out-Block}
+use Rattle.pas_tree.specs.BlockTrees.{BlockTree, ConstantPartTree, RoutineTree, TypePartTree, VariablePartTree}
+use Rattle.pas_tree.specs.BlockTrees as tree
 use Rattle.core_program.specs.{ProgramRows.routine_at, declared.program.Routine.Routine as RoutineRow}
 use Rattle.check_steps.specs.Known.{Known, frame_at, line_at}
 use Rattle.kind_checker.specs.Constants.{constant_part, constants_in, define_constant}
 use Rattle.denoter_checker.specs.Parts.{define_type, define_variable, types_in, variable_declaration, variables_in}
-use Rattle.decl_checker.specs.Blocks.{after_types, constants, define_block, define_constants, define_types, define_variables, parts, put_body, put_held, types}
-use Rattle.decl_checker.specs.Blocks.{variables, with_body}
+use Rattle.decl_checker.specs.Blocks.{constants, define_block, define_constants, define_types, define_variables, parts, put_body, put_held, types, variables}
+use Rattle.decl_checker.specs.Blocks.{with_body, word_after}
 use Rattle.rule_laws.proofs.{Breaks.Each, Lasting.Lasting, Lasting.each-lasts, Lasting.put_routine-lasts, LastsConstants.constant_part-lasts}
 use Rattle.rule_laws.proofs.{LastsConstants.define_constant-lasts, LastsLabels.define_labels-lasts, LastsRoutineParts.define_routines-lasts}
 use Rattle.rule_laws.proofs.Keeping.{Keeps, bind-keeps, give-keeps, look-keeps}
 use Rattle.rule_laws.proofs.LastsParts.{define_type-lasts, define_variable-lasts, type_part-lasts, variable_declaration-lasts}
+use Rattle.rule_laws.specs.NameLaws.{block_routines}
 
-pub define_constants-lasts : {G : Routine → Type 0} {I : Known → Type 0} (kept : Lasting G I) (region : ℕ) (constant_part' : Option ConstantPart)
+pub define_constants-lasts : {G : RoutineTree → Type 0} {I : Known → Type 0} (kept : Lasting G I) (region : ℕ) (constant_part' : Option ConstantPartTree)
     → Keeps I (define_constants region constant_part')
 define_constants-lasts kept region None = give-keeps tt
 define_constants-lasts kept region (Some p) = each-lasts (define_constant region) (λ a x. define_constant-lasts kept region a x) tt (constants_in p)
 
-pub define_types-lasts : {G : Routine → Type 0} {I : Known → Type 0} (kept : Lasting G I) (region : ℕ) (type_part' : Option TypePart)
+pub define_types-lasts : {G : RoutineTree → Type 0} {I : Known → Type 0} (kept : Lasting G I) (region : ℕ) (type_part' : Option TypePartTree)
     → Keeps I (define_types region type_part')
 define_types-lasts kept region None = give-keeps tt
 define_types-lasts kept region (Some p) = each-lasts (define_type region) (λ a x. define_type-lasts kept region a x) tt (types_in p)
 
-pub define_variables-lasts : {G : Routine → Type 0} {I : Known → Type 0} (kept : Lasting G I) (region : ℕ) (variable_part : Option VariablePart)
+pub define_variables-lasts : {G : RoutineTree → Type 0} {I : Known → Type 0} (kept : Lasting G I) (region : ℕ) (variable_part : Option VariablePartTree)
     → Keeps I (define_variables region variable_part)
 define_variables-lasts kept region None = give-keeps tt
 define_variables-lasts kept region (Some p) = each-lasts (define_variable region) (λ a x. define_variable-lasts kept region a x) tt (variables_in p)
 
-pub constants-lasts : {G : Routine → Type 0} {I : Known → Type 0} (kept : Lasting G I) (frame : ℕ) (constant_part' : Option ConstantPart)
+pub constants-lasts : {G : RoutineTree → Type 0} {I : Known → Type 0} (kept : Lasting G I) (frame : ℕ) (constant_part' : Option ConstantPartTree)
     → Keeps I (constants frame constant_part')
 constants-lasts kept frame None = give-keeps tt
 constants-lasts kept frame (Some p) = each-lasts (constant_part frame) (λ a x. constant_part-lasts kept frame a x) tt (constants_in p)
 
-pub types-lasts : {G : Routine → Type 0} {I : Known → Type 0} (kept : Lasting G I) (frame after' : ℕ) (type_part' : Option TypePart)
+pub types-lasts : {G : RoutineTree → Type 0} {I : Known → Type 0} (kept : Lasting G I) (frame after' : ℕ) (type_part' : Option TypePartTree)
     → Keeps I (types frame after' type_part')
 types-lasts kept frame after None = give-keeps tt
 types-lasts kept frame after (Some p) = type_part-lasts kept frame after p
 
-pub variables-lasts : {G : Routine → Type 0} {I : Known → Type 0} (kept : Lasting G I) (frame place : ℕ) (variable_part : Option VariablePart)
+pub variables-lasts : {G : RoutineTree → Type 0} {I : Known → Type 0} (kept : Lasting G I) (frame place : ℕ) (variable_part : Option VariablePartTree)
     → Keeps I (variables frame place variable_part)
 variables-lasts kept frame place None = give-keeps place
 variables-lasts kept frame place (Some p) = each-lasts (variable_declaration frame) (λ a x. variable_declaration-lasts kept frame a x) place (variables_in p)
 
-pub parts-lasts : {G : Routine → Type 0} {I : Known → Type 0} (kept : Lasting G I) (frame place : ℕ) (b : Block) → Keeps I (parts frame place b)
-unfolding parts
-parts-lasts kept frame place b = bind-keeps (constants-lasts kept frame (out-Block b).constants) (λ _.
-    bind-keeps (types-lasts kept frame (after_types b) (out-Block b).types) (λ _. variables-lasts kept frame place (out-Block b).variables))
+pub parts-lasts : {G : RoutineTree → Type 0} {I : Known → Type 0} (kept : Lasting G I) (frame place : ℕ) (b : BlockTree) → Keeps I (parts frame place b)
+parts-lasts kept frame place (tree.a_block labels consts kinds variable_part routines body) =
+    bind-keeps (constants-lasts kept frame consts) (λ _. bind-keeps (types-lasts kept frame (word_after variable_part routines body) kinds)
+    (λ _. variables-lasts kept frame place variable_part))
 
-pub put_held-lasts : {G : Routine → Type 0} {I : Known → Type 0} (kept : Lasting G I) (number : ℕ) (x_routine : Option RoutineRow)
+pub put_held-lasts : {G : RoutineTree → Type 0} {I : Known → Type 0} (kept : Lasting G I) (number : ℕ) (x_routine : Option RoutineRow)
     → Keeps I (put_held number x_routine)
 put_held-lasts kept number None = give-keeps tt
 put_held-lasts kept number (Some r) = put_routine-lasts kept number r
 
-pub put_body-lasts : {G : Routine → Type 0} {I : Known → Type 0} (kept : Lasting G I) (number cells begin : ℕ) → Keeps I (put_body number cells begin)
+pub put_body-lasts : {G : RoutineTree → Type 0} {I : Known → Type 0} (kept : Lasting G I) (number cells begin : ℕ) → Keeps I (put_body number cells begin)
 unfolding put_body
-put_body-lasts kept number cells begin = bind-keeps (look-keeps (λ k. with_body (routine_at k.program number) cells begin (line_at k begin))) (λ r.
-    put_held-lasts kept number r)
+put_body-lasts kept number cells begin = bind-keeps (look-keeps (λ k. with_body (routine_at k.program number) cells begin (line_at k begin)))
+    (λ r. put_held-lasts kept number r)
 
-pub define_block-lasts : {G : Routine → Type 0} {I : Known → Type 0} (kept : Lasting G I) (frame : ℕ) (b : Block) → Each G (out-Block b).routines.items
+pub define_block-lasts : {G : RoutineTree → Type 0} {I : Known → Type 0} (kept : Lasting G I) (frame : ℕ) (b : BlockTree) → Each G (block_routines b)
     → Keeps I (define_block frame b)
-unfolding define_block
-define_block-lasts kept frame b rs = bind-keeps (look-keeps (λ k. frame_at k frame)) (λ here.
-    bind-keeps (define_labels-lasts kept here (out-Block b).labels) (λ _. bind-keeps (define_constants-lasts kept here.region (out-Block b).constants) (λ _.
-    bind-keeps (define_types-lasts kept here.region (out-Block b).types) (λ _.
-    bind-keeps (define_variables-lasts kept here.region (out-Block b).variables) (λ _.
-    define_routines-lasts kept here.region (out-Block b).routines.items rs)))))
+define_block-lasts kept frame (tree.a_block labels consts kinds variable_part routines body) all =
+    bind-keeps (look-keeps (λ k. frame_at k frame)) (λ here. bind-keeps (define_labels-lasts kept here labels) (λ _.
+    bind-keeps (define_constants-lasts kept here.region consts) (λ _. bind-keeps (define_types-lasts kept here.region kinds) (λ _.
+    bind-keeps (define_variables-lasts kept here.region variable_part) (λ _. define_routines-lasts kept here.region routines all)))))

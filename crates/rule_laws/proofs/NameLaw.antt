@@ -2,18 +2,15 @@
 use Rattle.std.proofs.Common.{if◌then◌else◌, ◌++◌, ◌<◌, ◌↔◌, ◌∙◌, ◌∷◌, ◌≡◌, [], ℕ, All, Bool, Contains, List, None, Option, Some, ap, arith, false, inl, inr}
 use Rattle.std.proofs.Common.{is_none, is_some, length, length-set, map, nat_eq, nat_le, refl, subst, sym, true}
 use Rattle.std.{proofs.lemmas.List.Elements.All-head, proofs.lemmas.List.Elements.All-tail, specs.Map.lookup}
-use Rattle.pas_tree.specs.{HeadingPlaces.heading_name, declared.constants.Names.Names, declared.constants.NextName.NextName}
-use Rattle.pas_tree.specs.declared.blocks.{Block.Block, Block.out-Block, ConstantDefinition.ConstantDefinition, ConstantPart.ConstantPart, LabelPart.LabelPart}
-use Rattle.pas_tree.specs.declared.blocks.{NextLabel.NextLabel, Parameters.Parameters, Routine.Routine, TypeDefinition.TypeDefinition, TypePart.TypePart}
-use Rattle.pas_tree.specs.declared.blocks.{VariableDeclaration.VariableDeclaration, VariablePart.VariablePart}
-use Rattle.pas_tree.specs.declared.denoters.{NextVariants.NextVariants, NextVariants.NextVariants', TagField.TagField}
-use Rattle.pas_tree.specs.declared.denoters.ArrayDenoter.{ArrayDenoter, ArrayDenoter', Row_of-NextDenoter, end_of-NextDenoter, more_of-NextDenoter}
-use Rattle.pas_tree.specs.declared.denoters.Denoter.{Denoter, Enumeration, Name, Pointer, Structure', Subrange}
-use Rattle.pas_tree.specs.declared.denoters.Fields.{Empty, Fields, Fixed', Held-Fields-Fixed-1, None', Some', Variants' as FieldsVariants'}
-use Rattle.pas_tree.specs.declared.denoters.Fixed.{Fixed as FixedTree, Fixed' as FixedTree', Row_of-NextSection, end_of-NextSection, more_of-NextSection}
-use Rattle.pas_tree.specs.declared.denoters.Structure.{Array, Record', Set', Structure}
-use Rattle.pas_tree.specs.declared.denoters.Variants.{Row_of-NextArm, Variants as VariantsTree, Variants', end_of-NextArm, more_of-NextArm}
-use Rattle.pas_tree.specs.declared.headings.{Formal.Formal, Formal.Routine', Formal.Value, Formal.Variable, Formals.Formals, NextFormal.NextFormal}
+use Rattle.pas_tree.specs.{BlockTrees.VariableDeclarationTree, BlockTrees.VariablePartTree, ConstantTrees.NamesTree, DenoterTrees.StructureTree}
+use Rattle.pas_tree.specs.{DenoterTrees.VariantsTree, HeadingPlaces.heading_name, declared.constants.NextName.NextName, declared.denoters.TagField.TagField}
+use Rattle.pas_tree.specs.BlockTrees.{ConstantPartTree, LabelPartTree, ParametersTree, RoutineTree, RoutineTrees, TypeDefinitionTree, TypePartTree}
+use Rattle.pas_tree.specs.BlockTrees as blocks
+use Rattle.pas_tree.specs.DenoterTrees.{ArmTree, ArmTrees, ArrayTree, DenoterTree, DenoterTrees, FieldsTree, FixedTree, PartTree, SectionTree, SectionTrees}
+use Rattle.pas_tree.specs.DenoterTrees as denoters
+use Rattle.pas_tree.specs.HeadingTrees.{FormalTree, FormalTrees, FormalsTree, HeldFormals}
+use Rattle.pas_tree.specs.HeadingTrees as headings
+use Rattle.pas_tree.specs.declared.blocks.{ConstantDefinition.ConstantDefinition, NextLabel.NextLabel}
 use Rattle.core_program.specs.declared.rows.{NameRow.NameRow, Row.Row, TextFile.TextFile}
 use Rattle.check_steps.specs.{Breaks.number, Known.Known, Known.and_label, Known.frame_at, Known.label_at, Names.declare_in}
 use Rattle.check_steps.specs.Regions.{RegionRows, declared_in, defined_in, region_at}
@@ -21,25 +18,25 @@ use Rattle.check_steps.specs.Steps.{◌>>=◌, Step, add_label, ask, change, eac
 use Rattle.check_steps.specs.declared.{breaks.Break.Break, regions.Def.Def, regions.Frame.Frame, words.SpelledToken.SpelledToken}
 use Rattle.kind_checker.specs.{Constants.constants_in, Constants.define_constant, declared.names.NameKind.NameKind}
 use Rattle.kind_checker.specs.Names.{define_name, defined_as, each_name, on_name}
-use Rattle.denoter_checker.specs.{Formals.other_formals, declared.defines.Wanted.Wanted}
-use Rattle.denoter_checker.specs.Defines.{by, define_arms, define_array, define_denoter, define_field, define_fixed, define_held, define_in_fields}
-use Rattle.denoter_checker.specs.Defines.{define_next_variants, define_others, define_record, define_sections, define_structure, define_variants}
-use Rattle.denoter_checker.specs.Formals.{define_formal, define_formals_at, define_held as define_held_formals, define_next_formal, first_formal, formals_of}
-use Rattle.denoter_checker.specs.Parts.{define_type, define_variable, types_in, variables_in}
-use Rattle.denoter_checker.specs.RoutineParts.{define_routine, define_routines, has_block, routine_name}
+use Rattle.denoter_checker.specs.{Parts.define_type, Parts.define_variable, Parts.types_in, Parts.variables_in, declared.defines.Wanted.Wanted}
+use Rattle.denoter_checker.specs.Defines.{by, define_arm, define_arms, define_array, define_denoter, define_field, define_fixed, define_in_fields}
+use Rattle.denoter_checker.specs.Defines.{define_others, define_part, define_record, define_section, define_sections, define_structure, define_variants}
+use Rattle.denoter_checker.specs.Formals.{define_each_formal, define_formal, define_formals_at, define_held, define_more_formals, formals_of}
+use Rattle.denoter_checker.specs.RoutineParts.{define_routine, define_routines, routine_name}
 use Rattle.decl_checker.specs.Blocks.{define_block, define_constants, define_types, define_variables}
 use Rattle.decl_checker.specs.Labels.{define_label, define_labels, define_next_label}
 use Rattle.decl_checker.specs.Parameters.{define_file, program_parameter, program_parameters, text_file_named}
-use Rattle.rule_laws.proofs.{InTurn.tells_then, InTurn.wrong_one, Tables.region-set, Telling.Misses}
+use Rattle.rule_laws.proofs.{InTurn.tells_then, InTurn.wrong_one, PartLaw.all_no_two, PartLaw.apart_of, PartLaw.only_eight, PartLaw.turns_only}
+use Rattle.rule_laws.proofs.{PartSteps.has_each, PartSteps.part_listed, PartSteps.part_steps, Tables.region-set, Telling.Misses}
 use Rattle.rule_laws.proofs.Breaks.{In, contained, found, in_either, of_each}
 use Rattle.rule_laws.proofs.InTurn.{Calm, Ends, Goes, Wrong, calm_calm, calm_then, goes_calm, goes_nowhere, goes_then, one_wrong, tells_calm, tells_last}
 use Rattle.rule_laws.proofs.NameTurns.{Region, Turn, define_goes, or_none, rule_two}
-use Rattle.rule_laws.proofs.PartLaw.{all_no_two, apart_of, only_eight, turns_only}
-use Rattle.rule_laws.specs.{Laws.broken_at, NameLaws.BlocksTellNames, NameLaws.HeadingsTellFormals, NameLaws.ProgramsTellParameters, NameLaws.RecordsTellFields}
-use Rattle.rule_laws.specs.RegionNames.{arm_names, array_names, block_names, constant_names, constants_of, denoter_names, field_names, file_name, file_names}
-use Rattle.rule_laws.specs.RegionNames.{fixed_names, formal_names, formals_names, heading_names, held_names, index_names, is_defined, label_token, labels_of}
-use Rattle.rule_laws.specs.RegionNames.{listed_names, next_names, next_token, other_formal_names, parameter_names, section_names, structure_names, tag_names}
-use Rattle.rule_laws.specs.RegionNames.{type_names, types_of, variable_names, variables_of, variant_names, wanted}
+use Rattle.rule_laws.specs.{ForwardHeadings.routines_in, Laws.broken_at}
+use Rattle.rule_laws.specs.NameLaws.{BlocksTellNames, HeadingsTellFormals, ProgramsTellParameters, RecordsTellFields}
+use Rattle.rule_laws.specs.RegionNames.{arm_names, arms_names, array_names, block_names, constant_names, constants_of, denoter_names, field_names, file_name}
+use Rattle.rule_laws.specs.RegionNames.{file_names, fixed_names, formal_names, formals_names, heading_names, held_names, index_names, is_defined, label_token}
+use Rattle.rule_laws.specs.RegionNames.{labels_of, list_names, listed_names, next_token, other_formal_names, parameter_names, section_names, sections_names}
+use Rattle.rule_laws.specs.RegionNames.{structure_names, tag_names, type_names, types_of, variable_names, variables_of, variant_names, wanted}
 
 -- ---- lists of names
 
@@ -53,8 +50,8 @@ unfolding on_name
 others_go p kind u [] = goes_nowhere u
 others_go p kind u (n ∷ ns) = goes_then (n.name ∷ []) (map next_token ns) (name_goes p kind u n.name) (λ v. others_go p kind v ns)
 
-names_go : (p : Region) (kind : NameKind) (n : Names) → Goes (rule_two p) (listed_names n) (each_name (define_name p.region kind) tt n)
-names_go p kind n = goes_then (n.first ∷ []) (map next_token n.others.items) (name_goes p kind tt n.first) (λ u. others_go p kind u n.others.items)
+names_go : (p : Region) (kind : NameKind) (n : NamesTree) → Goes (rule_two p) (listed_names n) (each_name (define_name p.region kind) tt n)
+names_go p kind n = goes_then (n.first ∷ []) (map next_token n.others) (name_goes p kind tt n.first) (λ u. others_go p kind u n.others)
 
 -- ---- denoters
 
@@ -68,63 +65,63 @@ field_goes p None = goes_nowhere tt
 field_goes p (Some f) = name_goes p NameKind.Field tt f.name
 
 mutual
-  denoter_goes : (p : Region) (d : Denoter) → Goes (rule_two p) (denoter_names d) (define_denoter p.region d)
-  denoter_goes p (Name token) = goes_nowhere tt
-  denoter_goes p (Enumeration e) = names_go p NameKind.Constant e.names
-  denoter_goes p (Subrange first dots last) = goes_nowhere tt
-  denoter_goes p (Pointer caret name) = goes_nowhere tt
-  denoter_goes p (Structure' packed _ s) = structure_goes p s
+  denoter_goes : (p : Region) (d : DenoterTree) → Goes (rule_two p) (denoter_names d) (define_denoter p.region d)
+  denoter_goes p (denoters.a_type_name token) = goes_nowhere tt
+  denoter_goes p (denoters.an_enumeration e) = names_go p NameKind.Constant e.names
+  denoter_goes p (denoters.a_subrange first dots last) = goes_nowhere tt
+  denoter_goes p (denoters.a_pointer caret name) = goes_nowhere tt
+  denoter_goes p (denoters.a_structure packed s) = structure_goes p s
 
-  structure_goes : (p : Region) (s : Structure) → Goes (rule_two p) (structure_names s) (define_structure p.region s)
-  structure_goes p (Array a) = array_goes p a
-  structure_goes p (Record' word fields end) = fields_go p Wanted.Constants fields
-  structure_goes p (Set' word of base) = denoter_goes p base
+  structure_goes : (p : Region) (s : StructureTree) → Goes (rule_two p) (structure_names s) (define_structure p.region s)
+  structure_goes p (denoters.an_array a) = array_goes p a
+  structure_goes p (denoters.a_record word fields end) = fields_go p Wanted.Constants fields
+  structure_goes p (denoters.a_set_type word of base) = denoter_goes p base
 
-  array_goes : (p : Region) (a : ArrayDenoter) → Goes (rule_two p) (array_names a) (define_array p.region a)
-  array_goes p (ArrayDenoter' word open' first _ others close of component) =
+  array_goes : (p : Region) (a : ArrayTree) → Goes (rule_two p) (array_names a) (define_array p.region a)
+  array_goes p (denoters.index_types word open' first others close of component) =
       goes_then (denoter_names first) (index_names others ++ denoter_names component) (denoter_goes p first) (λ _.
       goes_then (index_names others) (denoter_names component) (indexes_go p others) (λ _. denoter_goes p component))
 
-  indexes_go : (p : Region) {m : _} (r : Row_of-NextDenoter m) → Goes (rule_two p) (index_names r) (define_others p.region r)
-  indexes_go p end_of-NextDenoter = goes_nowhere tt
-  indexes_go p (more_of-NextDenoter comma d rest) = goes_then (denoter_names d) (index_names rest) (denoter_goes p d) (λ _. indexes_go p rest)
+  indexes_go : (p : Region) (r : DenoterTrees) → Goes (rule_two p) (index_names r) (define_others p.region r)
+  indexes_go p denoters.end_of_denoters = goes_nowhere tt
+  indexes_go p (denoters.more_denoters comma d rest) = goes_then (denoter_names d) (index_names rest) (denoter_goes p d) (λ _. indexes_go p rest)
 
-  pub fields_go : (p : Region) (w : Wanted) (f : Fields) → Goes (rule_two p) (field_names w f) (define_in_fields w p.region f)
-  fields_go p w Empty = goes_nowhere tt
-  fields_go p w (Fixed' fixed variants last) =
+  pub fields_go : (p : Region) (w : Wanted) (f : FieldsTree) → Goes (rule_two p) (field_names w f) (define_in_fields w p.region f)
+  fields_go p w denoters.without_fields = goes_nowhere tt
+  fields_go p w (denoters.fixed_fields fixed variants last) =
       goes_then (fixed_names w fixed) (held_names w variants) (fixed_goes p w fixed) (λ _. held_goes p w variants)
-  fields_go p w (FieldsVariants' _ variants last) = variants_go p w variants
+  fields_go p w (denoters.variant_fields variants last) = variants_go p w variants
 
   fixed_goes : (p : Region) (w : Wanted) (f : FixedTree) → Goes (rule_two p) (fixed_names w f) (define_fixed w p.region f)
-  fixed_goes p w (FixedTree' names colon d _ others) =
-      goes_then (wanted w (listed_names names) (denoter_names d)) (section_names w others)
-      (by_goes p w (listed_names names) (denoter_names d) (each_name (define_name p.region NameKind.Field) tt names) (define_denoter p.region d)
-      (names_go p NameKind.Field names) (denoter_goes p d)) (λ _. sections_go p w others)
+  fixed_goes p w (denoters.fixed_part first others) =
+      goes_then (section_names w first) (sections_names w others) (section_goes p w first) (λ _. sections_go p w others)
 
-  sections_go : (p : Region) (w : Wanted) {m : _} (r : Row_of-NextSection m) → Goes (rule_two p) (section_names w r) (define_sections w p.region r)
-  sections_go p w end_of-NextSection = goes_nowhere tt
-  sections_go p w (more_of-NextSection semicolon names colon d rest) =
-      goes_then (wanted w (listed_names names) (denoter_names d)) (section_names w rest)
-      (by_goes p w (listed_names names) (denoter_names d) (each_name (define_name p.region NameKind.Field) tt names) (define_denoter p.region d)
-      (names_go p NameKind.Field names) (denoter_goes p d)) (λ _. sections_go p w rest)
+  section_goes : (p : Region) (w : Wanted) (s : SectionTree) → Goes (rule_two p) (section_names w s) (define_section w p.region s)
+  section_goes p w (denoters.a_section names colon d) =
+      by_goes p w (listed_names names) (denoter_names d) (each_name (define_name p.region NameKind.Field) tt names) (define_denoter p.region d)
+      (names_go p NameKind.Field names) (denoter_goes p d)
 
-  held_goes : (p : Region) (w : Wanted) (h : Held-Fields-Fixed-1) → Goes (rule_two p) (held_names w h) (define_held w p.region h)
-  held_goes p w None' = goes_nowhere tt
-  held_goes p w (Some' n) = next_goes p w n
+  sections_go : (p : Region) (w : Wanted) (r : SectionTrees) → Goes (rule_two p) (sections_names w r) (define_sections w p.region r)
+  sections_go p w denoters.end_of_sections = goes_nowhere tt
+  sections_go p w (denoters.more_sections semicolon s rest) =
+      goes_then (section_names w s) (sections_names w rest) (section_goes p w s) (λ _. sections_go p w rest)
 
-  next_goes : (p : Region) (w : Wanted) (n : NextVariants) → Goes (rule_two p) (next_names w n) (define_next_variants w p.region n)
-  next_goes p w (NextVariants' semicolon _ variants) = variants_go p w variants
+  held_goes : (p : Region) (w : Wanted) (h : PartTree) → Goes (rule_two p) (held_names w h) (define_part w p.region h)
+  held_goes p w denoters.without_part = goes_nowhere tt
+  held_goes p w (denoters.a_part semicolon variants) = variants_go p w variants
 
   variants_go : (p : Region) (w : Wanted) (v : VariantsTree) → Goes (rule_two p) (variant_names w v) (define_variants w p.region v)
-  variants_go p w (Variants' word tag of constants colon open' fields close _ others) =
-      goes_then (wanted w (tag_names tag.field) []) (field_names w fields ++ arm_names w others)
+  variants_go p w (denoters.arms word tag of_word first others) =
+      goes_then (wanted w (tag_names tag.field) []) (arm_names w first ++ arms_names w others)
       (by_goes p w (tag_names tag.field) [] (define_field p.region tag.field) (give tt) (field_goes p tag.field) (goes_nowhere tt)) (λ _.
-      goes_then (field_names w fields) (arm_names w others) (fields_go p w fields) (λ _. arms_go p w others))
+      goes_then (arm_names w first) (arms_names w others) (arm_goes p w first) (λ _. arms_go p w others))
 
-  arms_go : (p : Region) (w : Wanted) {m : _} (r : Row_of-NextArm m) → Goes (rule_two p) (arm_names w r) (define_arms w p.region r)
-  arms_go p w end_of-NextArm = goes_nowhere tt
-  arms_go p w (more_of-NextArm semicolon constants colon open' fields close rest) =
-      goes_then (field_names w fields) (arm_names w rest) (fields_go p w fields) (λ _. arms_go p w rest)
+  arm_goes : (p : Region) (w : Wanted) (a : ArmTree) → Goes (rule_two p) (arm_names w a) (define_arm w p.region a)
+  arm_goes p w (denoters.an_arm constants colon left fields right) = fields_go p w fields
+
+  arms_go : (p : Region) (w : Wanted) (r : ArmTrees) → Goes (rule_two p) (arms_names w r) (define_arms w p.region r)
+  arms_go p w denoters.end_of_arms = goes_nowhere tt
+  arms_go p w (denoters.more_arms semicolon a rest) = goes_then (arm_names w a) (arms_names w rest) (arm_goes p w a) (λ _. arms_go p w rest)
 
 -- ---- the parts of a block
 
@@ -134,29 +131,29 @@ constants_go p [] = goes_nowhere tt
 constants_go p (d ∷ ds) = goes_then (d.name ∷ []) (constant_names ds)
     (define_goes p (record { def = Def.Constant d.name; token = d.name; end = d.semicolon })) (λ _. constants_go p ds)
 
-pub constant_part_goes : (p : Region) (c : Option ConstantPart) → Goes (rule_two p) (constants_of c) (define_constants p.region c)
+pub constant_part_goes : (p : Region) (c : Option ConstantPartTree) → Goes (rule_two p) (constants_of c) (define_constants p.region c)
 constant_part_goes p None = goes_nowhere tt
 constant_part_goes p (Some c) = constants_go p (constants_in c)
 
-types_go : (p : Region) (ds : List TypeDefinition) → Goes (rule_two p) (type_names ds) (each (define_type p.region) tt ds)
+types_go : (p : Region) (ds : List TypeDefinitionTree) → Goes (rule_two p) (type_names ds) (each (define_type p.region) tt ds)
 unfolding define_type
 types_go p [] = goes_nowhere tt
 types_go p (d ∷ ds) = goes_then (d.name ∷ denoter_names d.denoter) (type_names ds)
     (goes_then (d.name ∷ []) (denoter_names d.denoter) (define_goes p (record { def = Def.TypeName d.name; token = d.name; end = d.semicolon }))
     (λ _. denoter_goes p d.denoter)) (λ _. types_go p ds)
 
-pub type_part_goes : (p : Region) (c : Option TypePart) → Goes (rule_two p) (types_of c) (define_types p.region c)
+pub type_part_goes : (p : Region) (c : Option TypePartTree) → Goes (rule_two p) (types_of c) (define_types p.region c)
 type_part_goes p None = goes_nowhere tt
 type_part_goes p (Some c) = types_go p (types_in c)
 
-variables_go : (p : Region) (ds : List VariableDeclaration) → Goes (rule_two p) (variable_names ds) (each (define_variable p.region) tt ds)
+variables_go : (p : Region) (ds : List VariableDeclarationTree) → Goes (rule_two p) (variable_names ds) (each (define_variable p.region) tt ds)
 unfolding define_variable
 variables_go p [] = goes_nowhere tt
 variables_go p (d ∷ ds) = goes_then (listed_names d.names ++ denoter_names d.denoter) (variable_names ds)
     (goes_then (listed_names d.names) (denoter_names d.denoter) (names_go p NameKind.Variable d.names) (λ _. denoter_goes p d.denoter))
     (λ _. variables_go p ds)
 
-pub variable_part_goes : (p : Region) (c : Option VariablePart) → Goes (rule_two p) (variables_of c) (define_variables p.region c)
+pub variable_part_goes : (p : Region) (c : Option VariablePartTree) → Goes (rule_two p) (variables_of c) (define_variables p.region c)
 variable_part_goes p None = goes_nowhere tt
 variable_part_goes p (Some c) = variables_go p (variables_in c)
 
@@ -220,25 +217,30 @@ next_labels_calm p here e (n ∷ ns) others = let P : ℕ → Type 0 = λ z. z �
     calm_calm (label_calm p here e n.number (All-head P n.number (map label_token ns) others))
     (λ _. next_labels_calm p here e ns (All-tail P n.number (map label_token ns) others))
 
-labels_calm : (p : Region) (here : Frame) → here.region ≡ p.region → (c : Option LabelPart) → All (λ y. y ≡ p.t → ⊥) (labels_of c)
+labels_calm : (p : Region) (here : Frame) → here.region ≡ p.region → (c : Option LabelPartTree) → All (λ y. y ≡ p.t → ⊥) (labels_of c)
     → Calm (rule_two p) (define_labels here c)
 labels_calm p here e None others = give_calm p tt
 labels_calm p here e (Some c) others = let P : ℕ → Type 0 = λ z. z ≡ p.t → ⊥ in
-    calm_calm (label_calm p here e c.first (All-head P c.first (map label_token c.others.items) others))
-    (λ _. next_labels_calm p here e c.others.items (All-tail P c.first (map label_token c.others.items) others))
+    calm_calm (label_calm p here e c.first (All-head P c.first (map label_token c.others) others))
+    (λ _. next_labels_calm p here e c.others (All-tail P c.first (map label_token c.others) others))
 
 -- ---- procedures and functions at other tokens
 
-routines_calm : (p : Region) (rs : List Routine) (j : Known) → All (λ r. routine_name r ≡ p.t → ⊥) rs
-    → In (broken_at 2 p.t) (define_routines p.region rs j).broken → ⊥
+listed_calm : (p : Region) (rs : List RoutineTree) (j : Known) → All (λ r. routine_name r ≡ p.t → ⊥) rs
+    → In (broken_at 2 p.t) (part_steps p.region rs j).broken → ⊥
 unfolding ◌>>=◌
-routines_calm p rs j others i =
+listed_calm p rs j others i =
     let d = each (define_routine p.region) 0 rs j in
     let b = broken_at 2 p.t in
-    elim (in_either b d.broken (each has_block tt rs d.known).broken i) [
+    elim (in_either b d.broken (each has_each tt rs d.known).broken i) [
       | inl l ↦ of_each (Misses 2 p.t) b d.broken (turns_only (Misses 2 p.t) p.region rs 0 j (all_no_two p.t rs (apart_of p.t rs others))) l refl
-      | inr r ↦ of_each (Misses 2 p.t) b (each has_block tt rs d.known).broken (only_eight p.t rs d.known) r refl
+      | inr r ↦ of_each (Misses 2 p.t) b (each has_each tt rs d.known).broken (only_eight p.t rs d.known) r refl
     ]
+
+routines_calm : (p : Region) (rs : RoutineTrees) (j : Known) → All (λ r. routine_name r ≡ p.t → ⊥) (routines_in rs)
+    → In (broken_at 2 p.t) (define_routines p.region rs j).broken → ⊥
+routines_calm p rs j others i = listed_calm p (routines_in rs) j others
+    (subst (λ (m : Step (Unit {0})). In (broken_at 2 p.t) (m j).broken) (part_listed p.region rs) i)
 
 -- ---- the laws
 
@@ -257,28 +259,29 @@ told p before x after xs bs e same b a forth back = (
 )
 
 -- the parts that define names, and then the procedures and functions
-block_told : (p : Region) (here : Frame) → here.region ≡ p.region → (b : Block) → Turn p [] p.k → All (λ y. y ≡ p.t → ⊥) (labels_of (out-Block b).labels)
-    → All (λ r. routine_name r ≡ p.t → ⊥) (out-Block b).routines.items
-    → let s = define_labels here (out-Block b).labels >>= λ _. define_constants p.region (out-Block b).constants >>= λ _.
-    define_types p.region (out-Block b).types >>= λ _. define_variables p.region (out-Block b).variables >>= λ _.
-    define_routines p.region (out-Block b).routines.items in
-    (In (broken_at 2 p.t) (s p.k).broken → Wrong (rule_two p) [] (block_names b))
-    × (Wrong (rule_two p) [] (block_names b) → In (broken_at 2 p.t) (s p.k).broken)
-block_told p here e b turn labels routines =
-    let t = tells_calm (block_names b) (labels_calm p here e (out-Block b).labels labels) (λ _.
-    tells_then (constants_of (out-Block b).constants) (types_of (out-Block b).types ++ variables_of (out-Block b).variables)
-    (constant_part_goes p (out-Block b).constants) (λ _.
-    tells_then (types_of (out-Block b).types) (variables_of (out-Block b).variables) (type_part_goes p (out-Block b).types) (λ _.
-    tells_last (variables_of (out-Block b).variables) (variable_part_goes p (out-Block b).variables) (λ _.
-    record { none = λ j. routines_calm p (out-Block b).routines.items j routines })))) in
+block_told : (p : Region) (here : Frame) → here.region ≡ p.region → (labels : Option LabelPartTree) (constants : Option ConstantPartTree)
+    (types : Option TypePartTree) (variables : Option VariablePartTree) (routines : RoutineTrees) → Turn p [] p.k
+    → All (λ y. y ≡ p.t → ⊥) (labels_of labels) → All (λ r. routine_name r ≡ p.t → ⊥) (routines_in routines)
+    → let s = define_labels here labels >>= λ _. define_constants p.region constants >>= λ _.
+    define_types p.region types >>= λ _. define_variables p.region variables >>= λ _. define_routines p.region routines in
+    let names = constants_of constants ++ (types_of types ++ variables_of variables) in
+    (In (broken_at 2 p.t) (s p.k).broken → Wrong (rule_two p) [] names) × (Wrong (rule_two p) [] names → In (broken_at 2 p.t) (s p.k).broken)
+block_told p here e labels constants types variables routines turn no_label no_routine =
+    let names = constants_of constants ++ (types_of types ++ variables_of variables) in
+    let t = tells_calm names (labels_calm p here e labels no_label) (λ _.
+    tells_then (constants_of constants) (types_of types ++ variables_of variables) (constant_part_goes p constants) (λ _.
+    tells_then (types_of types) (variables_of variables) (type_part_goes p types) (λ _.
+    tells_last (variables_of variables) (variable_part_goes p variables) (λ _.
+    record { none = λ j. routines_calm p routines j no_routine })))) in
     t.of [] p.k turn
 
 pub name_law : BlocksTellNames
-unfolding define_block look ◌>>=◌
-name_law k frame b before name after below same one other =
+unfolding look ◌>>=◌
+name_law k frame (blocks.a_block labels constants types variables routines body) before name after below same one other =
     let region = (frame_at k frame).region in
     let p : Region = record { k = k; region = region; t = name } in
-    let both = block_told p (frame_at k frame) refl b (begun k region name below) other.labels other.routines in
+    let b = blocks.a_block labels constants types variables routines body in
+    let both = block_told p (frame_at k frame) refl labels constants types variables routines (begun k region name below) other.labels other.routines in
     told p before name after (block_names b) (define_block frame b k).broken refl same one.others_before one.others_after both.0 both.1
 
 pub field_law : RecordsTellFields
@@ -292,20 +295,23 @@ field_law k frame fields before name after below same one =
 
 -- ---- formal parameters
 
-formal_goes : (p : Region) (f : Formal) → Goes (rule_two p) (formal_names f) (define_formal p.region f)
-formal_goes p (Value f) = names_go p NameKind.Formal f.names
-formal_goes p (Variable word f) = names_go p NameKind.Formal f.names
-formal_goes p (Routine' _ h) = name_goes p NameKind.Formal tt (heading_name h)
+formal_goes : (p : Region) (f : FormalTree) → Goes (rule_two p) (formal_names f) (define_formal p.region f)
+formal_goes p (headings.value_formals f) = names_go p NameKind.Formal f.names
+formal_goes p (headings.variable_formals word f) = names_go p NameKind.Formal f.names
+formal_goes p (headings.a_routine_formal h) = name_goes p NameKind.Formal tt (heading_name h)
 
-formals_go : (p : Region) (ns : List NextFormal) → Goes (rule_two p) (other_formal_names ns) (each (define_next_formal p.region) tt ns)
-unfolding define_next_formal
-formals_go p [] = goes_nowhere tt
-formals_go p (n ∷ ns) = goes_then (formal_names n.formal) (other_formal_names ns) (formal_goes p n.formal) (λ _. formals_go p ns)
+formals_go : (p : Region) (fs : FormalTrees) → Goes (rule_two p) (other_formal_names fs) (define_more_formals p.region fs)
+formals_go p headings.end_of_formals = goes_nowhere tt
+formals_go p (headings.more_formals semicolon f rest) =
+    goes_then (formal_names f) (other_formal_names rest) (formal_goes p f) (λ _. formals_go p rest)
 
-pub held_formals_go : (p : Region) (f : Option Formals) → Goes (rule_two p) (formals_names f) (define_held_formals p.region f)
-held_formals_go p None = goes_nowhere tt
-held_formals_go p (Some f) = goes_then (formal_names (first_formal f)) (other_formal_names (other_formals f)) (formal_goes p (first_formal f))
-    (λ _. formals_go p (other_formals f))
+list_goes : (p : Region) (f : FormalsTree) → Goes (rule_two p) (list_names f) (define_each_formal p.region f)
+list_goes p (headings.formal_list left first others right) =
+    goes_then (formal_names first) (other_formal_names others) (formal_goes p first) (λ _. formals_go p others)
+
+pub held_formals_go : (p : Region) (f : HeldFormals) → Goes (rule_two p) (formals_names f) (define_held p.region f)
+held_formals_go p headings.without_formals = goes_nowhere tt
+held_formals_go p (headings.some_formals f) = list_goes p f
 
 pub formal_law : HeadingsTellFormals
 unfolding define_formals_at look ◌>>=◌
@@ -359,10 +365,10 @@ other_parameters_go p u [] = goes_nowhere u
 other_parameters_go p u (n ∷ ns) =
     goes_then (file_name p.k n.name) (file_names p.k (map next_token ns)) (parameter_goes p u n.name) (λ v. other_parameters_go p v ns)
 
-parameters_go : (p : Region) (x : Option Parameters) → Goes (rule_two p) (parameter_names p.k x) (program_parameters p.region x)
+parameters_go : (p : Region) (x : Option ParametersTree) → Goes (rule_two p) (parameter_names p.k x) (program_parameters p.region x)
 parameters_go p None = goes_nowhere tt
-parameters_go p (Some x) = goes_then (file_name p.k x.names.first) (file_names p.k (map next_token x.names.others.items))
-    (parameter_goes p tt x.names.first) (λ u. other_parameters_go p u x.names.others.items)
+parameters_go p (Some x) = goes_then (file_name p.k x.names.first) (file_names p.k (map next_token x.names.others))
+    (parameter_goes p tt x.names.first) (λ u. other_parameters_go p u x.names.others)
 
 pub parameter_law : ProgramsTellParameters
 parameter_law k region x before name after below same one =

@@ -3,8 +3,9 @@ use Rattle.std.proofs.Common.{if◌then◌else◌, ◌&&◌, ◌++◌, ◌+◌, 
 use Rattle.std.proofs.Common.{inr, is_none, length, length-set, nat_eq, not, refl, subst, sym, true}
 use Rattle.std.proofs.lemmas.{Bool.cases_eq, Bool.Decides.nat_tests, Option.none-some, Option.same_Some}
 use Rattle.std.specs.List.{list_any}
-use Rattle.pas_tree.specs.{HeadingPlaces.heading_name, declared.headings.Heading.Heading}
-use Rattle.pas_tree.specs.declared.blocks.{Routine.Routine, RoutineBody.Block', RoutineBody.Directive, RoutineBody.RoutineBody}
+use Rattle.pas_tree.specs.{HeadingPlaces.heading_name, HeadingTrees.HeadingTree}
+use Rattle.pas_tree.specs.BlockTrees.{BodyTree, RoutineTree, routine_body, routine_heading}
+use Rattle.pas_tree.specs.BlockTrees as tree
 use Rattle.core_program.specs.declared.rows.{PartRow.PartRow, Row.Row}
 use Rattle.check_steps.specs.{Names.define_in, Regions.defined_in, Regions.or_else, Regions.region_at}
 use Rattle.check_steps.specs.Known.{Known, and_definition, name_at, row_at, with_row}
@@ -12,9 +13,9 @@ use Rattle.check_steps.specs.Steps.{◌>>=◌, add_definition, ask, change, each
 use Rattle.check_steps.specs.declared.{breaks.Break.Break, regions.Def.Def, regions.Definition.Definition, words.SpelledToken.SpelledToken}
 use Rattle.denoter_checker.specs.Formals.{formals_of, is_complete, is_function, result_of}
 use Rattle.denoter_checker.specs.RoutineParts.{awaiting, awaits, complete_or_define, completed_by, completing, define_heading, define_routine, defining}
-use Rattle.denoter_checker.specs.RoutineParts.{directed, is_forward, is_waiting, no_formals, no_result, routine_name}
+use Rattle.denoter_checker.specs.RoutineParts.{directed, is_forward, is_waiting, no_result, routine_name, without_formals}
 use Rattle.rule_laws.proofs.{Breaks.Each, Breaks.In, Breaks.both, Telling.Misses, Telling.directed-only, Telling.no_two, Telling.other_rule}
-use Rattle.rule_laws.proofs.Keeping.{Closed, Keeps, completing-keeps, defining-keeps, no_formals-keeps, no_result-keeps, turn-keeps}
+use Rattle.rule_laws.proofs.Keeping.{Closed, Keeps, completing-keeps, defining-keeps, no_result-keeps, turn-keeps, without_formals-keeps}
 use Rattle.rule_laws.proofs.Tables.{defined-more, one_or_other, row_beside, row_put}
 use Rattle.rule_laws.specs.{ForwardHeadings.has_forward, ForwardHeadings.is_block, Laws.broken_at}
 
@@ -171,16 +172,16 @@ pub awaited : (k : Known) (function : Bool) (o : Option Definition) (n : ℕ) �
 awaited k function None n e = absurd (none-some n e)
 awaited k function (Some d) n e = (d, refl, chosen (awaits function (row_at k d.token)) d.token n e)
 
-pub completed_elsewhere : (region n : ℕ) (k : Known) → Elsewhere region n k → (h : Heading) (body : RoutineBody)
+pub completed_elsewhere : (region n : ℕ) (k : Known) → Elsewhere region n k → (h : HeadingTree) (body : BodyTree)
     → completed_by k region h body ≡ Some n → ⊥
-completed_elsewhere region n k elsewhere h (Directive directive) e = none-some n e
-completed_elsewhere region n k elsewhere h (Block' _ b) e =
+completed_elsewhere region n k elsewhere h (tree.a_directive directive) e = none-some n e
+completed_elsewhere region n k elsewhere h (tree.a_block_body b) e =
     let found = awaited k (is_function h) (defined_in k.regions region (name_at k (heading_name h))) n e in
     elsewhere (name_at k (heading_name h)) found.0 found.1 found.2
 
 -- ---- the turn of the heading itself
 
-abbrev pub own_definition : Heading → Definition
+abbrev pub own_definition : HeadingTree → Definition
 own_definition h = record { def = Def.Routine (heading_name h); token = heading_name h; end = heading_name h }
 
 when_put : (b : Bool) (m : ℕ) (r : Row) (k : Known) → b ≡ true → (when b (put m r) k).known ≡ with_row k m r
@@ -193,12 +194,12 @@ unfolding when change give
 when_no_put true m r k e = absurd (let no : true ≡ false = e in cc)
 when_no_put false m r k e = refl
 
-directed-waits : (h : Heading) (directive : ℕ) (k : Known) → is_forward k directive ≡ true
+directed-waits : (h : HeadingTree) (directive : ℕ) (k : Known) → is_forward k directive ≡ true
     → (directed h directive k).known ≡ with_row k (heading_name h) (waiting_row (is_function h))
 unfolding directed look ◌>>=◌ ask
 directed-waits h directive k e = when_put (is_forward k directive) (heading_name h) (waiting_row (is_function h)) k e
 
-directed-stays : (h : Heading) (directive : ℕ) (k : Known) → is_forward k directive ≡ false → (directed h directive k).known ≡ k
+directed-stays : (h : HeadingTree) (directive : ℕ) (k : Known) → is_forward k directive ≡ false → (directed h directive k).known ≡ k
 unfolding directed look ◌>>=◌ ask
 directed-stays h directive k e = when_no_put (is_forward k directive) (heading_name h) (waiting_row (is_function h)) k e
 
@@ -207,7 +208,7 @@ abbrev pub Turned : Known → ℕ → ℕ → ℕ → Bool → Known → List Br
 Turned k0 region n name function k bs =
     (Awaiting k0 region n name function k × Each (Misses 2 n) bs) ⊎ (Lost k0 region n function k × In (broken_at 2 n) bs)
 
-turned : {k0 : Known} {region : ℕ} (k : Known) (h : Heading) (directive : ℕ) → New k0 region (heading_name h) k → is_forward k directive ≡ true
+turned : {k0 : Known} {region : ℕ} (k : Known) (h : HeadingTree) (directive : ℕ) → New k0 region (heading_name h) k → is_forward k directive ≡ true
     → (o : Option Definition) → defined_in k.regions region (name_at k (heading_name h)) ≡ o → (nine ten : List Break)
     → Each (Misses 2 (heading_name h)) nine → Each (Misses 2 (heading_name h)) ten
     → Turned k0 region (heading_name h) (name_at k (heading_name h)) (is_function h)
@@ -253,13 +254,13 @@ asked : (P : Break → Type 0) (b : Break) (ok : Bool) → P b → Each P (if ok
 asked P b true h = tt
 asked P b false h = (h, tt)
 
-pub own_turn : {k0 : Known} {region : ℕ} (k : Known) (position : ℕ) (h : Heading) (body : RoutineBody) → New k0 region (heading_name h) k
+pub own_turn : {k0 : Known} {region : ℕ} (k : Known) (position : ℕ) (h : HeadingTree) (body : BodyTree) → New k0 region (heading_name h) k
     → has_forward k0 body ≡ true
     → Turned k0 region (heading_name h) (name_at k (heading_name h)) (is_function h)
     (complete_or_define (completed_by k region h body) region position h body k).known
     (complete_or_define (completed_by k region h body) region position h body k).broken
 unfolding defining define_heading define_in look ◌>>=◌ ask
-own_turn {k0 = k0} {region = region} k position h (Directive directive) i forward =
+own_turn {k0 = k0} {region = region} k position h (tree.a_directive directive) i forward =
     let n = heading_name h in
     let o = defined_in k.regions region (name_at k n) in
     let next = (when (is_none o) (add_definition region (name_at k n) (own_definition h)) k).known in
@@ -268,7 +269,7 @@ own_turn {k0 = k0} {region = region} k position h (Directive directive) i forwar
     (if is_complete h then [] else broken_at 9 n ∷ []) (directed h directive next).broken
     (asked (Misses 2 n) (broken_at 9 n) (is_complete h) (other_rule 9 n 2 n (λ e. omega (arith, e))))
     ((directed-only allows h directive).of next)
-own_turn k position h (Block' _ b) i forward = absurd (let no : false ≡ true = forward in cc)
+own_turn k position h (tree.a_block_body b) i forward = absurd (let no : false ≡ true = forward in cc)
 
 -- ---- where no heading waits
 
@@ -281,34 +282,34 @@ unfolding when change give
 quiet_when k name d None i = quiet-define k name d i
 quiet_when k name d (Some x) i = i
 
-quiet_completing : {k0 : Known} {region n : ℕ} (first position : ℕ) (h : Heading) → Keeps (Quiet k0 region n) (completing first position h)
+quiet_completing : {k0 : Known} {region n : ℕ} (first position : ℕ) (h : HeadingTree) → Keeps (Quiet k0 region n) (completing first position h)
 quiet_completing first position h = completing-keeps first position h
     (λ k i. quiet-put k first (Row.Part (PartRow.Forward (is_function h) (Some position))) refl i)
     (λ k i. quiet-put k (heading_name h) (Row.Part (PartRow.Completing first)) refl i)
 
-quiet_block : {k0 : Known} {region n : ℕ} (k : Known) (position : ℕ) (h : Heading) (place : _) (b : _) (o : Option ℕ) → Quiet k0 region n k
-    → Quiet k0 region n (complete_or_define o region position h (Block' place b) k).known
+quiet_block : {k0 : Known} {region n : ℕ} (k : Known) (position : ℕ) (h : HeadingTree) (b : _) (o : Option ℕ) → Quiet k0 region n k
+    → Quiet k0 region n (complete_or_define o region position h (tree.a_block_body b) k).known
 unfolding defining define_heading define_in look ◌>>=◌ ask give
-quiet_block {region = region} k position h place b None i =
+quiet_block {region = region} k position h b None i =
     quiet_when k (name_at k (heading_name h)) (own_definition h) (defined_in k.regions region (name_at k (heading_name h))) i
-quiet_block k position h place b (Some first) i = (quiet_completing first position h).of k i
+quiet_block k position h b (Some first) i = (quiet_completing first position h).of k i
 
 -- a heading that does not wait for a block, at its own name
-pub quiet_turn : {k0 : Known} {region : ℕ} (k : Known) (position : ℕ) (h : Heading) (body : RoutineBody) → New k0 region (heading_name h) k
+pub quiet_turn : {k0 : Known} {region : ℕ} (k : Known) (position : ℕ) (h : HeadingTree) (body : BodyTree) → New k0 region (heading_name h) k
     → has_forward k0 body ≡ false
     → Quiet k0 region (heading_name h) (complete_or_define (completed_by k region h body) region position h body k).known
 unfolding defining define_heading define_in look ◌>>=◌ ask
-quiet_turn {k0 = k0} {region = region} k position h (Directive directive) i none =
+quiet_turn {k0 = k0} {region = region} k position h (tree.a_directive directive) i none =
     let name = name_at k (heading_name h) in
     let o = defined_in k.regions region name in
     let next = (when (is_none o) (add_definition region name (own_definition h)) k).known in
     let q : Quiet k0 region (heading_name h) next = quiet_when k name (own_definition h) o (new_quiet i) in
     let P : Known → Type 0 = λ x. Quiet k0 region (heading_name h) x in
     subst P (sym (directed-stays h directive next (forward_in k0 next q.stays.words q.stays.names directive ∙ none))) q
-quiet_turn {region = region} k position h (Block' place b) i none =
-    quiet_block k position h place b (completed_by k region h (Block' place b)) (new_quiet i)
+quiet_turn {region = region} k position h (tree.a_block_body b) i none =
+    quiet_block k position h b (completed_by k region h (tree.a_block_body b)) (new_quiet i)
 
-quiet_other : {k0 : Known} {region n : ℕ} (k : Known) (position : ℕ) (h : Heading) (body : RoutineBody) (o : Option ℕ) → (heading_name h ≡ n → ⊥)
+quiet_other : {k0 : Known} {region n : ℕ} (k : Known) (position : ℕ) (h : HeadingTree) (body : BodyTree) (o : Option ℕ) → (heading_name h ≡ n → ⊥)
     → Quiet k0 region n k → Quiet k0 region n (complete_or_define o region position h body k).known
 quiet_other k position h body None apart i = (defining-keeps quiet-closed h body apart).of k i
 quiet_other k position h body (Some first) apart i = (quiet_completing first position h).of k i
@@ -316,26 +317,26 @@ quiet_other k position h body (Some first) apart i = (quiet_completing first pos
 -- ---- later headings, where one waits
 
 -- whether a heading with this body has the block of one of this kind and name
-abbrev pub has_block_of : Known → Bool → ℕ → Heading → RoutineBody → Bool
+abbrev pub has_block_of : Known → Bool → ℕ → HeadingTree → BodyTree → Bool
 has_block_of k function name h body =
     is_block body && (if function then is_function h else not (is_function h)) && nat_eq name (name_at k (heading_name h))
 
-pub completed_own : {k0 : Known} {region n name : ℕ} {function : Bool} (k : Known) → Awaiting k0 region n name function k → (h : Heading) (place : _) (b : _)
+pub completed_own : {k0 : Known} {region n name : ℕ} {function : Bool} (k : Known) → Awaiting k0 region n name function k → (h : HeadingTree) (b : _)
     → name_at k (heading_name h) ≡ name
-    → completed_by k region h (Block' place b) ≡ (if (if function then is_function h else not (is_function h)) then Some n else None)
-completed_own {region = region} {n = n} {function = function} k i h place b same =
+    → completed_by k region h (tree.a_block_body b) ≡ (if (if function then is_function h else not (is_function h)) then Some n else None)
+completed_own {region = region} {n = n} {function = function} k i h b same =
     ap (λ (m : ℕ). awaiting k (is_function h) (defined_in k.regions region m)) same
     ∙ ap (λ (o : Option Definition). awaiting k (is_function h) o) i.own_is
     ∙ ap (λ (t : ℕ). if awaits (is_function h) (row_at k t) then Some t else None) i.own_at
     ∙ ap (λ (r : Row). if awaits (is_function h) r then Some n else None) i.waits
 
-completed_now : {k0 : Known} {region n name : ℕ} {function : Bool} (k : Known) (position : ℕ) (h : Heading) → Awaiting k0 region n name function k
+completed_now : {k0 : Known} {region n name : ℕ} {function : Bool} (k : Known) (position : ℕ) (h : HeadingTree) → Awaiting k0 region n name function k
     → Quiet k0 region n (completing n position h k).known
 unfolding completing ◌>>=◌ change
 completed_now {k0 = k0} {region = region} {n = n} {name = name} {function = function} k position h i =
-    let after_formals = (no_formals (formals_of h) k).known in
+    let after_formals = (without_formals (formals_of h) k).known in
     let before = (no_result (result_of h) after_formals).known in
-    let one : Keeps (Awaiting k0 region n name function) (no_formals (formals_of h)) = no_formals-keeps (formals_of h) in
+    let one : Keeps (Awaiting k0 region n name function) (without_formals (formals_of h)) = without_formals-keeps (formals_of h) in
     let two : Keeps (Awaiting k0 region n name function) (no_result (result_of h)) = no_result-keeps (result_of h) in
     let a : Awaiting k0 region n name function before = two.of after_formals (one.of k i) in
     let row = Row.Part (PartRow.Forward (is_function h) (Some position)) in
@@ -364,100 +365,101 @@ unequal : (m n : ℕ) → nat_eq m n ≡ false → n ≡ m → ⊥
 unequal m n e same = grind (arith, nat_tests, e, same)
 
 -- the block is there
-completing_turn : {k0 : Known} {region n name : ℕ} {function : Bool} (k : Known) (position : ℕ) (h : Heading) (body : RoutineBody)
+completing_turn : {k0 : Known} {region n name : ℕ} {function : Bool} (k : Known) (position : ℕ) (h : HeadingTree) (body : BodyTree)
     → Awaiting k0 region n name function k → has_block_of k0 function name h body ≡ true
     → Quiet k0 region n (complete_or_define (completed_by k region h body) region position h body k).known
-completing_turn k position h (Directive directive) i has = absurd (let no : false ≡ true = has in cc)
-completing_turn {k0 = k0} {region = region} {n = n} {name = name} {function = function} k position h (Block' place b) i has =
+completing_turn k position h (tree.a_directive directive) i has = absurd (let no : false ≡ true = has in cc)
+completing_turn {k0 = k0} {region = region} {n = n} {name = name} {function = function} k position h (tree.a_block_body b) i has =
     let kind = if function then is_function h else not (is_function h) in
     let parts = both_true kind (nat_eq name (name_at k0 (heading_name h))) has in
     let same = same_spelling k0 k i.stays.words (heading_name h) ∙ equal name (name_at k0 (heading_name h)) parts.1 in
-    let is : completed_by k region h (Block' place b) ≡ Some n =
-    completed_own k i h place b same ∙ ap (λ (c : Bool). if c then Some n else None) parts.0 in
-    let P : Option ℕ → Type 0 = λ o. Quiet k0 region n (complete_or_define o region position h (Block' place b) k).known in
+    let is : completed_by k region h (tree.a_block_body b) ≡ Some n =
+    completed_own k i h b same ∙ ap (λ (c : Bool). if c then Some n else None) parts.0 in
+    let P : Option ℕ → Type 0 = λ o. Quiet k0 region n (complete_or_define o region position h (tree.a_block_body b) k).known in
     subst P (sym is) (completed_now k position h i)
 
 -- it is not: the heading completes something else, or nothing
-not_this_kind : {k0 : Known} {region n name : ℕ} {function : Bool} (k : Known) (h : Heading) (place : _) (b : _)
-    → Awaiting k0 region n name function k → has_block_of k0 function name h (Block' place b) ≡ false
-    → nat_eq name (name_at k0 (heading_name h)) ≡ true → completed_by k region h (Block' place b) ≡ Some n → ⊥
-not_this_kind {k0 = k0} {region = region} {n = n} {name = name} {function = function} k h place b i lacks named e =
+not_this_kind : {k0 : Known} {region n name : ℕ} {function : Bool} (k : Known) (h : HeadingTree) (b : _)
+    → Awaiting k0 region n name function k → has_block_of k0 function name h (tree.a_block_body b) ≡ false
+    → nat_eq name (name_at k0 (heading_name h)) ≡ true → completed_by k region h (tree.a_block_body b) ≡ Some n → ⊥
+not_this_kind {k0 = k0} {region = region} {n = n} {name = name} {function = function} k h b i lacks named e =
     let kind = if function then is_function h else not (is_function h) in
     let same = same_spelling k0 k i.stays.words (heading_name h) ∙ equal name (name_at k0 (heading_name h)) named in
-    let none : completed_by k region h (Block' place b) ≡ None = completed_own k i h place b same
+    let none : completed_by k region h (tree.a_block_body b) ≡ None = completed_own k i h b same
     ∙ ap (λ (c : Bool). if c then Some n else None) (first_false kind (nat_eq name (name_at k0 (heading_name h))) named lacks) in
     none-some n (sym none ∙ e)
 
-not_this_name : {k0 : Known} {region n name : ℕ} {function : Bool} (k : Known) (h : Heading) (place : _) (b : _)
-    → Awaiting k0 region n name function k → nat_eq name (name_at k0 (heading_name h)) ≡ false → completed_by k region h (Block' place b) ≡ Some n → ⊥
-not_this_name {k0 = k0} {region = region} {n = n} {name = name} k h place b i differs e =
+not_this_name : {k0 : Known} {region n name : ℕ} {function : Bool} (k : Known) (h : HeadingTree) (b : _)
+    → Awaiting k0 region n name function k → nat_eq name (name_at k0 (heading_name h)) ≡ false → completed_by k region h (tree.a_block_body b) ≡ Some n → ⊥
+not_this_name {k0 = k0} {region = region} {n = n} {name = name} k h b i differs e =
     let found = awaited k (is_function h) (defined_in k.regions region (name_at k (heading_name h))) n e in
     i.others (name_at k (heading_name h)) found.0
     (λ s. unequal name (name_at k0 (heading_name h)) differs (sym (same_spelling k0 k i.stays.words (heading_name h)) ∙ s)) found.1 found.2
 
-not_completed : {k0 : Known} {region n name : ℕ} {function : Bool} (k : Known) (h : Heading) (body : RoutineBody)
+not_completed : {k0 : Known} {region n name : ℕ} {function : Bool} (k : Known) (h : HeadingTree) (body : BodyTree)
     → Awaiting k0 region n name function k → has_block_of k0 function name h body ≡ false → completed_by k region h body ≡ Some n → ⊥
-not_completed {n = n} k h (Directive directive) i lacks e = none-some n e
-not_completed {k0 = k0} {region = region} {n = n} {name = name} {function = function} k h (Block' place b) i lacks e =
+not_completed {n = n} k h (tree.a_directive directive) i lacks e = none-some n e
+not_completed {k0 = k0} {region = region} {n = n} {name = name} {function = function} k h (tree.a_block_body b) i lacks e =
     elim (nat_eq name (name_at k0 (heading_name h))) as (λ c. nat_eq name (name_at k0 (heading_name h)) ≡ c → ⊥) [
-      | true ↦ λ named. not_this_kind k h place b i lacks named e
-      | false ↦ λ differs. not_this_name k h place b i differs e
+      | true ↦ λ named. not_this_kind k h b i lacks named e
+      | false ↦ λ differs. not_this_name k h b i differs e
     ] refl
 
 -- ---- all of a part
 
-pub new_before : {k0 : Known} {region n : ℕ} (rs : List Routine) (position : ℕ) (k : Known) → Each (λ (s : Routine). routine_name s ≡ n → ⊥) rs
+pub new_before : {k0 : Known} {region n : ℕ} (rs : List RoutineTree) (position : ℕ) (k : Known) → Each (λ (s : RoutineTree). routine_name s ≡ n → ⊥) rs
     → New k0 region n k → New k0 region n (each (define_routine region) position rs k).known
 unfolding ◌>>=◌ give
 new_before [] position k apart i = i
 new_before {region = region} {n = n} (r ∷ rs) position k apart i =
     let d = define_routine region position r k in
     new_before rs d.value d.known apart.1
-    (turn-keeps new-closed position r apart.0 k (completed_elsewhere region n k i.elsewhere r.heading r.body) i)
+    (turn-keeps new-closed position r apart.0 k (completed_elsewhere region n k i.elsewhere (routine_heading r) (routine_body r)) i)
 
-pub lost_after : {k0 : Known} {region n : ℕ} {function : Bool} (rs : List Routine) (position : ℕ) (k : Known)
-    → Each (λ (s : Routine). routine_name s ≡ n → ⊥) rs → Lost k0 region n function k
+pub lost_after : {k0 : Known} {region n : ℕ} {function : Bool} (rs : List RoutineTree) (position : ℕ) (k : Known)
+    → Each (λ (s : RoutineTree). routine_name s ≡ n → ⊥) rs → Lost k0 region n function k
     → Lost k0 region n function (each (define_routine region) position rs k).known
 unfolding ◌>>=◌ give
 lost_after [] position k apart i = i
 lost_after {region = region} {n = n} (r ∷ rs) position k apart i =
     let d = define_routine region position r k in
     lost_after rs d.value d.known apart.1
-    (turn-keeps lost-closed position r apart.0 k (completed_elsewhere region n k i.elsewhere r.heading r.body) i)
+    (turn-keeps lost-closed position r apart.0 k (completed_elsewhere region n k i.elsewhere (routine_heading r) (routine_body r)) i)
 
-pub quiet_after : {k0 : Known} {region n : ℕ} (rs : List Routine) (position : ℕ) (k : Known)
-    → Each (λ (s : Routine). routine_name s ≡ n → ⊥) rs → Quiet k0 region n k
+pub quiet_after : {k0 : Known} {region n : ℕ} (rs : List RoutineTree) (position : ℕ) (k : Known)
+    → Each (λ (s : RoutineTree). routine_name s ≡ n → ⊥) rs → Quiet k0 region n k
     → Quiet k0 region n (each (define_routine region) position rs k).known
 unfolding ◌>>=◌ give define_routine look
 quiet_after [] position k apart i = i
 quiet_after {region = region} (r ∷ rs) position k apart i =
     let d = define_routine region position r k in
-    quiet_after rs d.value d.known apart.1 (quiet_other k position r.heading r.body (completed_by k region r.heading r.body) apart.0 i)
+    quiet_after rs d.value d.known apart.1 (quiet_other k position (routine_heading r) (routine_body r)
+    (completed_by k region (routine_heading r) (routine_body r)) apart.0 i)
 
 -- a heading that does not have the block leaves it awaited
-pub still_awaiting : {k0 : Known} {region n name : ℕ} {function : Bool} (position : ℕ) (r : Routine) (k : Known) → (routine_name r ≡ n → ⊥)
-    → Awaiting k0 region n name function k → has_block_of k0 function name r.heading r.body ≡ false
+pub still_awaiting : {k0 : Known} {region n name : ℕ} {function : Bool} (position : ℕ) (r : RoutineTree) (k : Known) → (routine_name r ≡ n → ⊥)
+    → Awaiting k0 region n name function k → has_block_of k0 function name (routine_heading r) (routine_body r) ≡ false
     → Awaiting k0 region n name function (define_routine region position r k).known
-still_awaiting position r k apart i lacks = turn-keeps awaiting-closed position r apart k (not_completed k r.heading r.body i lacks) i
+still_awaiting position r k apart i lacks = turn-keeps awaiting-closed position r apart k (not_completed k (routine_heading r) (routine_body r) i lacks) i
 
 -- and one that has it does not
-pub now_quiet : {k0 : Known} {region n name : ℕ} {function : Bool} (position : ℕ) (r : Routine) (k : Known) → Awaiting k0 region n name function k
-    → has_block_of k0 function name r.heading r.body ≡ true → Quiet k0 region n (define_routine region position r k).known
+pub now_quiet : {k0 : Known} {region n name : ℕ} {function : Bool} (position : ℕ) (r : RoutineTree) (k : Known) → Awaiting k0 region n name function k
+    → has_block_of k0 function name (routine_heading r) (routine_body r) ≡ true → Quiet k0 region n (define_routine region position r k).known
 unfolding ◌>>=◌ give define_routine look
-now_quiet position r k i has = completing_turn k position r.heading r.body i has
+now_quiet position r k i has = completing_turn k position (routine_heading r) (routine_body r) i has
 
 -- whether the heading still waits after the others: if none of them has its block
-pub waits_after : {k0 : Known} {region n name : ℕ} {function : Bool} (rs : List Routine) (position : ℕ) (k : Known)
-    → Each (λ (s : Routine). routine_name s ≡ n → ⊥) rs → Awaiting k0 region n name function k
+pub waits_after : {k0 : Known} {region n name : ℕ} {function : Bool} (rs : List RoutineTree) (position : ℕ) (k : Known)
+    → Each (λ (s : RoutineTree). routine_name s ≡ n → ⊥) rs → Awaiting k0 region n name function k
     → is_waiting (row_at (each (define_routine region) position rs k).known n)
-    ≡ not (list_any (λ (s : Routine). has_block_of k0 function name s.heading s.body) rs)
+    ≡ not (list_any (λ (s : RoutineTree). has_block_of k0 function name (routine_heading s) (routine_body s)) rs)
 unfolding ◌>>=◌ give
 waits_after [] position k apart i = ap is_waiting i.waits
 waits_after {k0 = k0} {region = region} {n = n} {name = name} {function = function} (r ∷ rs) position k apart i =
     let d = define_routine region position r k in
-    elim (has_block_of k0 function name r.heading r.body) as (λ c. has_block_of k0 function name r.heading r.body ≡ c
+    elim (has_block_of k0 function name (routine_heading r) (routine_body r)) as (λ c. has_block_of k0 function name (routine_heading r) (routine_body r) ≡ c
     → is_waiting (row_at (each (define_routine region) d.value rs d.known).known n)
-    ≡ not (c || list_any (λ (s : Routine). has_block_of k0 function name s.heading s.body) rs)) [
+    ≡ not (c || list_any (λ (s : RoutineTree). has_block_of k0 function name (routine_heading s) (routine_body s)) rs)) [
       | true ↦ λ has. (quiet_after rs d.value d.known apart.1 (now_quiet position r k i has)).quiet
       | false ↦ λ lacks. waits_after rs d.value d.known apart.1 (still_awaiting position r k apart.0 i lacks)
     ] refl

@@ -1,19 +1,22 @@
 -- Which headings of a part break rule 8.
-use Rattle.std.proofs.Common.{if◌then◌else◌, ◌++◌, ◌∙◌, ◌∷◌, ◌≡◌, ◌⊎◌, [], ℕ, All, Bool, Contains, List, ap, arith, false, inl, inr, not, refl, subst, sym}
-use Rattle.std.proofs.{Common.true, lemmas.List.append_assoc, lemmas.List.Elements.All-head, lemmas.List.Elements.All-tail}
-use Rattle.pas_tree.specs.declared.blocks.Routine.{Routine}
+use Rattle.std.proofs.Common.{if◌then◌else◌, ◌++◌, ◌<◌, ◌↔◌, ◌∙◌, ◌∷◌, ◌≡◌, ◌⊎◌, [], ℕ, All, Bool, Contains, List, ap, arith, false, inl, inr, length, not}
+use Rattle.std.proofs.Common.{refl, subst, sym, true}
+use Rattle.std.proofs.lemmas.List.{append_assoc, Elements.All-head, Elements.All-tail}
+use Rattle.pas_tree.specs.BlockTrees.{RoutineTree, routine_body, routine_heading}
 use Rattle.check_steps.specs.{Known.Known, Known.name_at, Known.row_at, declared.breaks.Break.Break}
 use Rattle.check_steps.specs.Steps.{◌>>=◌, Done, Step, ask, each, give, look}
 use Rattle.denoter_checker.specs.Formals.{is_function}
 use Rattle.denoter_checker.specs.RoutineParts.{complete_or_define, completed_by, define_routine, has_block, is_waiting, routine_name}
 use Rattle.rule_laws.proofs.Breaks.{Each, In, both, contained, found, in_either, in_left, in_right, of_each}
 use Rattle.rule_laws.proofs.OneName.{New, Turned, lost_after, new_before, own_turn, quiet_after, quiet_turn, same_spelling, waits_after}
+use Rattle.rule_laws.proofs.PartSteps.{has_each, part_listed, part_steps}
 use Rattle.rule_laws.proofs.Telling.{Allows, Misses, has_block-only, no_eight, no_two, other_rule, other_token, turn-only}
-use Rattle.rule_laws.specs.{ForwardHeadings.are_completing, ForwardHeadings.has_forward, Laws.LacksBlock, Laws.PartsTellRuleEight, Laws.broken_at}
+use Rattle.rule_laws.specs.ForwardHeadings.{are_completing, has_forward}
+use Rattle.rule_laws.specs.Laws.{IsNew, IsOne, LacksBlock, PartsTellRuleEight, broken_at}
 
 -- ---- steps over two lists
 
-each_known : {A X : Type 0} (f : A → X → Step A) (a : A) (xs ys : List X) (k : Known)
+pub each_known : {A X : Type 0} (f : A → X → Step A) (a : A) (xs ys : List X) (k : Known)
     → (each f a (xs ++ ys) k).known ≡ (each f (each f a xs k).value ys (each f a xs k).known).known
 unfolding ◌>>=◌ give
 each_known f a [] ys k = refl
@@ -31,7 +34,7 @@ each_broken f a (x ∷ xs) ys k =
 
 -- ---- what other headings break
 
-pub turns_only : (P : Break → Type 0) (region : ℕ) (rs : List Routine) (position : ℕ) (k : Known) → Each (λ (s : Routine). Allows P (routine_name s)) rs
+pub turns_only : (P : Break → Type 0) (region : ℕ) (rs : List RoutineTree) (position : ℕ) (k : Known) → Each (λ (s : RoutineTree). Allows P (routine_name s)) rs
     → Each P (each (define_routine region) position rs k).broken
 unfolding ◌>>=◌ give
 turns_only P region [] position k a = tt
@@ -40,21 +43,21 @@ turns_only P region (r ∷ rs) position k a =
     both P d.broken (each (define_routine region) d.value rs d.known).broken ((turn-only region position r a.0).of k)
     (turns_only P region rs d.value d.known a.1)
 
-all_no_eight : (n : ℕ) (rs : List Routine) → Each (λ (s : Routine). Allows (Misses 8 n) (routine_name s)) rs
+all_no_eight : (n : ℕ) (rs : List RoutineTree) → Each (λ (s : RoutineTree). Allows (Misses 8 n) (routine_name s)) rs
 all_no_eight n [] = tt
 all_no_eight n (r ∷ rs) = (no_eight (routine_name r) n, all_no_eight n rs)
 
-pub all_no_two : (n : ℕ) (rs : List Routine) → Each (λ (s : Routine). routine_name s ≡ n → ⊥) rs
-    → Each (λ (s : Routine). Allows (Misses 2 n) (routine_name s)) rs
+pub all_no_two : (n : ℕ) (rs : List RoutineTree) → Each (λ (s : RoutineTree). routine_name s ≡ n → ⊥) rs
+    → Each (λ (s : RoutineTree). Allows (Misses 2 n) (routine_name s)) rs
 all_no_two n [] apart = tt
 all_no_two n (r ∷ rs) apart = (no_two (routine_name r) n apart.0, all_no_two n rs apart.1)
 
 -- rule 8 alone is told at the end
-pub only_eight : (n : ℕ) (rs : List Routine) (k : Known) → Each (Misses 2 n) (each has_block tt rs k).broken
+pub only_eight : (n : ℕ) (rs : List RoutineTree) (k : Known) → Each (Misses 2 n) (each has_each tt rs k).broken
 unfolding ◌>>=◌ give has_block look ask
 only_eight n [] k = tt
-only_eight n (r ∷ rs) k = both (Misses 2 n) (has_block tt r k).broken (each has_block tt rs k).broken
-    ((has_block-only {P = Misses 2 n} tt r (other_rule 8 (routine_name r) 2 n (λ e. omega (arith, e)))).of k) (only_eight n rs k)
+only_eight n (r ∷ rs) k = both (Misses 2 n) (has_block r k).broken (each has_each tt rs k).broken
+    ((has_block-only {P = Misses 2 n} r (other_rule 8 (routine_name r) 2 n (λ e. omega (arith, e)))).of k) (only_eight n rs k)
 
 -- ---- rule 8, at the headings that wait
 
@@ -66,54 +69,59 @@ if_told : (b : Break) (waiting : Bool) → In b (if not waiting then [] else b �
 if_told b true h = refl
 if_told b false h = absurd h
 
-waits_told : (before : List Routine) (r : Routine) (after : List Routine) (k : Known) → is_waiting (row_at k (routine_name r)) ≡ true
-    → In (broken_at 8 (routine_name r)) (each has_block tt (before ++ r ∷ after) k).broken
+pub waits_told : (before : List RoutineTree) (r : RoutineTree) (after : List RoutineTree) (k : Known) → is_waiting (row_at k (routine_name r)) ≡ true
+    → In (broken_at 8 (routine_name r)) (each has_each tt (before ++ r ∷ after) k).broken
 unfolding ◌>>=◌ give has_block look ask
-waits_told [] r after k waits = in_left (broken_at 8 (routine_name r)) (has_block tt r k).broken (each has_block tt after k).broken
+waits_told [] r after k waits = in_left (broken_at 8 (routine_name r)) (has_block r k).broken (each has_each tt after k).broken
     (told_if (broken_at 8 (routine_name r)) (is_waiting (row_at k (routine_name r))) waits)
-waits_told (x ∷ xs) r after k waits = in_right (broken_at 8 (routine_name r)) (has_block tt x k).broken (each has_block tt (xs ++ r ∷ after) k).broken
+waits_told (x ∷ xs) r after k waits = in_right (broken_at 8 (routine_name r)) (has_block x k).broken (each has_each tt (xs ++ r ∷ after) k).broken
     (waits_told xs r after k waits)
 
-none_told : (n : ℕ) (rs : List Routine) (k : Known) → Each (λ (s : Routine). routine_name s ≡ n → ⊥) rs → In (broken_at 8 n) (each has_block tt rs k).broken → ⊥
+none_told : (n : ℕ) (rs : List RoutineTree) (k : Known) → Each (λ (s : RoutineTree). routine_name s ≡ n → ⊥) rs
+    → In (broken_at 8 n) (each has_each tt rs k).broken → ⊥
 unfolding ◌>>=◌ give has_block look ask
 none_told n [] k apart h = h
-none_told n (r ∷ rs) k apart h = elim (in_either (broken_at 8 n) (has_block tt r k).broken (each has_block tt rs k).broken h) [
-  | inl own ↦ of_each (Misses 8 n) (broken_at 8 n) (has_block tt r k).broken
-      ((has_block-only {P = Misses 8 n} tt r (other_token 8 (routine_name r) 8 n apart.0)).of k) own refl
+none_told n (r ∷ rs) k apart h = elim (in_either (broken_at 8 n) (has_block r k).broken (each has_each tt rs k).broken h) [
+  | inl own ↦ of_each (Misses 8 n) (broken_at 8 n) (has_block r k).broken
+      ((has_block-only {P = Misses 8 n} r (other_token 8 (routine_name r) 8 n apart.0)).of k) own refl
   | inr later ↦ none_told n rs k apart.1 later
 ]
 
-told_waits : (before : List Routine) (r : Routine) (after : List Routine) (k : Known) → Each (λ (s : Routine). routine_name s ≡ routine_name r → ⊥) before
-    → Each (λ (s : Routine). routine_name s ≡ routine_name r → ⊥) after → In (broken_at 8 (routine_name r)) (each has_block tt (before ++ r ∷ after) k).broken
+told_waits : (before : List RoutineTree) (r : RoutineTree) (after : List RoutineTree) (k : Known)
+    → Each (λ (s : RoutineTree). routine_name s ≡ routine_name r → ⊥) before
+    → Each (λ (s : RoutineTree). routine_name s ≡ routine_name r → ⊥) after
+    → In (broken_at 8 (routine_name r)) (each has_each tt (before ++ r ∷ after) k).broken
     → is_waiting (row_at k (routine_name r)) ≡ true
 unfolding ◌>>=◌ give has_block look ask
 told_waits [] r after k others later h =
-    elim (in_either (broken_at 8 (routine_name r)) (has_block tt r k).broken (each has_block tt after k).broken h) [
+    elim (in_either (broken_at 8 (routine_name r)) (has_block r k).broken (each has_each tt after k).broken h) [
       | inl own ↦ if_told (broken_at 8 (routine_name r)) (is_waiting (row_at k (routine_name r))) own
       | inr more ↦ absurd (none_told (routine_name r) after k later more)
     ]
 told_waits (x ∷ xs) r after k others later h =
-    elim (in_either (broken_at 8 (routine_name r)) (has_block tt x k).broken (each has_block tt (xs ++ r ∷ after) k).broken h) [
-      | inl first ↦ absurd (of_each (Misses 8 (routine_name r)) (broken_at 8 (routine_name r)) (has_block tt x k).broken
-          ((has_block-only {P = Misses 8 (routine_name r)} tt x (other_token 8 (routine_name x) 8 (routine_name r) others.0)).of k) first refl)
+    elim (in_either (broken_at 8 (routine_name r)) (has_block x k).broken (each has_each tt (xs ++ r ∷ after) k).broken h) [
+      | inl first ↦ absurd (of_each (Misses 8 (routine_name r)) (broken_at 8 (routine_name r)) (has_block x k).broken
+          ((has_block-only {P = Misses 8 (routine_name r)} x (other_token 8 (routine_name x) 8 (routine_name r) others.0)).of k) first refl)
       | inr more ↦ told_waits xs r after k others.1 later more
     ]
 
 -- ---- a part
 
 -- what becomes of one heading: whether it waits at the end, and whether it breaks rule 2
-pub record Ends (k : Known) (r : Routine) (after : List Routine) (waiting : Bool) (own : List Break) : Type 0 where
-  pub if_waiting : waiting ≡ true → (has_forward k r.body ≡ true) × (In (broken_at 2 (routine_name r)) own ⊎ (are_completing k r after ≡ false))
-  pub then_waiting : has_forward k r.body ≡ true → In (broken_at 2 (routine_name r)) own ⊎ (are_completing k r after ≡ false) → waiting ≡ true
+pub record Ends (k : Known) (r : RoutineTree) (after : List RoutineTree) (waiting : Bool) (own : List Break) : Type 0 where
+  pub if_waiting : waiting ≡ true → (has_forward k (routine_body r) ≡ true) × (In (broken_at 2 (routine_name r)) own ⊎ (are_completing k r after ≡ false))
+  pub then_waiting : has_forward k (routine_body r) ≡ true → In (broken_at 2 (routine_name r)) own ⊎ (are_completing k r after ≡ false) → waiting ≡ true
 
-ends_quiet : {k : Known} {r : Routine} {after : List Routine} {own : List Break} (waiting : Bool) → has_forward k r.body ≡ false → waiting ≡ false
+ends_quiet : {k : Known} {r : RoutineTree} {after : List RoutineTree} {own : List Break} (waiting : Bool) → has_forward k (routine_body r) ≡ false
+    → waiting ≡ false
     → Ends k r after waiting own
 ends_quiet waiting none quiet = record {
   if_waiting = λ e. absurd (let no : true ≡ false = sym e ∙ quiet in cc);
   then_waiting = λ forward either. absurd (let no : true ≡ false = sym forward ∙ none in cc);
 }
 
-ends_lost : {k : Known} {r : Routine} {after : List Routine} {own : List Break} (waiting : Bool) → has_forward k r.body ≡ true → waiting ≡ true
+ends_lost : {k : Known} {r : RoutineTree} {after : List RoutineTree} {own : List Break} (waiting : Bool) → has_forward k (routine_body r) ≡ true
+    → waiting ≡ true
     → In (broken_at 2 (routine_name r)) own → Ends k r after waiting own
 ends_lost waiting forward waits twice = record {
   if_waiting = λ e. (forward, inl twice);
@@ -124,7 +132,7 @@ negated : (b : Bool) → not b ≡ true → b ≡ false
 negated false e = refl
 negated true e = absurd (let no : false ≡ true = e in cc)
 
-ends_awaiting : {k : Known} {r : Routine} {after : List Routine} {own : List Break} (waiting : Bool) → has_forward k r.body ≡ true
+ends_awaiting : {k : Known} {r : RoutineTree} {after : List RoutineTree} {own : List Break} (waiting : Bool) → has_forward k (routine_body r) ≡ true
     → waiting ≡ not (are_completing k r after) → Each (Misses 2 (routine_name r)) own → Ends k r after waiting own
 ends_awaiting {k = k} {r = r} {after = after} {own = own} waiting forward is once = record {
   if_waiting = λ e. (forward, inr (negated (are_completing k r after) (sym is ∙ e)));
@@ -135,9 +143,10 @@ ends_awaiting {k = k} {r = r} {after = after} {own = own} waiting forward is onc
 }
 
 -- a heading that waits: what its own turn leaves, and then the others
-ends_forward : (k : Known) (region position : ℕ) (r : Routine) (after : List Routine) (next : Known) (own : List Break) → has_forward k r.body ≡ true
-    → Each (λ (s : Routine). routine_name s ≡ routine_name r → ⊥) after
-    → Turned k region (routine_name r) (name_at k (routine_name r)) (is_function r.heading) next own
+ends_forward : (k : Known) (region position : ℕ) (r : RoutineTree) (after : List RoutineTree) (next : Known) (own : List Break)
+    → has_forward k (routine_body r) ≡ true
+    → Each (λ (s : RoutineTree). routine_name s ≡ routine_name r → ⊥) after
+    → Turned k region (routine_name r) (name_at k (routine_name r)) (is_function (routine_heading r)) next own
     → Ends k r after (is_waiting (row_at (each (define_routine region) position after next).known (routine_name r))) (own ++ [])
 ends_forward k region position r after next own forward apart (inl a) =
     ends_awaiting (is_waiting (row_at (each (define_routine region) position after next).known (routine_name r))) forward
@@ -147,8 +156,8 @@ ends_forward k region position r after next own forward apart (inr l) =
     (ap is_waiting (lost_after after position next apart l.0).waits) (in_left (broken_at 2 (routine_name r)) own [] l.1)
 
 -- from the state before the heading to that after the last one
-ends_by : (k x : Known) (region position : ℕ) (r : Routine) (after : List Routine) → New k region (routine_name r) x
-    → Each (λ (s : Routine). routine_name s ≡ routine_name r → ⊥) after → (b : Bool) → has_forward k r.body ≡ b
+ends_by : (k x : Known) (region position : ℕ) (r : RoutineTree) (after : List RoutineTree) → New k region (routine_name r) x
+    → Each (λ (s : RoutineTree). routine_name s ≡ routine_name r → ⊥) after → (b : Bool) → has_forward k (routine_body r) ≡ b
     → let d = define_routine region position r x in
     Ends k r after (is_waiting (row_at (each (define_routine region) d.value after d.known).known (routine_name r))) d.broken
 unfolding define_routine look give ◌>>=◌
@@ -156,24 +165,24 @@ ends_by k x region position r after new apart false none =
     let value = (define_routine region position r x).value in
     let next = (define_routine region position r x).known in
     ends_quiet (is_waiting (row_at (each (define_routine region) value after next).known (routine_name r))) none
-    (quiet_after after value next apart (quiet_turn x position r.heading r.body new none)).quiet
+    (quiet_after after value next apart (quiet_turn x position (routine_heading r) (routine_body r) new none)).quiet
 ends_by k x region position r after new apart true forward =
     let value = (define_routine region position r x).value in
-    let found = completed_by x region r.heading r.body in
-    let done : Done (Unit {0}) = complete_or_define found region position r.heading r.body x in
-    let P : ℕ → Type 0 = λ m. Turned k region (routine_name r) m (is_function r.heading) done.known done.broken in
+    let found = completed_by x region (routine_heading r) (routine_body r) in
+    let done : Done (Unit {0}) = complete_or_define found region position (routine_heading r) (routine_body r) x in
+    let P : ℕ → Type 0 = λ m. Turned k region (routine_name r) m (is_function (routine_heading r)) done.known done.broken in
     ends_forward k region value r after done.known done.broken forward apart
-    (subst P (same_spelling k x new.stays.words (routine_name r)) (own_turn x position r.heading r.body new forward))
+    (subst P (same_spelling k x new.stays.words (routine_name r)) (own_turn x position (routine_heading r) (routine_body r) new forward))
 
-ends : (k x : Known) (region position : ℕ) (r : Routine) (after : List Routine) → New k region (routine_name r) x
-    → Each (λ (s : Routine). routine_name s ≡ routine_name r → ⊥) after
+ends : (k x : Known) (region position : ℕ) (r : RoutineTree) (after : List RoutineTree) → New k region (routine_name r) x
+    → Each (λ (s : RoutineTree). routine_name s ≡ routine_name r → ⊥) after
     → let d = define_routine region position r x in
     Ends k r after (is_waiting (row_at (each (define_routine region) d.value after d.known).known (routine_name r))) d.broken
-ends k x region position r after new apart = ends_by k x region position r after new apart (has_forward k r.body) refl
+ends k x region position r after new apart = ends_by k x region position r after new apart (has_forward k (routine_body r)) refl
 
-pub apart_of : (n : ℕ) (rs : List Routine) → All (λ (s : Routine). routine_name s ≡ n → ⊥) rs → Each (λ (s : Routine). routine_name s ≡ n → ⊥) rs
+pub apart_of : (n : ℕ) (rs : List RoutineTree) → All (λ (s : RoutineTree). routine_name s ≡ n → ⊥) rs → Each (λ (s : RoutineTree). routine_name s ≡ n → ⊥) rs
 apart_of n [] h = tt
-apart_of n (r ∷ rs) h = let P : Routine → Type 0 = λ s. routine_name s ≡ n → ⊥ in (All-head P r rs h, apart_of n rs (All-tail P r rs h))
+apart_of n (r ∷ rs) h = let P : RoutineTree → Type 0 = λ s. routine_name s ≡ n → ⊥ in (All-head P r rs h, apart_of n rs (All-tail P r rs h))
 
 -- a part of what is broken, among three
 in_three : (b : Break) (xs ys zs : List Break) → In b (xs ++ (ys ++ zs)) → Each (λ x. x ≡ b → ⊥) xs → Each (λ x. x ≡ b → ⊥) zs → In b ys
@@ -185,9 +194,13 @@ in_three b xs ys zs h none nor = elim (in_either b xs (ys ++ zs) h) [
   ]
 ]
 
-pub part_law : PartsTellRuleEight
+-- the same of the list of the routines
+listed_law : (k : Known) (region : ℕ) (before : List RoutineTree) (r : RoutineTree) (after : List RoutineTree)
+    → region < length k.regions → IsNew k region (routine_name r) → IsOne before r after
+    → let bs = (part_steps region (before ++ r ∷ after) k).broken in
+    Contains bs (broken_at 8 (routine_name r)) ↔ LacksBlock k bs r after
 unfolding ◌>>=◌
-part_law k region before r after there new one =
+listed_law k region before r after there new one =
     let n = routine_name r in
     let rs = before ++ r ∷ after in
     let others = apart_of n before one.others_before in
@@ -196,7 +209,7 @@ part_law k region before r after there new one =
     let d = define_routine region b.value r b.known in
     let a = each (define_routine region) d.value after d.known in
     let whole = each (define_routine region) 0 rs k in
-    let told = each has_block tt rs whole.known in
+    let told = each has_each tt rs whole.known in
     let start : New k region n k = record {
       stays = record { words = refl; names = refl; region_there = there; row_there = new.row };
       elsewhere = new.undefined;
@@ -240,3 +253,8 @@ part_law k region before r after there new one =
     contained (broken_at 8 n) (whole.broken ++ told.broken) (in_right (broken_at 8 n) whole.broken told.broken
     (waits_told before r after whole.known waits)) in
     (forth, back)
+
+pub part_law : PartsTellRuleEight
+part_law k region rs before r after there same new one =
+    let P : Step (Unit {0}) → Type 0 = λ m. Contains (m k).broken (broken_at 8 (routine_name r)) ↔ LacksBlock k (m k).broken r after in
+    subst P (sym (part_listed region rs ∙ ap (part_steps region) same)) (listed_law k region before r after there new one)

@@ -1,36 +1,27 @@
 -- What one assignment in a function's block assigns to.
-use Rattle.std.proofs.Common.{if◌then◌else◌, ◌++◌, ◌||◌, ◌∙◌, ◌∷◌, ◌≡◌, ◌⊎◌, [], ℕ, Bool, List, None, Option, Some, ap, false, inl, inr, is_some, length}
-use Rattle.std.proofs.Common.{nat_eq, refl, slice_get, subst, sym, true}
-use Rattle.std.{proofs.lemmas.Bool.eq-eqb, proofs.lemmas.Bool.eqb-true, specs.List.list_any}
-use Rattle.pas_tree.specs.{Expressions.access_node, Statements.assignment_node, declared.expressions.Access.Access, declared.statements.Assignment.Assignment}
+use Rattle.std.proofs.Common.{if◌then◌else◌, ◌&&◌, ◌||◌, ◌∙◌, ◌≡◌, ◌⊎◌, ℕ, Bool, List, None, Option, Some, ap, false, inl, inr, is_some, nat_eq, refl}
+use Rattle.std.proofs.{Common.slice_get, Common.subst, Common.sym, Common.true, lemmas.Bool.eq-eqb, lemmas.Bool.eqb-true}
+use Rattle.grammar.specs.Nodes.{Node}
+use Rattle.pas_tree.specs.{ExpressionTrees.AccessTree, StatementTrees.AssignmentTree, TreeNodes.access_node, TreeNodes.assignment_node}
 use Rattle.core_program.specs.ProgramRows.{routine_at}
 use Rattle.core_program.specs.declared.{program.Routine.Routine, rows.AccessRow.AccessRow, rows.NameRow.NameRow, rows.Row.Row}
-use Rattle.check_steps.specs.{Names.usable, declared.regions.Found.Found, declared.words.SpelledToken.SpelledToken}
+use Rattle.check_steps.specs.{Names.usable, declared.regions.Definition.Definition, declared.regions.Found.Found}
 use Rattle.check_steps.specs.Known.{Known, find, name_at, row_at, with_row}
-use Rattle.check_steps.specs.Steps.{◌>>=◌, Step, change, give, late, look, put, when}
+use Rattle.check_steps.specs.Steps.{◌>>=◌, Step, change, give, look, put, when}
 use Rattle.kind_checker.specs.{Headings.signature_at, declared.shapes.ExpressionType.ExpressionType}
-use Rattle.expression_checker.specs.{Callees.is_required_function, Names.levels_to, declared.typed.Location.Location, declared.typed.Typed.Typed}
+use Rattle.expression_checker.specs.{Callees.is_required_function, Names.levels_to, NamesAlone.is_name}
+use Rattle.expression_checker.specs.declared.typed.{Location.Location, Typed.Typed}
 use Rattle.statement_checker.specs.{Assignments.with_value, Parts.assigned_to, Parts.assignment, Parts.target_as, Sequences.line_of}
 use Rattle.statement_checker.specs.Assignments.{is_inside, result_assigned, result_at, result_target, target_at, target_in, target_of, target_of_result}
 use Rattle.statement_checker.specs.declared.assignments.{FunctionResult.FunctionResult, Target.Target}
-use Rattle.rule_laws.proofs.{Every.Every, Every.Of, ExpressionExpressions.expression-touches, Faces.loose, Faces.row_either, Faces.said, Faces.value_shows}
-use Rattle.rule_laws.proofs.{LabelMarks.got_put, ResultTurns.signature_alike, StatementParts.target_access-touches}
-use Rattle.rule_laws.proofs.InTurn.{Calm, Goes, Rule, calm_calm, calm_goes, calm_then, goes_calm}
-use Rattle.rule_laws.proofs.ResultTurns.{IsSpot, Spot, Turn, beside, beside_on, calm_of, finds_alike, inside_alike, like_said, never_wrong, rule_of}
+use Rattle.rule_laws.proofs.{Every.Every, Every.Of, ExpressionExpressions.expression-touches, LabelMarks.got_put, ResultScopes.Leads, ResultScopes.defined}
+use Rattle.rule_laws.proofs.{ResultTypes.names_alike, StatementParts.target_access-touches}
+use Rattle.rule_laws.proofs.Faces.{assigning, loose, row_either, said, value_shows}
+use Rattle.rule_laws.proofs.ResultSets.{PartAt, Room, Sets, calm_then, or_false, search_of, sets_after, sets_calm, sets_looked, still_inside}
+use Rattle.rule_laws.proofs.ResultTurns.{IsSpot, Spot, Turn, beside, signature_alike, turn_by}
 use Rattle.rule_laws.proofs.StatementAssignments.{assigned-touches, blockless_target-touches}
-use Rattle.rule_laws.proofs.Touches.{any-last, bind-touches, give-touches, late-touches, look-touches, put-touches, same_changed}
-use Rattle.rule_laws.specs.{AssignedNames.assigned_name, AssignedNames.if_alone, FunctionResults.is_defined_at, FunctionResults.is_function_name, Tokens.Has}
-
--- ---- what follows from what the tables say there
-
-pub looked_goes : {r : Rule} {A B : Type 0} (P : A → Type 0) (xs : List r.X) (f : Known → A) {g : A → Step B}
-    → ((done : List r.X) (j : Known) → r.Turn done j → P (f j)) → ((a : A) → P a → Goes r xs (g a)) → Goes r xs (look f >>= g)
-unfolding look ◌>>=◌
-looked_goes P xs f says h = record { of = λ done j turn. (h (f j) (says done j turn)).of done j turn }
-
-pub looked_calm : {r : Rule} {A B : Type 0} (f : Known → A) {g : A → Step B} → ((a : A) → Calm r (g a)) → Calm r (look f >>= g)
-unfolding look ◌>>=◌
-looked_calm f h = record { turn = λ done j turn. (h (f j)).turn done j turn; none = λ j i. (h (f j)).none j i }
+use Rattle.rule_laws.proofs.Touches.{Touches, bind-touches, give-touches, late-touches, look-touches, no_longer, put-touches, same_changed}
+use Rattle.rule_laws.specs.{FunctionAssignments.assigns, FunctionAssignments.is_defined_at, FunctionAssignments.is_function_name, Tokens.Has, WithRecords.named}
 
 -- ---- one that is the function, or not
 
@@ -164,192 +155,130 @@ found_aims p is seen j frame t None = inl (access_other p, refl)
 found_aims p is seen j frame t (Some f) =
     definition_aims p is seen j frame f.definition.token t (nat_eq f.definition.token p.function) refl
 
-named_alike : (p : Spot) (j : Known) (name : ℕ) → j.words ≡ p.k.words → name_at j name ≡ name_at p.k name
-named_alike p j name words = ap (λ (ws : List SpelledToken). name_at (record p.k { words = ws }) name) words
+-- by the definition alone
+abbrev defined_by : ℕ → Option Definition → Bool
+defined_by function None = false
+defined_by function (Some d) = nat_eq d.token function
 
-pub name_aims : (p : Spot) (is : IsSpot p) (seen : Bool) (j : Known) (frame name : ℕ) → Turn p is seen j
-    → Aims p (is_function_name p.k p.function frame name) (target_at j frame name true)
-name_aims p is seen j frame name t =
-    let same : usable name (find j frame (name_at j name)) ≡ usable name (find p.k frame (name_at p.k name)) =
-    ap (λ m. usable name (find j frame m)) (named_alike p j name t.words)
-    ∙ ap (usable name) (finds_alike p.k j t.regions t.frames frame (name_at p.k name)) in
-    subst (λ o. Aims p (is_function_name p.k p.function frame name) (target_of j frame o)) (sym same)
-    (found_aims p is seen j frame t (usable name (find p.k frame (name_at p.k name))))
+defined_same : (function : ℕ) (o : Option Found) → is_defined_at function o ≡ defined_by function (defined o)
+defined_same function None = refl
+defined_same function (Some f) = refl
 
--- ---- one name more
-
-pub or_false : (b : Bool) → (b || false) ≡ b
-or_false true = refl
-or_false false = refl
-
-or_true : (a b : Bool) → (a || (b || true)) ≡ true
-or_true true b = refl
-or_true false true = refl
-or_true false false = refl
-
--- where it is another one
-pub missed : (p : Spot) (is : IsSpot p) (frame : ℕ) (before : Bool) (done : List ℕ) (name : ℕ) (j : Known)
-    → is_function_name p.k p.function frame name ≡ false → (rule_of p is frame before).Turn done j → (rule_of p is frame before).Turn (done ++ name ∷ []) j
-missed p is frame before done name j other t =
-    let test = is_function_name p.k p.function frame in
-    subst (λ b. Turn p is (before || b) j) (sym (any-last test done name ∙ ap (λ b. list_any test done || b) other ∙ or_false (list_any test done))) t
-
-hit : (p : Spot) (is : IsSpot p) (frame : ℕ) (before : Bool) (done : List ℕ) (name : ℕ) (j : Known)
-    → is_function_name p.k p.function frame name ≡ true → Turn p is true j → (rule_of p is frame before).Turn (done ++ name ∷ []) j
-hit p is frame before done name j own t =
-    let test = is_function_name p.k p.function frame in
-    subst (λ b. Turn p is b j) (sym (ap (λ b. before || b) (any-last test done name ∙ ap (λ b. list_any test done || b) own)
-    ∙ or_true before (list_any test done))) t
-
-calm_missed : (p : Spot) (is : IsSpot p) (frame : ℕ) (before : Bool) (name : ℕ) → is_function_name p.k p.function frame name ≡ false
-    → {A : Type 0} {m : Step A} → Calm (rule_of p is frame before) m → Goes (rule_of p is frame before) (name ∷ []) m
-calm_missed p is frame before name other {m = m} h = record {
-  of = λ done j t. record {
-    turn = missed p is frame before done name (m j).known other (h.turn done j t);
-    forth = λ i. absurd (h.none j i);
-    back = λ w. absurd (never_wrong p is frame before done (name ∷ []) w);
-  };
-}
+name_aims : (a : PartAt) (records : List ℕ) (f name : ℕ) (seen : Bool) (j : Known) → Turn a.p a.is seen j → Leads j.frames a.block records f
+    → Aims a.p (is_function_name (search_of a) records name) (target_at j f name true)
+name_aims a records f name seen j t leads =
+    let o = usable name (find j f (name_at j name)) in
+    let inner = named a.p.k a.block records name in
+    let same : is_defined_at a.p.function o ≡ is_defined_at a.p.function inner =
+    defined_same a.p.function o ∙ ap (defined_by a.p.function) (names_alike a.p a.is seen j t a.block a.below records f name leads)
+    ∙ sym (defined_same a.p.function inner) in
+    subst (λ b. Aims a.p b (target_of j f o)) same (found_aims a.p a.is seen j f t o)
 
 -- ---- another target
 
-other_assigned : (p : Spot) (is : IsSpot p) (frame : ℕ) (before : Bool) (function : ℕ) → (function ≡ p.function → ⊥)
-    → Calm (rule_of p is frame before) (result_assigned function)
+other_assigned : (a : PartAt) (records : List ℕ) (f function : ℕ) → (function ≡ a.p.function → ⊥) → Sets a records f false (result_assigned function)
 unfolding result_assigned look ◌>>=◌ change
-other_assigned p is frame before function apart = record {
-  turn = λ done j t.
+other_assigned a records f function apart = record {
+  of = λ seen j t l.
       let i = with_row j function (with_value (row_at j function)) in
-      let s = same_changed {Q = Has p.part} {strict = loose} j function with_value (value_shows loose refl) in
-      record {
-        words = t.words;
-        regions = t.regions;
-        frames = t.frames;
-        routines = t.routines;
-        rows = λ n h. s.rows n (beside_on p j n t.words h) ∙ t.rows n h;
-        sayings = like_said p j i t.sayings (λ n. elim (s.sayings n) [
-          | inl q ↦ inl q.1
-          | inr e ↦ inr e
-        ]);
-        result = elim (row_either j function p.function (with_value (row_at j function))) [
-          | inl old ↦ old ∙ t.result
-          | inr q ↦ absurd (apart (sym q.0))
-        ];
-      };
-  none = λ j i. i;
+      let s = same_changed {Q = Has a.p.part} {strict = loose} j function with_value (value_shows loose refl) in
+      let its = a.is.its in
+      let row : row_at i a.p.function ≡ Row.Name (NameRow.Routine seen its.number its.region)
+      = elim (row_either j function a.p.function (with_value (row_at j function))) [
+        | inl old ↦ old ∙ t.result
+        | inr q ↦ absurd (apart (sym q.0))
+      ] in
+      record { turn = subst (λ b. Turn a.p a.is b i) (sym (or_false seen)) (turn_by a.p a.is seen seen j i t s row); longer = no_longer j.frames };
 }
 
-when_calm : {r : Rule} (ok : Bool) {m : Step (Unit {0})} → Calm r m → Calm r (when ok m)
-unfolding when give
-when_calm true h = h
-when_calm false h = record { turn = λ done j turn. turn; none = λ j i. i }
+when_other : (a : PartAt) (records : List ℕ) (f : ℕ) (ok : Bool) {m : Step (Unit {0})} → Sets a records f false m → Sets a records f false (when ok m)
+unfolding when
+when_other a records f true h = h
+when_other a records f false h = sets_calm a records f (give-touches tt)
 
 abbrev its_result : ℕ → FunctionResult → Typed
 its_result name r = record { row = name; of = ExpressionType.Of r.of; location = Location.Variable }
 
-result_ends : (p : Spot) (is : IsSpot p) (frame : ℕ) (before : Bool) (name : ℕ) (r : FunctionResult) → Of (Has p.part) name
-    → Calm (rule_of p is frame before)
-    (put name (Row.Access (AccessRow.Variable r.place r.levels r.of)) >>= λ _.
-    give (its_result name r))
-result_ends p is frame before name r name-in =
-    calm_of p is frame before (bind-touches (put-touches name (Row.Access (AccessRow.Variable r.place r.levels r.of)) name-in refl) (λ _.
-    give-touches (its_result name r)))
+result_ends : (a : PartAt) (name : ℕ) (r : FunctionResult) → Of (Has a.p.part) name
+    → Touches (Has a.p.part) assigning (put name (Row.Access (AccessRow.Variable r.place r.levels r.of)) >>= λ _. give (its_result name r))
+result_ends a name r name-in =
+    bind-touches (put-touches name (Row.Access (AccessRow.Variable r.place r.levels r.of)) name-in refl) (λ _. give-touches (its_result name r))
 
-other_result : (p : Spot) (is : IsSpot p) (frame : ℕ) (before : Bool) (name : ℕ) (r : FunctionResult) → Of (Has p.part) name → (r.function ≡ p.function → ⊥)
-    → Calm (rule_of p is frame before) (result_target frame name r)
+other_result : (a : PartAt) (records : List ℕ) (f name : ℕ) (r : FunctionResult) → Of (Has a.p.part) name → (r.function ≡ a.p.function → ⊥)
+    → Sets a records f false (result_target f name r)
 unfolding result_target
-other_result p is frame before name r name-in apart = looked_calm (λ k. is_inside k frame r.function) (λ fine.
-    calm_calm (calm_of p is frame before (late-touches 13 name fine refl name-in)) (λ _.
-    calm_calm (when_calm fine (other_assigned p is frame before r.function apart)) (λ _.
-    result_ends p is frame before name r name-in)))
+other_result a records f name r name-in apart =
+    sets_looked (λ fine. Unit {0}) (λ k. is_inside k f r.function) (λ seen j t l. tt) (λ fine u.
+    calm_then (late-touches 13 name fine refl name-in) (λ _.
+    sets_after (when_other a records f fine (other_assigned a records f r.function apart)) (λ _. result_ends a name r name-in)))
 
-other_target : (p : Spot) (is : IsSpot p) (frame : ℕ) (before : Bool) (a : Access) (t : Target) → Every (Has p.part) (access_node a) → IsOther p t
-    → Calm (rule_of p is frame before) (target_as frame a t)
-other_target p is frame before a Target.Access a-in o = calm_of p is frame before (target_access-touches frame a a-in)
-other_target p is frame before a (Target.Result r) a-in o = other_result p is frame before a.name r a-in.0 (o.apart r refl)
-other_target p is frame before a Target.Blockless a-in o = calm_of p is frame before (blockless_target-touches a.name a-in.0)
+other_target : (a : PartAt) (records : List ℕ) (f : ℕ) (x : AccessTree) (t : Target) → Every (Has a.p.part) (access_node x) → IsOther a.p t
+    → Sets a records f false (target_as f x t)
+other_target a records f x Target.Access x-in o = sets_calm a records f (target_access-touches f x x-in)
+other_target a records f x (Target.Result r) x-in o = other_result a records f x.name r x-in.0 (o.apart r refl)
+other_target a records f x Target.Blockless x-in o = sets_calm a records f (blockless_target-touches x.name x-in.0)
 
 -- ---- the function itself
 
-own_assigned : (p : Spot) (is : IsSpot p) (frame : ℕ) (before : Bool) (name function : ℕ) → function ≡ p.function
-    → is_function_name p.k p.function frame name ≡ true → Goes (rule_of p is frame before) (name ∷ []) (result_assigned function)
+or_true : (b : Bool) → (b || true) ≡ true
+or_true true = refl
+or_true false = refl
+
+own_assigned : (a : PartAt) (records : List ℕ) (f function : ℕ) → function ≡ a.p.function → Sets a records f true (result_assigned function)
 unfolding result_assigned look ◌>>=◌ change
-own_assigned p is frame before name function same own = record {
-  of = λ done j t.
+own_assigned a records f function same = record {
+  of = λ seen j t l.
+      let its = a.is.its in
       let i = with_row j function (with_value (row_at j function)) in
-      let s = same_changed {Q = Has p.part} {strict = loose} j function with_value (value_shows loose refl) in
-      let seen = before || list_any (is_function_name p.k p.function frame) done in
-      let row : row_at j function ≡ Row.Name (NameRow.Routine seen is.its.number is.its.region) = ap (row_at j) same ∙ t.result in
-      let placed = got_put j.program.rows function (NameRow.Routine seen is.its.number is.its.region) (with_value (row_at j function)) row in
-      record {
-        turn = hit p is frame before done name i own (record {
-          words = t.words;
-          regions = t.regions;
-          frames = t.frames;
-          routines = t.routines;
-          rows = λ n h. s.rows n (beside_on p j n t.words h) ∙ t.rows n h;
-          sayings = like_said p j i t.sayings (λ n. elim (s.sayings n) [
-            | inl q ↦ inl q.1
-            | inr e ↦ inr e
-          ]);
-          result = ap (row_at i) (sym same) ∙ placed ∙ ap with_value row;
-        });
-        forth = λ i. absurd i;
-        back = λ w. absurd (never_wrong p is frame before done (name ∷ []) w);
-      };
+      let s = same_changed {Q = Has a.p.part} {strict = loose} j function with_value (value_shows loose refl) in
+      let row : row_at j function ≡ Row.Name (NameRow.Routine seen its.number its.region) = ap (row_at j) same ∙ t.result in
+      let placed = got_put j.program.rows function (NameRow.Routine seen its.number its.region) (with_value (row_at j function)) row in
+      let now : row_at i a.p.function ≡ Row.Name (NameRow.Routine true its.number its.region) = ap (row_at i) (sym same) ∙ placed ∙ ap with_value row in
+      record { turn = subst (λ b. Turn a.p a.is b i) (sym (or_true seen)) (turn_by a.p a.is seen true j i t s now); longer = no_longer j.frames };
 }
 
-own_fine : (p : Spot) (is : IsSpot p) (frame : ℕ) (before : Bool) (name : ℕ) (r : FunctionResult) → Of (Has p.part) name → r.function ≡ p.function
-    → is_function_name p.k p.function frame name ≡ true → (fine : Bool) → fine ≡ true
-    → Goes (rule_of p is frame before) (name ∷ [])
-    (late 13 name fine >>= λ _. when fine (result_assigned r.function) >>= λ _. put name (Row.Access (AccessRow.Variable r.place r.levels r.of)) >>= λ _.
-    give (its_result name r))
+when_own : (a : PartAt) (records : List ℕ) (f : ℕ) (ok : Bool) {m : Step (Unit {0})} → ok ≡ true → Sets a records f true m → Sets a records f true (when ok m)
 unfolding when
-own_fine p is frame before name r name-in same own true e =
-    calm_then (name ∷ []) (calm_of p is frame before (late-touches 13 name true refl name-in)) (λ _.
-    goes_calm (name ∷ []) (own_assigned p is frame before name r.function same own) (λ _. result_ends p is frame before name r name-in))
-own_fine p is frame before name r name-in same own false e = absurd cc
+when_own a records f true e h = h
+when_own a records f false e h = absurd (let never : false ≡ true = e in cc)
 
-own_result : (p : Spot) (is : IsSpot p) (frame : ℕ) (before : Bool) (name : ℕ) (r : FunctionResult) → is_inside p.k frame p.function ≡ true
-    → Of (Has p.part) name → r.function ≡ p.function → is_function_name p.k p.function frame name ≡ true
-    → Goes (rule_of p is frame before) (name ∷ []) (result_target frame name r)
+own_result : (a : PartAt) (records : List ℕ) (f name : ℕ) (r : FunctionResult) (x : Node) → Room a.p records x → Of (Has a.p.part) name
+    → r.function ≡ a.p.function → Sets a records f true (result_target f name r)
 unfolding result_target
-own_result p is frame before name r inside name-in same own =
-    looked_goes (λ fine. fine ≡ true) (name ∷ []) (λ k. is_inside k frame r.function)
-    (λ done j t. ap (is_inside j frame) same ∙ inside_alike p.k j t.words t.regions t.frames frame p.function ∙ inside)
-    (λ fine e. own_fine p is frame before name r name-in same own fine e)
+own_result a records f name r x room name-in same =
+    sets_looked (λ fine. fine ≡ true) (λ k. is_inside k f r.function)
+    (λ seen j t l. ap (is_inside j f) same ∙ still_inside a records f x room seen j t l) (λ fine e.
+    calm_then (late-touches 13 name fine refl name-in) (λ _.
+    sets_after (when_own a records f fine e (own_assigned a records f r.function same)) (λ _. result_ends a name r name-in)))
 
-own_target : (p : Spot) (is : IsSpot p) (frame : ℕ) (before : Bool) (a : Access) (t : Target) → is_inside p.k frame p.function ≡ true
-    → Every (Has p.part) (access_node a) → IsOwn p t → is_function_name p.k p.function frame a.name ≡ true
-    → Goes (rule_of p is frame before) (a.name ∷ []) (target_as frame a t)
-own_target p is frame before a t inside a-in o own =
-    subst (λ x. Goes (rule_of p is frame before) (a.name ∷ []) (target_as frame a x)) (sym o.is)
-    (own_result p is frame before a.name o.its inside a-in.0 o.same own)
+own_target : (a : PartAt) (records : List ℕ) (f : ℕ) (x : AccessTree) (t : Target) (n : Node) → Room a.p records n → Every (Has a.p.part) (access_node x)
+    → IsOwn a.p t → Sets a records f true (target_as f x t)
+own_target a records f x t n room x-in o =
+    subst (λ y. Sets a records f true (target_as f x y)) (sym o.is) (own_result a records f x.name o.its n room x-in.0 o.same)
 
 -- ---- an assignment
 
-aimed : (p : Spot) (is : IsSpot p) (frame : ℕ) (before : Bool) (a : Access) (t : Target) → is_inside p.k frame p.function ≡ true
-    → Every (Has p.part) (access_node a) → Aims p (is_function_name p.k p.function frame a.name) t
-    → Goes (rule_of p is frame before) (a.name ∷ []) (target_as frame a t)
-aimed p is frame before a t inside a-in (inl other) =
-    calm_missed p is frame before a.name other.1 (other_target p is frame before a t a-in other.0)
-aimed p is frame before a t inside a-in (inr own) = own_target p is frame before a t inside a-in own.0 own.1
+aimed : (a : PartAt) (records : List ℕ) (f : ℕ) (x : AccessTree) (t : Target) (b : Bool) (n : Node) → Room a.p records n → Every (Has a.p.part) (access_node x)
+    → Aims a.p b t → Sets a records f b (target_as f x t)
+aimed a records f x t b n room x-in (inl other) =
+    subst (λ y. Sets a records f y (target_as f x t)) (sym other.1) (other_target a records f x t x-in other.0)
+aimed a records f x t b n room x-in (inr own) =
+    subst (λ y. Sets a records f y (target_as f x t)) (sym own.1) (own_target a records f x t n room x-in own.0)
 
-to_goes : (p : Spot) (is : IsSpot p) (frame : ℕ) (before : Bool) (a : Access) (alone : Bool) → is_inside p.k frame p.function ≡ true
-    → Every (Has p.part) (access_node a)
-    → Goes (rule_of p is frame before) (if_alone alone a.name) (look (λ k. target_at k frame a.name alone) >>= λ t. target_as frame a t)
-to_goes p is frame before a true inside a-in =
-    looked_goes (Aims p (is_function_name p.k p.function frame a.name)) (a.name ∷ []) (λ k. target_at k frame a.name true)
-    (λ done j t. name_aims p is (before || list_any (is_function_name p.k p.function frame) done) j frame a.name t)
-    (λ t aims. aimed p is frame before a t inside a-in aims)
-to_goes p is frame before a false inside a-in =
-    looked_goes (λ t. t ≡ Target.Access) [] (λ k. target_at k frame a.name false) (λ done j t. refl) (λ t e.
-    calm_goes (subst (λ x. Calm (rule_of p is frame before) (target_as frame a x)) (sym e)
-    (other_target p is frame before a Target.Access a-in (access_other p))))
+to_sets : (a : PartAt) (records : List ℕ) (f : ℕ) (x : AccessTree) (alone : Bool) (n : Node) → Room a.p records n → Every (Has a.p.part) (access_node x)
+    → Sets a records f (alone && is_function_name (search_of a) records x.name) (look (λ k. target_at k f x.name alone) >>= λ t. target_as f x t)
+to_sets a records f x true n room x-in =
+    sets_looked (Aims a.p (is_function_name (search_of a) records x.name)) (λ k. target_at k f x.name true)
+    (λ seen j t l. name_aims a records f x.name seen j t l)
+    (λ t aims. aimed a records f x t (is_function_name (search_of a) records x.name) n room x-in aims)
+to_sets a records f x false n room x-in =
+    sets_looked (λ t. t ≡ Target.Access) (λ k. target_at k f x.name false) (λ seen j t l. refl) (λ t e.
+    subst (λ y. Sets a records f false (target_as f x y)) (sym e) (other_target a records f x Target.Access x-in (access_other a.p)))
 
-pub assignment_goes : (p : Spot) (is : IsSpot p) (frame : ℕ) (before : Bool) (label : Option ℕ) (a : Assignment) → is_inside p.k frame p.function ≡ true
-    → Every (Has p.part) (assignment_node a) → Goes (rule_of p is frame before) (assigned_name a) (assignment frame label a)
+pub assignment_sets : (a : PartAt) (records : List ℕ) (f : ℕ) (label : Option ℕ) (x : AssignmentTree) (n : Node) → Room a.p records n
+    → Every (Has a.p.part) (assignment_node x) → Sets a records f (assigns (search_of a) records x) (assignment f label x)
 unfolding assignment assigned_to
-assignment_goes p is frame before label a inside a-in =
-    goes_calm (assigned_name a) (to_goes p is frame before a.target (nat_eq (length a.target.selectors.items) 0) inside (a-in.0, a-in.1.0)) (λ to.
-    calm_of p is frame before (bind-touches (expression-touches frame a.value a-in.1.1.1) (λ v. bind-touches (look-touches (λ k. line_of k label a.target.name))
-    (λ line. assigned-touches line a.becomes to v a-in.1.1.0))))
+assignment_sets a records f label x n room inside =
+    sets_after (to_sets a records f x.target (is_name x.target.selectors) n room (inside.0, inside.1.0)) (λ to.
+    bind-touches (expression-touches f x.value inside.1.1.1) (λ v. bind-touches (look-touches (λ k. line_of k label x.target.name))
+    (λ line. assigned-touches line x.becomes to v inside.1.1.0)))

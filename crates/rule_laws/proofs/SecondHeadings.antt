@@ -1,22 +1,24 @@
 -- Which procedures and functions of a part break rule 2.
-use Rattle.std.proofs.Common.{if◌then◌else◌, ◌&&◌, ◌++◌, ◌+◌, ◌<◌, ◌||◌, ◌∙◌, ◌∷◌, ◌≡◌, ◌⊎◌, [], ℕ, All, Bool, List, None, Option, Some, ap, arith, cond, false}
-use Rattle.std.proofs.Common.{inl, inr, is_none, is_some, length, length-set, nat_eq, not, refl, subst, suc, sym, true}
+use Rattle.std.proofs.Common.{if◌then◌else◌, ◌&&◌, ◌++◌, ◌+◌, ◌<◌, ◌||◌, ◌↔◌, ◌∙◌, ◌∷◌, ◌≡◌, ◌⊎◌, [], ℕ, All, Bool, Contains, List, None, Option, Some, ap}
+use Rattle.std.proofs.Common.{arith, cond, false, inl, inr, is_none, is_some, length, length-set, nat_eq, not, refl, subst, suc, sym, true}
 use Rattle.std.{proofs.lemmas.Bool.eq-eqb, proofs.lemmas.Bool.eqb-false, proofs.lemmas.Bool.eqb-true, proofs.lemmas.Bool.ne_eqb, specs.List.list_any}
 use Rattle.std.proofs.lemmas.{List.Elements.All-head, List.Elements.All-tail, Option.none-some, Option.same_Some}
-use Rattle.pas_tree.specs.{HeadingPlaces.heading_name, declared.headings.Heading.Heading}
-use Rattle.pas_tree.specs.declared.blocks.{Routine.Routine, RoutineBody.Block', RoutineBody.Directive, RoutineBody.RoutineBody}
+use Rattle.pas_tree.specs.{HeadingPlaces.heading_name, HeadingTrees.HeadingTree}
+use Rattle.pas_tree.specs.BlockTrees.{BodyTree, RoutineTree, routine_body, routine_heading}
+use Rattle.pas_tree.specs.BlockTrees as tree
 use Rattle.core_program.specs.declared.rows.{PartRow.PartRow, Row.Row}
 use Rattle.check_steps.specs.{Known.Known, Known.and_definition, Known.name_at, Known.row_at, Names.define_in, Regions.RegionRows, Regions.defined_in}
 use Rattle.check_steps.specs.{Regions.or_else, Regions.region_at, declared.breaks.Break.Break, declared.regions.Definition.Definition}
-use Rattle.check_steps.specs.Steps.{◌>>=◌, add_definition, ask, change, each, give, look, put, when}
+use Rattle.check_steps.specs.Steps.{◌>>=◌, Step, add_definition, ask, change, each, give, look, put, when}
 use Rattle.denoter_checker.specs.Formals.{is_complete, is_function}
 use Rattle.denoter_checker.specs.RoutineParts.{awaiting, awaits, complete_or_define, completed_by, completing, define_heading, define_routine, defining}
-use Rattle.denoter_checker.specs.RoutineParts.{directed, directive_in, has_block, is_forward, is_waiting, routine_name}
+use Rattle.denoter_checker.specs.RoutineParts.{directed, directive_in, is_forward, is_waiting, routine_name}
 use Rattle.rule_laws.proofs.{Keeping.Closed, Keeping.completing-keeps, Keeping.turn-keeps, Tables.defined-more}
 use Rattle.rule_laws.proofs.Breaks.{Each, In, contained, found, in_either, in_left, in_right, of_each}
 use Rattle.rule_laws.proofs.OneName.{Awaiting, New, Quiet, Turned, completed_elsewhere, completed_own, has_block_of, new-closed, now_quiet, own_definition}
 use Rattle.rule_laws.proofs.OneName.{own_turn, quiet_after, quiet_turn, same_spelling, still_awaiting}
 use Rattle.rule_laws.proofs.PartLaw.{all_no_two, apart_of, each_broken, only_eight, turns_only}
+use Rattle.rule_laws.proofs.PartSteps.{has_each, part_listed, part_steps}
 use Rattle.rule_laws.proofs.Telling.{Misses, completing-only, directive_in-only, no_two, other_rule}
 use Rattle.rule_laws.specs.{Laws.IsNew, Laws.broken_at, NameLaws.DifferAll, NameLaws.IsDefinedAgain, NameLaws.IsPartBegun, NameLaws.PartsTellSecondHeadings}
 use Rattle.rule_laws.specs.ForwardHeadings.{are_completing, completes, has_forward, is_block, is_named, is_second}
@@ -56,14 +58,14 @@ not_first : (m : ℕ) (o : Option ℕ) → o ≡ Some (fresh m o) → ⊥
 not_first m None e = none-some (fresh m None) e
 not_first m (Some n) e = let same : n ≡ suc (m + n) = same_Some n (fresh m (Some n)) e in omega (arith, same)
 
-has_turn : (region name : ℕ) (d : Definition) (position : ℕ) (r : Routine) (k : Known) → Has region name d k
+has_turn : (region name : ℕ) (d : Definition) (position : ℕ) (r : RoutineTree) (k : Known) → Has region name d k
     → Has region name d (define_routine region position r k).known
 has_turn region name d position r k i =
-    let o = completed_by k region r.heading r.body in
+    let o = completed_by k region (routine_heading r) (routine_body r) in
     let n = fresh (routine_name r) o in
     turn-keeps (has_closed region name d n) position r (not_name (routine_name r) o) k (not_first (routine_name r) o) i
 
-has_after : (region name : ℕ) (d : Definition) (rs : List Routine) (position : ℕ) (k : Known) → Has region name d k
+has_after : (region name : ℕ) (d : Definition) (rs : List RoutineTree) (position : ℕ) (k : Known) → Has region name d k
     → Has region name d (each (define_routine region) position rs k).known
 unfolding ◌>>=◌ give
 has_after region name d [] position k i = i
@@ -103,7 +105,7 @@ two_told : (region n : ℕ) (x : Known) (d : Definition) (o : Option Definition)
 two_told region n x d o e some = by_told region n x d (defined_in x.regions region (name_at x n)) (ap is_some e ∙ some)
 
 -- a heading that defines its name
-told_defining : (region : ℕ) (h : Heading) (body : RoutineBody) (x : Known) (o : Option Definition)
+told_defining : (region : ℕ) (h : HeadingTree) (body : BodyTree) (x : Known) (o : Option Definition)
     → defined_in x.regions region (name_at x (heading_name h)) ≡ o
     → let bs = (defining region h body x).broken in let b = broken_at 2 (heading_name h) in
     (In b bs → is_some o ≡ true) × (is_some o ≡ true → In b bs)
@@ -130,14 +132,14 @@ told_defining region h body x o e =
     )
 
 -- a heading that completes another breaks no rule 2
-told_completing : (first position : ℕ) (h : Heading) (x : Known) → In (broken_at 2 (heading_name h)) (completing first position h x).broken → ⊥
+told_completing : (first position : ℕ) (h : HeadingTree) (x : Known) → In (broken_at 2 (heading_name h)) (completing first position h x).broken → ⊥
 told_completing first position h x i =
     let n = heading_name h in
     let allows = no_two (n + 1) n (λ s. omega (arith, s)) in
     of_each (Misses 2 n) (broken_at 2 n) (completing first position h x).broken ((completing-only allows first position h).of x) i refl
 
 -- whether a heading is told, by what it would complete
-told_found : (region position : ℕ) (h : Heading) (body : RoutineBody) (x : Known) (o : Option ℕ)
+told_found : (region position : ℕ) (h : HeadingTree) (body : BodyTree) (x : Known) (o : Option ℕ)
     → let bs = (complete_or_define o region position h body x).broken in let b = broken_at 2 (heading_name h) in
     let defined = is_some (defined_in x.regions region (name_at x (heading_name h))) in
     (In b bs → (is_some o ≡ false) × (defined ≡ true)) × ((is_some o ≡ false) × (defined ≡ true) → In b bs)
@@ -147,17 +149,17 @@ told_found region position h body x None =
 told_found region position h body x (Some first) =
     ((λ i. absurd (told_completing first position h x i)), (λ w. absurd (let never : true ≡ false = w.0 in cc)))
 
-told_turn : (region position : ℕ) (r : Routine) (x : Known)
+told_turn : (region position : ℕ) (r : RoutineTree) (x : Known)
     → let bs = (define_routine region position r x).broken in let b = broken_at 2 (routine_name r) in
-    let o = completed_by x region r.heading r.body in
+    let o = completed_by x region (routine_heading r) (routine_body r) in
     let defined = is_some (defined_in x.regions region (name_at x (routine_name r))) in
     (In b bs → (is_some o ≡ false) × (defined ≡ true)) × ((is_some o ≡ false) × (defined ≡ true) → In b bs)
 unfolding define_routine look give ◌>>=◌
 told_turn region position r x =
-    let o = completed_by x region r.heading r.body in
-    let s = complete_or_define o region position r.heading r.body x in
+    let o = completed_by x region (routine_heading r) (routine_body r) in
+    let s = complete_or_define o region position (routine_heading r) (routine_body r) x in
     let b = broken_at 2 (routine_name r) in
-    let t = told_found region position r.heading r.body x o in (
+    let t = told_found region position (routine_heading r) (routine_body r) x o in (
       (λ i. elim (in_either b s.broken [] i) [
         | inl l ↦ t.0 l
         | inr n ↦ absurd n
@@ -177,12 +179,12 @@ base_closed k region n = record {
   defines = λ j x apart none i. record { words = i.words; there = more_regions j region (name_at j x.token) x i.there };
 }
 
-base_turn : (k : Known) (region position : ℕ) (r : Routine) (j : Known) → Base k region j → Base k region (define_routine region position r j).known
+base_turn : (k : Known) (region position : ℕ) (r : RoutineTree) (j : Known) → Base k region j → Base k region (define_routine region position r j).known
 base_turn k region position r j i =
-    let o = completed_by j region r.heading r.body in
+    let o = completed_by j region (routine_heading r) (routine_body r) in
     turn-keeps (base_closed k region (fresh (routine_name r) o)) position r (not_name (routine_name r) o) j (not_first (routine_name r) o) i
 
-base_after : (k : Known) (region : ℕ) (rs : List Routine) (position : ℕ) (j : Known) → Base k region j
+base_after : (k : Known) (region : ℕ) (rs : List RoutineTree) (position : ℕ) (j : Known) → Base k region j
     → Base k region (each (define_routine region) position rs j).known
 unfolding ◌>>=◌ give
 base_after k region [] position j i = i
@@ -197,16 +199,16 @@ unfolding when change give
 when_put true m r j = refl
 when_put false m r j = refl
 
-same_directive : (h : Heading) (body : RoutineBody) (j : Known) → (directive_in h body j).known.regions ≡ j.regions
+same_directive : (h : HeadingTree) (body : BodyTree) (j : Known) → (directive_in h body j).known.regions ≡ j.regions
 unfolding directed look give ◌>>=◌ ask
-same_directive h (Directive directive) j = when_put (is_forward j directive) (heading_name h) (Row.Part (PartRow.Forward (is_function h) None)) j
-same_directive h (Block' _ b) j = refl
+same_directive h (tree.a_directive directive) j = when_put (is_forward j directive) (heading_name h) (Row.Part (PartRow.Forward (is_function h) None)) j
+same_directive h (tree.a_block_body b) j = refl
 
 -- what an undefined name completes: nothing
-uncompleted : (h : Heading) (body : RoutineBody) (j : Known) (region : ℕ) → defined_in j.regions region (name_at j (heading_name h)) ≡ None
+uncompleted : (h : HeadingTree) (body : BodyTree) (j : Known) (region : ℕ) → defined_in j.regions region (name_at j (heading_name h)) ≡ None
     → completed_by j region h body ≡ None
-uncompleted h (Directive directive) j region none = refl
-uncompleted h (Block' _ b) j region none = ap (λ (o : Option Definition). awaiting j (is_function h) o) none
+uncompleted h (tree.a_directive directive) j region none = refl
+uncompleted h (tree.a_block_body b) j region none = ap (λ (o : Option Definition). awaiting j (is_function h) o) none
 
 -- a definition where there was none
 more_defined : (region name : ℕ) (d : Definition) (j : Known) (o : Option Definition) → region < length j.regions → defined_in j.regions region name ≡ o
@@ -227,7 +229,7 @@ other_defined region name n d j None below apart none =
     ∙ ap (λ b. cond b (Some d) None) (ne_eqb n name apart)
 other_defined region name n d j (Some x) below apart none = none
 
-by_found : (region position : ℕ) (h : Heading) (body : RoutineBody) (j : Known) → region < length j.regions
+by_found : (region position : ℕ) (h : HeadingTree) (body : BodyTree) (j : Known) → region < length j.regions
     → defined_in j.regions region (name_at j (heading_name h)) ≡ None → (o : Option ℕ) → o ≡ None
     → defined_in (complete_or_define o region position h body j).known.regions region (name_at j (heading_name h)) ≡ Some (own_definition h)
 unfolding defining define_heading define_in look ◌>>=◌ ask
@@ -239,10 +241,10 @@ by_found region position h body j below none None e =
     ∙ more_defined region name (own_definition h) j o below refl none
 by_found region position h body j below none (Some first) e = absurd (none-some first (sym e))
 
-completed_regions : (first position : ℕ) (h : Heading) (j : Known) → (completing first position h j).known.regions ≡ j.regions
+completed_regions : (first position : ℕ) (h : HeadingTree) (j : Known) → (completing first position h j).known.regions ≡ j.regions
 completed_regions first position h j = (completing-keeps {I = λ (x : Known). x.regions ≡ j.regions} first position h (λ k i. i) (λ k i. i)).of j refl
 
-other_found : (region position : ℕ) (h : Heading) (body : RoutineBody) (j : Known) (n : ℕ) → region < length j.regions → (n ≡ name_at j (heading_name h) → ⊥)
+other_found : (region position : ℕ) (h : HeadingTree) (body : BodyTree) (j : Known) (n : ℕ) → region < length j.regions → (n ≡ name_at j (heading_name h) → ⊥)
     → defined_in j.regions region n ≡ None → (o : Option ℕ) → defined_in (complete_or_define o region position h body j).known.regions region n ≡ None
 unfolding defining define_heading define_in look ◌>>=◌ ask
 other_found region position h body j n below apart none None =
@@ -255,35 +257,37 @@ other_found region position h body j n below apart none (Some first) =
     ap (λ (rs : List RegionRows). defined_in rs region n) (completed_regions first position h j) ∙ none
 
 -- the definition of a name, after its own heading
-defined_turn : (region position : ℕ) (q : Routine) (j : Known) → region < length j.regions
+defined_turn : (region position : ℕ) (q : RoutineTree) (j : Known) → region < length j.regions
     → defined_in j.regions region (name_at j (routine_name q)) ≡ None
-    → defined_in (define_routine region position q j).known.regions region (name_at j (routine_name q)) ≡ Some (own_definition q.heading)
+    → defined_in (define_routine region position q j).known.regions region (name_at j (routine_name q)) ≡ Some (own_definition (routine_heading q))
 unfolding define_routine look give ◌>>=◌
-defined_turn region position q j below none = by_found region position q.heading q.body j below none (completed_by j region q.heading q.body)
-    (uncompleted q.heading
-    q.body j region none)
+defined_turn region position q j below none =
+    by_found region position (routine_heading q) (routine_body q) j below none (completed_by j region (routine_heading q) (routine_body q))
+    (uncompleted (routine_heading q)
+    (routine_body q) j region none)
 
 -- another name stays undefined
-undefined_turn : (region position : ℕ) (q : Routine) (j : Known) (n : ℕ) → region < length j.regions → (n ≡ name_at j (routine_name q) → ⊥)
+undefined_turn : (region position : ℕ) (q : RoutineTree) (j : Known) (n : ℕ) → region < length j.regions → (n ≡ name_at j (routine_name q) → ⊥)
     → defined_in j.regions region n ≡ None → defined_in (define_routine region position q j).known.regions region n ≡ None
 unfolding define_routine look give ◌>>=◌
-undefined_turn region position q j n below apart none = other_found region position q.heading q.body j n below apart none
-    (completed_by j region q.heading q.body)
+undefined_turn region position q j n below apart none = other_found region position (routine_heading q) (routine_body q) j n below apart none
+    (completed_by j region (routine_heading q) (routine_body q))
 
 -- ---- the first heading of a name, and those after it
 
 -- it still waits if none of them has its block
-waits_or_not : (k : Known) (region n name : ℕ) (function : Bool) (rs : List Routine) (position : ℕ) (j : Known)
-    → Each (λ (s : Routine). routine_name s ≡ n → ⊥) rs → Awaiting k region n name function j
-    → let x = (each (define_routine region) position rs j).known in let done = list_any (λ (s : Routine). has_block_of k function name s.heading s.body) rs in
+waits_or_not : (k : Known) (region n name : ℕ) (function : Bool) (rs : List RoutineTree) (position : ℕ) (j : Known)
+    → Each (λ (s : RoutineTree). routine_name s ≡ n → ⊥) rs → Awaiting k region n name function j
+    → let x = (each (define_routine region) position rs j).known in
+    let done = list_any (λ (s : RoutineTree). has_block_of k function name (routine_heading s) (routine_body s)) rs in
     (Awaiting k region n name function x × (done ≡ false)) ⊎ (Quiet k region n x × (done ≡ true))
 unfolding ◌>>=◌ give
 waits_or_not k region n name function [] position j apart i = inl (i, refl)
 waits_or_not k region n name function (r ∷ rs) position j apart i =
     let d = define_routine region position r j in
-    elim (has_block_of k function name r.heading r.body) as (λ c. has_block_of k function name r.heading r.body ≡ c
+    elim (has_block_of k function name (routine_heading r) (routine_body r)) as (λ c. has_block_of k function name (routine_heading r) (routine_body r) ≡ c
     → let x = (each (define_routine region) d.value rs d.known).known in
-    let done = c || list_any (λ (s : Routine). has_block_of k function name s.heading s.body) rs in
+    let done = c || list_any (λ (s : RoutineTree). has_block_of k function name (routine_heading s) (routine_body s)) rs in
     (Awaiting k region n name function x × (done ≡ false)) ⊎ (Quiet k region n x × (done ≡ true))) [
       | true ↦ λ has. inr (quiet_after rs d.value d.known apart.1 (now_quiet position r j i has), refl)
       | false ↦ λ lacks. waits_or_not k region n name function rs d.value d.known apart.1 (still_awaiting position r j apart.0 i lacks)
@@ -296,10 +300,10 @@ not_awaited g (Row.Part (PartRow.Forward forward (Some x))) quiet = refl
 not_awaited g r quiet = refl
 
 -- nothing is completed where the definition waits for no block
-settled : (x : Known) (region : ℕ) (h : Heading) (body : RoutineBody) (name : ℕ) (d : Definition) → name_at x (heading_name h) ≡ name
+settled : (x : Known) (region : ℕ) (h : HeadingTree) (body : BodyTree) (name : ℕ) (d : Definition) → name_at x (heading_name h) ≡ name
     → defined_in x.regions region name ≡ Some d → is_waiting (row_at x d.token) ≡ false → is_some (completed_by x region h body) ≡ false
-settled x region h (Directive directive) name d same is quiet = refl
-settled x region h (Block' _ b) name d same is quiet =
+settled x region h (tree.a_directive directive) name d same is quiet = refl
+settled x region h (tree.a_block_body b) name d same is quiet =
     ap (λ m. is_some (awaiting x (is_function h) (defined_in x.regions region m))) same
     ∙ ap (λ (o : Option Definition). is_some (awaiting x (is_function h) o)) is
     ∙ ap (λ c. is_some (if c then Some d.token else None)) (not_awaited (is_function h) (row_at x d.token) quiet)
@@ -308,33 +312,35 @@ some_if : (b : Bool) (n : ℕ) → is_some (if b then Some n else None) ≡ b
 some_if true n = refl
 some_if false n = refl
 
-abbrev kind_of : Bool → Heading → Bool
+abbrev kind_of : Bool → HeadingTree → Bool
 kind_of function h = if function then is_function h else not (is_function h)
 
 and_true : (b : Bool) → (b && true) ≡ b
 and_true true = refl
 and_true false = refl
 
-awaited_body : (k : Known) (region : ℕ) (q : Routine) (x : Known)
-    → Awaiting k region (routine_name q) (name_at k (routine_name q)) (is_function q.heading) x → (h : Heading) (body : RoutineBody)
+awaited_body : (k : Known) (region : ℕ) (q : RoutineTree) (x : Known)
+    → Awaiting k region (routine_name q) (name_at k (routine_name q)) (is_function (routine_heading q)) x → (h : HeadingTree) (body : BodyTree)
     → nat_eq (name_at k (routine_name q)) (name_at k (heading_name h)) ≡ true → is_some (completed_by x region h body)
-    ≡ (is_block body && kind_of (is_function q.heading) h && nat_eq (name_at k (routine_name q)) (name_at k (heading_name h)))
-awaited_body k region q x i h (Directive directive) named = refl
-awaited_body k region q x i h (Block' place b) named =
+    ≡ (is_block body && kind_of (is_function (routine_heading q)) h && nat_eq (name_at k (routine_name q)) (name_at k (heading_name h)))
+awaited_body k region q x i h (tree.a_directive directive) named = refl
+awaited_body k region q x i h (tree.a_block_body b) named =
     let one = same_spelling k x i.stays.words (heading_name h) ∙ sym (eqb-true (name_at k (routine_name q)) (name_at k (heading_name h)) named) in
-    ap is_some (completed_own x i h place b one) ∙ some_if (kind_of (is_function q.heading) h) (routine_name q)
-    ∙ sym (and_true (kind_of (is_function q.heading) h)) ∙ ap (λ c. kind_of (is_function q.heading) h && c) (sym named)
+    ap is_some (completed_own x i h b one) ∙ some_if (kind_of (is_function (routine_heading q)) h) (routine_name q)
+    ∙ sym (and_true (kind_of (is_function (routine_heading q)) h)) ∙ ap (λ c. kind_of (is_function (routine_heading q)) h && c) (sym named)
 
 -- whether it is completed, where the first heading waits
-awaited_by : (k : Known) (region : ℕ) (q r : Routine) (x : Known) → Awaiting k region (routine_name q) (name_at k (routine_name q)) (is_function q.heading) x
-    → nat_eq (name_at k (routine_name q)) (name_at k (routine_name r)) ≡ true → is_some (completed_by x region r.heading r.body) ≡ completes k q r
-awaited_by k region q r x i same = awaited_body k region q x i r.heading r.body same
+awaited_by : (k : Known) (region : ℕ) (q r : RoutineTree) (x : Known)
+    → Awaiting k region (routine_name q) (name_at k (routine_name q)) (is_function (routine_heading q)) x
+    → nat_eq (name_at k (routine_name q)) (name_at k (routine_name r)) ≡ true
+    → is_some (completed_by x region (routine_heading r) (routine_body r)) ≡ completes k q r
+awaited_by k region q r x i same = awaited_body k region q x i (routine_heading r) (routine_body r) same
 
 -- ---- the headings before one
 
-record Found (k : Known) (region : ℕ) (r : Routine) (rest : List Routine) (x : Known) : Type 0 where
+record Found (k : Known) (region : ℕ) (r : RoutineTree) (rest : List RoutineTree) (x : Known) : Type 0 where
   named : is_some (defined_in x.regions region (name_at k (routine_name r))) ≡ is_named k rest r
-  second : is_some (completed_by x region r.heading r.body) ≡ is_second k rest r
+  second : is_some (completed_by x region (routine_heading r) (routine_body r)) ≡ is_second k rest r
 
 and_false : (a b : Bool) → (a && (b && false)) ≡ false
 and_false true true = refl
@@ -346,60 +352,64 @@ and_same true = refl
 and_same false = refl
 
 -- the first heading of the name was met, and leads to these tables
-met : (k : Known) (region : ℕ) (r q : Routine) (qs : List Routine) (x : Known) → Base k region x
+met : (k : Known) (region : ℕ) (r q : RoutineTree) (qs : List RoutineTree) (x : Known) → Base k region x
     → nat_eq (name_at k (routine_name q)) (name_at k (routine_name r)) ≡ true
-    → Has region (name_at k (routine_name q)) (own_definition q.heading) x → (forward : Bool)
-    → (((Awaiting k region (routine_name q) (name_at k (routine_name q)) (is_function q.heading) x × (are_completing k q qs ≡ false)) × (forward ≡ true))
+    → Has region (name_at k (routine_name q)) (own_definition (routine_heading q)) x → (forward : Bool)
+    → (((Awaiting k region (routine_name q) (name_at k (routine_name q)) (is_function (routine_heading q)) x
+    × (are_completing k q qs ≡ false)) × (forward ≡ true))
     ⊎ (Quiet k region (routine_name q) x × ((forward ≡ false) ⊎ (are_completing k q qs ≡ true))))
-    → is_some (completed_by x region r.heading r.body) ≡ (forward && (completes k q r && not (are_completing k q qs)))
+    → is_some (completed_by x region (routine_heading r) (routine_body r)) ≡ (forward && (completes k q r && not (are_completing k q qs)))
 met k region r q qs x base same has forward (inl a) =
     awaited_by k region q r x a.0.0 same ∙ sym (ap (λ f. f && (completes k q r && not (are_completing k q qs))) a.1
     ∙ ap (λ c. true && (completes k q r && not c)) a.0.1 ∙ and_same (completes k q r))
 met k region r q qs x base same has forward (inr a) =
     let one = same_spelling k x base.words (routine_name r) ∙ sym (eqb-true (name_at k (routine_name q)) (name_at k (routine_name r)) same) in
-    settled x region r.heading r.body (name_at k (routine_name q)) (own_definition q.heading) one has.is a.0.quiet
+    settled x region (routine_heading r) (routine_body r) (name_at k (routine_name q)) (own_definition (routine_heading q)) one has.is a.0.quiet
     ∙ sym (elim a.1 [
       | inl none ↦ ap (λ f. f && (completes k q r && not (are_completing k q qs))) none
       | inr done ↦ ap (λ c. forward && (completes k q r && not c)) done ∙ and_false forward (completes k q r)
     ])
 
-news_turn : (k : Known) (region position : ℕ) (s : Routine) (j : Known) (rest : List Routine) → Each (λ (q : Routine). New k region (routine_name q) j) rest
-    → Each (λ (q : Routine). routine_name q ≡ routine_name s → ⊥) rest
-    → Each (λ (q : Routine). New k region (routine_name q) (define_routine region position s j).known) rest
+news_turn : (k : Known) (region position : ℕ) (s : RoutineTree) (j : Known) (rest : List RoutineTree)
+    → Each (λ (q : RoutineTree). New k region (routine_name q) j) rest
+    → Each (λ (q : RoutineTree). routine_name q ≡ routine_name s → ⊥) rest
+    → Each (λ (q : RoutineTree). New k region (routine_name q) (define_routine region position s j).known) rest
 news_turn k region position s j [] news apart = tt
 news_turn k region position s j (q ∷ qs) news apart = (
-  turn-keeps new-closed position s (λ e. apart.0 (sym e)) j (completed_elsewhere region (routine_name q) j news.0.elsewhere s.heading s.body) news.0,
+  turn-keeps new-closed position s (λ e. apart.0 (sym e)) j (completed_elsewhere region (routine_name q) j news.0.elsewhere (routine_heading s)
+      (routine_body s)) news.0,
   news_turn k region position s j qs news.1 apart.1,
 )
 
 -- what the first heading of the name leaves
-waiting_or_not : (k : Known) (region position : ℕ) (q : Routine) (qs : List Routine) (j : Known) → Base k region j → New k region (routine_name q) j
-    → Each (λ (s : Routine). routine_name s ≡ routine_name q → ⊥) qs → defined_in j.regions region (name_at j (routine_name q)) ≡ None
-    → (f : Bool) → has_forward k q.body ≡ f
+waiting_or_not : (k : Known) (region position : ℕ) (q : RoutineTree) (qs : List RoutineTree) (j : Known) → Base k region j → New k region (routine_name q) j
+    → Each (λ (s : RoutineTree). routine_name s ≡ routine_name q → ⊥) qs → defined_in j.regions region (name_at j (routine_name q)) ≡ None
+    → (f : Bool) → has_forward k (routine_body q) ≡ f
     → let d = define_routine region position q j in let x = (each (define_routine region) d.value qs d.known).known in
-    ((Awaiting k region (routine_name q) (name_at k (routine_name q)) (is_function q.heading) x × (are_completing k q qs ≡ false)) × (f ≡ true))
+    ((Awaiting k region (routine_name q) (name_at k (routine_name q)) (is_function (routine_heading q)) x
+    × (are_completing k q qs ≡ false)) × (f ≡ true))
     ⊎ (Quiet k region (routine_name q) x × ((f ≡ false) ⊎ (are_completing k q qs ≡ true)))
 unfolding define_routine look give ◌>>=◌
 waiting_or_not k region position q qs j base new apart none false lacks =
     let d = define_routine region position q j in
-    inr (quiet_after qs d.value d.known apart (quiet_turn j position q.heading q.body new lacks), inl refl)
+    inr (quiet_after qs d.value d.known apart (quiet_turn j position (routine_heading q) (routine_body q) new lacks), inl refl)
 waiting_or_not k region position q qs j base new apart none true forward =
     let d = define_routine region position q j in
-    let done = complete_or_define (completed_by j region q.heading q.body) region position q.heading q.body j in
-    let P : ℕ → Type 0 = λ m. Turned k region (routine_name q) m (is_function q.heading) done.known done.broken in
-    let t = subst P (same_spelling k j base.words (routine_name q)) (own_turn j position q.heading q.body new forward) in
+    let done = complete_or_define (completed_by j region (routine_heading q) (routine_body q)) region position (routine_heading q) (routine_body q) j in
+    let P : ℕ → Type 0 = λ m. Turned k region (routine_name q) m (is_function (routine_heading q)) done.known done.broken in
+    let t = subst P (same_spelling k j base.words (routine_name q)) (own_turn j position (routine_heading q) (routine_body q) new forward) in
     elim t [
-      | inl a ↦ elim (waits_or_not k region (routine_name q) (name_at k (routine_name q)) (is_function q.heading) qs d.value done.known apart a.0) [
+      | inl a ↦ elim (waits_or_not k region (routine_name q) (name_at k (routine_name q)) (is_function (routine_heading q)) qs d.value done.known apart a.0) [
         | inl w ↦ inl (w, refl)
         | inr w ↦ inr (w.0, inr w.1)
       ]
       | inr l ↦
-          let told = (told_found region position q.heading q.body j (completed_by j region q.heading q.body)).0 l.1 in
+          let told = (told_found region position (routine_heading q) (routine_body q) j (completed_by j region (routine_heading q) (routine_body q))).0 l.1 in
           absurd (let never : false ≡ true = sym (ap is_some none) ∙ told.1 in cc)
     ]
 
-step : (k : Known) (region position : ℕ) (r q : Routine) (qs : List Routine) (j : Known) → Base k region j → New k region (routine_name q) j
-    → Each (λ (s : Routine). routine_name s ≡ routine_name q → ⊥) qs → defined_in j.regions region (name_at k (routine_name r)) ≡ None
+step : (k : Known) (region position : ℕ) (r q : RoutineTree) (qs : List RoutineTree) (j : Known) → Base k region j → New k region (routine_name q) j
+    → Each (λ (s : RoutineTree). routine_name s ≡ routine_name q → ⊥) qs → defined_in j.regions region (name_at k (routine_name r)) ≡ None
     → let d = define_routine region position q j in let x = (each (define_routine region) d.value qs d.known).known in
     (defined_in d.known.regions region (name_at k (routine_name r)) ≡ None → Found k region r qs x)
     → (b : Bool) → nat_eq (name_at k (routine_name q)) (name_at k (routine_name r)) ≡ b → Found k region r (q ∷ qs) x
@@ -409,7 +419,8 @@ step k region position r q qs j base new apart none later false other =
     let f = later (undefined_turn region position q j (name_at k (routine_name r)) base.there (λ e. differs (sym nj ∙ sym e)) none) in
     record {
       named = f.named ∙ sym (ap (λ b. b || is_named k qs r) other);
-      second = f.second ∙ sym (ap (λ b. if b then has_forward k q.body && (completes k q r && not (are_completing k q qs)) else is_second k qs r) other);
+      second =
+          f.second ∙ sym (ap (λ b. if b then has_forward k (routine_body q) && (completes k q r && not (are_completing k q qs)) else is_second k qs r) other);
     }
 step k region position r q qs j base new apart none later true same =
     let e = eqb-true (name_at k (routine_name q)) (name_at k (routine_name r)) same in
@@ -417,30 +428,30 @@ step k region position r q qs j base new apart none later true same =
     let d = define_routine region position q j in
     let x = (each (define_routine region) d.value qs d.known).known in
     let undefined : defined_in j.regions region (name_at j (routine_name q)) ≡ None = ap (defined_in j.regions region) (nj ∙ e) ∙ none in
-    let own = own_definition q.heading in
+    let own = own_definition (routine_heading q) in
     let here : Has region (name_at k (routine_name q)) own d.known = record {
       there = (base_turn k region position q j base).there;
       is = ap (defined_in d.known.regions region) (sym nj) ∙ defined_turn region position q j base.there undefined;
     } in
     let has = has_after region (name_at k (routine_name q)) own qs d.value d.known here in
     let all = base_after k region qs d.value d.known (base_turn k region position q j base) in
-    let status = waiting_or_not k region position q qs j base new apart undefined (has_forward k q.body) refl in
+    let status = waiting_or_not k region position q qs j base new apart undefined (has_forward k (routine_body q)) refl in
     record {
       named = ap (λ m. is_some (defined_in x.regions region m)) (sym e) ∙ ap is_some has.is ∙ sym (ap (λ b. b || is_named k qs r) same);
-      second = met k region r q qs x all same has (has_forward k q.body) status
-          ∙ sym (ap (λ b. if b then has_forward k q.body && (completes k q r && not (are_completing k q qs)) else is_second k qs r) same);
+      second = met k region r q qs x all same has (has_forward k (routine_body q)) status
+          ∙ sym (ap (λ b. if b then has_forward k (routine_body q) && (completes k q r && not (are_completing k q qs)) else is_second k qs r) same);
     }
 
-none_before : (k : Known) (region : ℕ) (r : Routine) (j : Known) → Base k region j → defined_in j.regions region (name_at k (routine_name r)) ≡ None
+none_before : (k : Known) (region : ℕ) (r : RoutineTree) (j : Known) → Base k region j → defined_in j.regions region (name_at k (routine_name r)) ≡ None
     → Found k region r [] j
 none_before k region r j base none = record {
   named = ap is_some none;
-  second = ap is_some (uncompleted r.heading r.body j region
+  second = ap is_some (uncompleted (routine_heading r) (routine_body r) j region
       (ap (defined_in j.regions region) (same_spelling k j base.words (routine_name r)) ∙ none));
 }
 
-search : (k : Known) (region : ℕ) (r : Routine) (rest : List Routine) (position : ℕ) (j : Known) → Base k region j
-    → defined_in j.regions region (name_at k (routine_name r)) ≡ None → Each (λ (q : Routine). New k region (routine_name q) j) rest → DifferAll rest
+search : (k : Known) (region : ℕ) (r : RoutineTree) (rest : List RoutineTree) (position : ℕ) (j : Known) → Base k region j
+    → defined_in j.regions region (name_at k (routine_name r)) ≡ None → Each (λ (q : RoutineTree). New k region (routine_name q) j) rest → DifferAll rest
     → Found k region r rest (each (define_routine region) position rest j).known
 unfolding ◌>>=◌ give
 search k region r [] position j base none news differ = none_before k region r j base none
@@ -454,11 +465,11 @@ search k region r (q ∷ qs) position j base none news differ =
 
 -- ---- the law
 
-news_of : (k : Known) (region : ℕ) (rs : List Routine) → region < length k.regions → All (λ q. IsNew k region (routine_name q)) rs
-    → Each (λ (q : Routine). New k region (routine_name q) k) rs
+news_of : (k : Known) (region : ℕ) (rs : List RoutineTree) → region < length k.regions → All (λ q. IsNew k region (routine_name q)) rs
+    → Each (λ (q : RoutineTree). New k region (routine_name q) k) rs
 news_of k region [] there news = tt
 news_of k region (q ∷ qs) there news =
-    let P : Routine → Type 0 = λ s. IsNew k region (routine_name s) in
+    let P : RoutineTree → Type 0 = λ s. IsNew k region (routine_name s) in
     let new = All-head P q qs news in (
       record {
         stays = record { words = refl; names = refl; region_there = there; row_there = new.row };
@@ -468,15 +479,15 @@ news_of k region (q ∷ qs) there news =
       news_of k region qs there (All-tail P q qs news),
     )
 
-old_apart : (k : Known) (region name : ℕ) (d : Definition) (rs : List Routine) → All (λ q. IsNew k region (routine_name q)) rs
-    → defined_in k.regions region name ≡ Some d → Each (λ (q : Routine). routine_name q ≡ d.token → ⊥) rs
+old_apart : (k : Known) (region name : ℕ) (d : Definition) (rs : List RoutineTree) → All (λ q. IsNew k region (routine_name q)) rs
+    → defined_in k.regions region name ≡ Some d → Each (λ (q : RoutineTree). routine_name q ≡ d.token → ⊥) rs
 old_apart k region name d [] news e = tt
 old_apart k region name d (q ∷ qs) news e =
-    let P : Routine → Type 0 = λ s. IsNew k region (routine_name s) in
+    let P : RoutineTree → Type 0 = λ s. IsNew k region (routine_name s) in
     ((λ same. (All-head P q qs news).undefined name d e (sym same)), old_apart k region name d qs (All-tail P q qs news) e)
 
 -- what is told at the heading's own turn
-own_told : (k : Known) (region : ℕ) (before : List Routine) (r : Routine) (after : List Routine) → IsPartBegun k region before r after
+own_told : (k : Known) (region : ℕ) (before : List RoutineTree) (r : RoutineTree) (after : List RoutineTree) → IsPartBegun k region before r after
     → (o : Option Definition) → defined_in k.regions region (name_at k (routine_name r)) ≡ o
     → let x = (each (define_routine region) 0 before k).known in let position = (each (define_routine region) 0 before k).value in
     let bs = (define_routine region position r x).broken in
@@ -492,7 +503,7 @@ own_told k region before r after begun (Some d) e =
     let quiet = quiet_after {k0 = k} before 0 k (old_apart k region name d before begun.new e)
     (record { stays = record { words = refl; names = refl; region_there = begun.there; row_there = old.row }; quiet = old.quiet }) in
     let t = told_turn region position r x in
-    let alone = settled x region r.heading r.body name d same has.is quiet.quiet in
+    let alone = settled x region (routine_heading r) (routine_body r) name d same has.is quiet.quiet in
     let some : is_some (defined_in x.regions region (name_at x (routine_name r))) ≡ true
     = ap (λ m. is_some (defined_in x.regions region m)) same ∙ ap is_some has.is in
     ((λ i. inl (ap is_some e)), (λ w. t.1 (alone, some)))
@@ -513,9 +524,12 @@ own_told k region before r after begun None e =
       ]),
     )
 
-pub second_law : PartsTellSecondHeadings
+-- the same of the list of the routines
+listed_law : (k : Known) (region : ℕ) (before : List RoutineTree) (r : RoutineTree) (after : List RoutineTree)
+    → IsPartBegun k region before r after
+    → Contains (part_steps region (before ++ r ∷ after) k).broken (broken_at 2 (routine_name r)) ↔ IsDefinedAgain k region before r
 unfolding ◌>>=◌ give
-second_law k region before r after begun =
+listed_law k region before r after begun =
     let n = routine_name r in
     let rs = before ++ r ∷ after in
     let b = broken_at 2 n in
@@ -523,7 +537,7 @@ second_law k region before r after begun =
     let d = define_routine region first.value r first.known in
     let a = each (define_routine region) d.value after d.known in
     let whole = each (define_routine region) 0 rs k in
-    let told = each has_block tt rs whole.known in
+    let told = each has_each tt rs whole.known in
     let broken : whole.broken ≡ first.broken ++ (d.broken ++ a.broken) = each_broken (define_routine region) 0 before (r ∷ after) k in
     let no_first : In b first.broken → ⊥ = λ i. of_each (Misses 2 n) b first.broken
     (turns_only (Misses 2 n) region before 0 k (all_no_two n before (apart_of n before begun.one.others_before))) i refl in
@@ -544,3 +558,8 @@ second_law k region before r after begun =
       (λ w. contained b (whole.broken ++ told.broken) (in_left b whole.broken told.broken
           (subst (λ (bs : List Break). In b bs) (sym broken) (in_right b first.broken (d.broken ++ a.broken) (in_left b d.broken a.broken (own.1 w)))))),
     )
+
+pub second_law : PartsTellSecondHeadings
+second_law k region rs before r after same begun =
+    let P : Step (Unit {0}) → Type 0 = λ m. Contains (m k).broken (broken_at 2 (routine_name r)) ↔ IsDefinedAgain k region before r in
+    subst P (sym (part_listed region rs ∙ ap (part_steps region) same)) (listed_law k region before r after begun)

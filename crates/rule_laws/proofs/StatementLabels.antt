@@ -1,16 +1,17 @@
 -- What the steps of `Rattle.statement_checker.specs.Labels` touch.
 use Rattle.std.proofs.Common.{◌+◌, ◌-◌, ◌≡◌, ℕ, None, Option, Some, false, min, nat_lt, refl}
-use Rattle.pas_tree.specs.Statements.{label_node, next_statement_node, statements_node}
-use Rattle.pas_tree.specs.declared.statements.{Label.Label, NextStatement.NextStatement, Statements.Statements, Statements.out-Statements}
+use Rattle.pas_tree.specs.{StatementTrees.StatementTree, StatementTrees.StatementTrees, StatementTrees.StatementsTree, Statements.label_node}
+use Rattle.pas_tree.specs.{TreeNodes.more_statements_node, TreeNodes.statement_node, TreeNodes.statements_node, declared.statements.Label.Label}
+use Rattle.pas_tree.specs.StatementTrees as tree
 use Rattle.core_program.specs.declared.rows.{Row.Row, StatementRow.StatementRow}
 use Rattle.check_steps.specs.{Known.Known, Known.label_at, declared.breaks.Break.Break}
 use Rattle.check_steps.specs.Steps.{◌>>=◌, Step, ask, change, give, late, look}
 use Rattle.statement_checker.specs.Labels.{each_label, is_unmarked, jump, label_of, labelled, leave, leave_all, levels_in, mark, marked_label, on_label}
-use Rattle.statement_checker.specs.Labels.{on_next, own_label, put_label, reach_all, reach_label, row_of, ways_in, with_ways}
+use Rattle.statement_checker.specs.Labels.{on_others, on_statement, own_label, put_label, reach_all, reach_label, row_of, ways_in, with_ways}
 use Rattle.statement_checker.specs.Sequences.{line_of}
-use Rattle.rule_laws.proofs.{Breaks.Each, Breaks.both, Every.Every, Every.Of, Parts.statements-in, StatementSequences.stated-touches, Touches.same_in}
+use Rattle.rule_laws.proofs.{Breaks.Each, Breaks.both, Every.Every, Every.Of, StatementSequences.stated-touches}
 use Rattle.rule_laws.proofs.Faces.{Shown, Shows, mark_shows, ways_show}
-use Rattle.rule_laws.proofs.Touches.{Same, Told, Touches, bind-touches, each-touches, give-touches, label-touches, late-touches, look-touches, same_changed}
+use Rattle.rule_laws.proofs.Touches.{Same, Told, Touches, bind-touches, give-touches, label-touches, late-touches, look-touches, same_changed, same_in}
 
 -- a row that is changed where the tables say, in what it does not show
 changed_there : {Q : ℕ → Type 0} {strict : Shown} (x : Option ℕ) (g : Row → Row) → Shows strict g
@@ -47,22 +48,26 @@ pub on_label-touches : {Q : ℕ → Type 0} {strict : Shown} (f : (ℕ → Step 
 on_label-touches f None f-in label-in = give-touches tt
 on_label-touches f (Some l) f-in label-in = f-in l.number label-in.0
 
-pub on_next-touches : {Q : ℕ → Type 0} {strict : Shown} (f : (ℕ → Step (Unit {0}))) (u : Unit {0}) (n : NextStatement)
-    → ((t : ℕ) → Of Q t → Touches Q strict (f t))
-    → Every Q (next_statement_node n) → Touches Q strict (on_next f u n)
-unfolding on_next
-on_next-touches f u n f-in n-in = on_label-touches f n.statement.label f-in n-in.1.0
+pub on_statement-touches : {Q : ℕ → Type 0} {strict : Shown} (f : (ℕ → Step (Unit {0}))) (s : StatementTree) → ((t : ℕ) → Of Q t → Touches Q strict (f t))
+    → Every Q (statement_node s) → Touches Q strict (on_statement f s)
+on_statement-touches f (tree.a_statement label plain) f-in s-in = on_label-touches f label f-in s-in.0
 
-pub each_label-touches : {Q : ℕ → Type 0} {strict : Shown} (f : (ℕ → Step (Unit {0}))) (s : Statements) → ((t : ℕ) → Of Q t → Touches Q strict (f t))
+pub on_others-touches : {Q : ℕ → Type 0} {strict : Shown} (f : (ℕ → Step (Unit {0}))) (rest : StatementTrees) → ((t : ℕ) → Of Q t → Touches Q strict (f t))
+    → Every Q (more_statements_node rest) → Touches Q strict (on_others f rest)
+on_others-touches f tree.end_of_statements f-in rest-in = give-touches tt
+on_others-touches f (tree.more_statements semicolon s rest) f-in rest-in =
+    bind-touches (on_statement-touches f s f-in rest-in.0.1) (λ _. on_others-touches f rest f-in rest-in.1)
+
+pub each_label-touches : {Q : ℕ → Type 0} {strict : Shown} (f : (ℕ → Step (Unit {0}))) (s : StatementsTree) → ((t : ℕ) → Of Q t → Touches Q strict (f t))
     → Every Q (statements_node s) → Touches Q strict (each_label f s)
-each_label-touches {Q = Q} f s f-in s-in = bind-touches (on_label-touches f (out-Statements s).first.label f-in (statements-in Q s s-in).label) (λ _.
-    each-touches (on_next f) next_statement_node (λ a x h. on_next-touches f a x f-in h) tt (out-Statements s).others.items (statements-in Q s s-in).others)
+each_label-touches f (tree.statement_sequence first others) f-in s-in =
+    bind-touches (on_statement-touches f first f-in s-in.0) (λ _. on_others-touches f others f-in s-in.1)
 
-pub reach_all-touches : {Q : ℕ → Type 0} {strict : Shown} (frame : ℕ) (s : Statements) → Every Q (statements_node s) → Touches Q strict (reach_all frame s)
+pub reach_all-touches : {Q : ℕ → Type 0} {strict : Shown} (frame : ℕ) (s : StatementsTree) → Every Q (statements_node s) → Touches Q strict (reach_all frame s)
 unfolding reach_all
 reach_all-touches frame s s-in = each_label-touches (reach_label frame) s (λ x h. reach_label-touches frame x) s-in
 
-pub leave_all-touches : {Q : ℕ → Type 0} {strict : Shown} (frame : ℕ) (s : Statements) → Every Q (statements_node s) → Touches Q strict (leave_all frame s)
+pub leave_all-touches : {Q : ℕ → Type 0} {strict : Shown} (frame : ℕ) (s : StatementsTree) → Every Q (statements_node s) → Touches Q strict (leave_all frame s)
 unfolding leave_all
 leave_all-touches frame s s-in = each_label-touches (leave frame) s (λ x h. leave-touches frame x) s-in
 

@@ -1,15 +1,16 @@
 -- At which tokens the headings of a part break rules.
 use Rattle.std.proofs.Common.{◌+◌, ◌≡◌, ℕ, Bool, None, Option, Some, ap, arith, false, is_none, min, not, true}
-use Rattle.pas_tree.specs.HeadingPlaces.{heading_name}
-use Rattle.pas_tree.specs.declared.blocks.{Routine.Routine, RoutineBody.Block', RoutineBody.Directive, RoutineBody.RoutineBody}
-use Rattle.pas_tree.specs.declared.headings.{Formals.Formals, Heading.Heading, ResultType.ResultType}
+use Rattle.pas_tree.specs.{HeadingPlaces.heading_name, HeadingTrees.HeadingTree, HeadingTrees.HeldFormals, declared.headings.ResultType.ResultType}
+use Rattle.pas_tree.specs.BlockTrees.{BodyTree, RoutineTree, routine_body, routine_heading}
+use Rattle.pas_tree.specs.BlockTrees as tree
+use Rattle.pas_tree.specs.HeadingTrees as headings
 use Rattle.check_steps.specs.{Breaks.number, Known.Known, Known.name_at, Known.row_at, Names.define_in, Regions.defined_in}
 use Rattle.check_steps.specs.Steps.{◌>>=◌, Step, ask, change, give, look, when}
 use Rattle.check_steps.specs.declared.breaks.{Break.Break, Broken.Broken, Broken.TheVariants.Early}
 use Rattle.check_steps.specs.declared.regions.{Def.Def, Definition.Definition}
 use Rattle.denoter_checker.specs.Formals.{formals_of, is_complete, opening_parenthesis, result_of}
 use Rattle.denoter_checker.specs.RoutineParts.{complete_or_define, completed_by, completing, define_heading, define_routine, defining, directed, directive_in}
-use Rattle.denoter_checker.specs.RoutineParts.{has_block, is_forward, is_waiting, no_formals, no_result, routine_name}
+use Rattle.denoter_checker.specs.RoutineParts.{has_block, is_forward, is_waiting, no_result, routine_name, without_formals}
 use Rattle.rule_laws.proofs.Breaks.{Each, both}
 use Rattle.rule_laws.specs.Laws.{broken_at}
 
@@ -62,51 +63,51 @@ unfolding define_in
 define_in-only region d twice = bind-only (look-only (λ k. name_at k d.token)) (λ name. bind-only (look-only (λ k. defined_in k.regions region name))
     (λ held. bind-only (ask-only (Early 2) d.token (is_none held) twice) (λ _. when-only (is_none held) (change-only _))))
 
-define_heading-only : {P : Break → Type 0} (region : ℕ) (h : Heading) → Allows P (heading_name h) → Only P (define_heading region h)
+define_heading-only : {P : Break → Type 0} (region : ℕ) (h : HeadingTree) → Allows P (heading_name h) → Only P (define_heading region h)
 unfolding define_heading
 define_heading-only region h a =
     bind-only (define_in-only region (record { def = Def.Routine (heading_name h); token = heading_name h; end = heading_name h }) a.twice)
     (λ _. ask-only (Early 9) (heading_name h) (is_complete h) (nine a (heading_name h)))
 
-pub directed-only : {P : Break → Type 0} {name : ℕ} → Allows P name → (h : Heading) (directive : ℕ) → Only P (directed h directive)
+pub directed-only : {P : Break → Type 0} {name : ℕ} → Allows P name → (h : HeadingTree) (directive : ℕ) → Only P (directed h directive)
 unfolding directed
 directed-only a h directive = bind-only (look-only (λ k. is_forward k directive)) (λ forward.
     bind-only (ask-only (Early 10) directive forward (ten a directive)) (λ _. when-only forward (change-only _)))
 
-pub directive_in-only : {P : Break → Type 0} {name : ℕ} → Allows P name → (h : Heading) (body : RoutineBody) → Only P (directive_in h body)
-directive_in-only a h (Directive directive) = directed-only a h directive
-directive_in-only a h (Block' _ b) = give-only tt
+pub directive_in-only : {P : Break → Type 0} {name : ℕ} → Allows P name → (h : HeadingTree) (body : BodyTree) → Only P (directive_in h body)
+directive_in-only a h (tree.a_directive directive) = directed-only a h directive
+directive_in-only a h (tree.a_block_body b) = give-only tt
 
-no_formals-only : {P : Break → Type 0} {name : ℕ} → Allows P name → (formals : Option Formals) → Only P (no_formals formals)
-no_formals-only a None = give-only tt
-no_formals-only a (Some f) = ask-only (Early 9) (opening_parenthesis f) false (nine a (opening_parenthesis f))
+without_formals-only : {P : Break → Type 0} {name : ℕ} → Allows P name → (formals : HeldFormals) → Only P (without_formals formals)
+without_formals-only a headings.without_formals = give-only tt
+without_formals-only a (headings.some_formals f) = ask-only (Early 9) (opening_parenthesis f) false (nine a (opening_parenthesis f))
 
 no_result-only : {P : Break → Type 0} {name : ℕ} → Allows P name → (result : Option ResultType) → Only P (no_result result)
 no_result-only a None = give-only tt
 no_result-only a (Some r) = ask-only (Early 9) r.colon false (nine a r.colon)
 
-pub completing-only : {P : Break → Type 0} {name : ℕ} → Allows P name → (first position : ℕ) (h : Heading) → Only P (completing first position h)
+pub completing-only : {P : Break → Type 0} {name : ℕ} → Allows P name → (first position : ℕ) (h : HeadingTree) → Only P (completing first position h)
 unfolding completing
-completing-only a first position h = bind-only (no_formals-only a (formals_of h)) (λ _. bind-only (no_result-only a (result_of h)) (λ _.
+completing-only a first position h = bind-only (without_formals-only a (formals_of h)) (λ _. bind-only (no_result-only a (result_of h)) (λ _.
     bind-only (change-only _) (λ _. change-only _)))
 
-defining-only : {P : Break → Type 0} (region : ℕ) (h : Heading) (body : RoutineBody) → Allows P (heading_name h) → Only P (defining region h body)
+defining-only : {P : Break → Type 0} (region : ℕ) (h : HeadingTree) (body : BodyTree) → Allows P (heading_name h) → Only P (defining region h body)
 unfolding defining
 defining-only region h body a = bind-only (define_heading-only region h a) (λ _. directive_in-only a h body)
 
-as_found-only : {P : Break → Type 0} (o : Option ℕ) (region position : ℕ) (h : Heading) (body : RoutineBody) → Allows P (heading_name h)
+as_found-only : {P : Break → Type 0} (o : Option ℕ) (region position : ℕ) (h : HeadingTree) (body : BodyTree) → Allows P (heading_name h)
     → Only P (complete_or_define o region position h body)
 as_found-only None region position h body a = defining-only region h body a
 as_found-only (Some first) region position h body a = completing-only a first position h
 
-pub turn-only : {P : Break → Type 0} (region position : ℕ) (r : Routine) → Allows P (routine_name r) → Only P (define_routine region position r)
+pub turn-only : {P : Break → Type 0} (region position : ℕ) (r : RoutineTree) → Allows P (routine_name r) → Only P (define_routine region position r)
 unfolding define_routine
-turn-only region position r a = bind-only (look-only (λ k. completed_by k region r.heading r.body)) (λ first.
-    bind-only (as_found-only first region position r.heading r.body a) (λ _. give-only (min (position + 1) 4294967295)))
+turn-only region position r a = bind-only (look-only (λ k. completed_by k region (routine_heading r) (routine_body r))) (λ first.
+    bind-only (as_found-only first region position (routine_heading r) (routine_body r) a) (λ _. give-only (min (position + 1) 4294967295)))
 
-pub has_block-only : {P : Break → Type 0} (u : Unit {0}) (r : Routine) → P (broken_at 8 (routine_name r)) → Only P (has_block u r)
+pub has_block-only : {P : Break → Type 0} (r : RoutineTree) → P (broken_at 8 (routine_name r)) → Only P (has_block r)
 unfolding has_block
-has_block-only u r eighth = bind-only (look-only (λ k. is_waiting (row_at k (routine_name r)))) (λ waiting.
+has_block-only r eighth = bind-only (look-only (λ k. is_waiting (row_at k (routine_name r)))) (λ waiting.
     ask-only (Early 8) (routine_name r) (not waiting) eighth)
 
 -- ---- what is not broken at a token

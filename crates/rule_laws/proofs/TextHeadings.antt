@@ -2,8 +2,9 @@
 use Rattle.std.proofs.Common.{if◌then◌else◌, ◌++◌, ◌<◌, ◌∙◌, ◌∷◌, ◌≡◌, ◌≤◌, ◌⊎◌, [], ℕ, Bool, List, None, Option, Some, ap, arith, false, inl, inr, length}
 use Rattle.std.proofs.Common.{nat_eq, refl, set, subst, suc, sym, true, zero}
 use Rattle.std.{proofs.lemmas.Bool.eqb-true, proofs.lemmas.Option.none-some, proofs.lemmas.Option.same_Some, specs.Map.lookup}
-use Rattle.pas_tree.specs.{HeadingPlaces.heading_name, declared.headings.Heading.Heading}
-use Rattle.pas_tree.specs.declared.blocks.{Block.Block, Routine.Routine, RoutineBody.Block', RoutineBody.Directive, RoutineBody.RoutineBody}
+use Rattle.pas_tree.specs.{HeadingPlaces.heading_name, HeadingTrees.HeadingTree}
+use Rattle.pas_tree.specs.BlockTrees.{BlockTree, BodyTree, RoutineTree, routine_body, routine_heading}
+use Rattle.pas_tree.specs.BlockTrees as tree
 use Rattle.core_program.specs.declared.rows.{PartRow.PartRow, Row.Row}
 use Rattle.check_steps.specs.Known.{Known, and_definition, and_label, and_region, name_at, row_at, with_row}
 use Rattle.check_steps.specs.Regions.{RegionRows, defined_in, fresh_region, region_at}
@@ -68,25 +69,25 @@ region_defined j token f r n e found = elim (region_more j.regions r (fresh_regi
 -- ---- headings
 
 -- A forward heading of the text has the name at this token, so the name is not one of those that no directive follows.
-pub record IsForwardName (k : Known) (b : Block) (n : ℕ) : Type 0 where
+pub record IsForwardName (k : Known) (b : BlockTree) (n : ℕ) : Type 0 where
   pub spelled : n < length k.words
   pub directed : IsNeverForward k b (name_at k n) → ⊥
 
 -- a procedure or function of the text
-pub record IsOfText (k : Known) (b : Block) (r : Routine) : Type 0 where
+pub record IsOfText (k : Known) (b : BlockTree) (r : RoutineTree) : Type 0 where
   pub spelled : routine_name r < length k.words
-  pub directed : is_block r.body ≡ false → IsNeverForward k b (name_at k (routine_name r)) → ⊥
+  pub directed : is_block (routine_body r) ≡ false → IsNeverForward k b (name_at k (routine_name r)) → ⊥
 
 -- Definitions stand under their tokens' names, but for the required ones. Rows of forward headings, and of those that
 -- complete them, stand at names of forward headings.
-pub record Sound (k : Known) (b : Block) (j : Known) : Type 0 where
+pub record Sound (k : Known) (b : BlockTree) (j : Known) : Type 0 where
   pub words : j.words ≡ k.words
   pub own : (r n : ℕ) (d : Definition) → defined_in j.regions r n ≡ Some d → (name_at k d.token ≡ n) ⊎ (length k.words ≤ d.token)
   pub forward : (n : ℕ) (function : Bool) (block : Option ℕ) → row_at j n ≡ Row.Part (PartRow.Forward function block) → IsForwardName k b n
   pub completing : (n first : ℕ) → row_at j n ≡ Row.Part (PartRow.Completing first) → IsNeverForward k b (name_at k n) → ⊥
 
 -- the same definitions and rows
-alike : (k : Known) (b : Block) (j i : Known) → i.words ≡ j.words
+alike : (k : Known) (b : BlockTree) (j i : Known) → i.words ≡ j.words
     → ((r n : ℕ) (d : Definition) → defined_in i.regions r n ≡ Some d → defined_in j.regions r n ≡ Some d)
     → ((n : ℕ) → row_at i n ≡ row_at j n) → Sound k b j → Sound k b i
 alike k b j i words defined rows s = record {
@@ -96,7 +97,7 @@ alike k b j i words defined rows s = record {
   completing = λ n first e. s.completing n first (sym (rows n) ∙ e);
 }
 
-put_sound : (k : Known) (b : Block) (j : Known) (m : ℕ) (r : Row)
+put_sound : (k : Known) (b : BlockTree) (j : Known) (m : ℕ) (r : Row)
     → ((function : Bool) (block : Option ℕ) → r ≡ Row.Part (PartRow.Forward function block) → IsForwardName k b m)
     → ((first : ℕ) → r ≡ Row.Part (PartRow.Completing first) → IsNeverForward k b (name_at k m) → ⊥)
     → Sound k b j → Sound k b (with_row j m r)
@@ -135,11 +136,11 @@ awaited : (function : Bool) (r : Row) → awaits function r ≡ true → Awaited
 awaited function (Row.Part (PartRow.Forward kind None)) e = record { kind = kind; is = refl }
 awaited function r e = absurd (let never : false ≡ true = e in cc)
 
-record Found (j : Known) (function : Bool) (o : Option Definition) (first : ℕ) : Type 0 where
-  d : Definition
-  is : o ≡ Some d
-  token : d.token ≡ first
-  waiting : awaits function (row_at j first) ≡ true
+pub record Found (j : Known) (function : Bool) (o : Option Definition) (first : ℕ) : Type 0 where
+  pub d : Definition
+  pub is : o ≡ Some d
+  pub token : d.token ≡ first
+  pub waiting : awaits function (row_at j first) ≡ true
 
 if_awaits : (j : Known) (function : Bool) (d : Definition) (first : ℕ) (t : Bool) → awaits function (row_at j d.token) ≡ t
     → (if t then Some d.token else None) ≡ Some first → Found j function (Some d) first
@@ -155,24 +156,25 @@ found_by : (j : Known) (function : Bool) (o : Option Definition) (first : ℕ) �
 found_by j function None first e = absurd (none-some first e)
 found_by j function (Some d) first e = if_awaits j function d first (awaits function (row_at j d.token)) refl e
 
-completed_found : (j : Known) (region : ℕ) (h : Heading) (body : RoutineBody) (first : ℕ) → completed_by j region h body ≡ Some first
+pub completed_found : (j : Known) (region : ℕ) (h : HeadingTree) (body : BodyTree) (first : ℕ) → completed_by j region h body ≡ Some first
     → Found j (is_function h) (defined_in j.regions region (name_at j (heading_name h))) first
-completed_found j region h (Directive directive) first e = absurd (none-some first e)
-completed_found j region h (Block' _ b) first e = found_by j (is_function h) (defined_in j.regions region (name_at j (heading_name h))) first e
+completed_found j region h (tree.a_directive directive) first e = absurd (none-some first e)
+completed_found j region h (tree.a_block_body b) first e = found_by j (is_function h) (defined_in j.regions region (name_at j (heading_name h))) first e
 
 pub spelled_as : (k j : Known) (n : ℕ) → j.words ≡ k.words → name_at j n ≡ name_at k n
 spelled_as k j n words = ap (λ (ws : List SpelledToken). name_at (record k { words = ws }) n) words
 
 -- the heading that is completed has the name of the one that completes it
-pub record Completed (k : Known) (b : Block) (r : Routine) (first : ℕ) : Type 0 where
+pub record Completed (k : Known) (b : BlockTree) (r : RoutineTree) (first : ℕ) : Type 0 where
   pub forward : IsForwardName k b first
   pub same : name_at k first ≡ name_at k (routine_name r)
 
-pub completion_sound : (k : Known) (b : Block) (j : Known) (region first : ℕ) (r : Routine) → completed_by j region r.heading r.body ≡ Some first
+pub completion_sound : (k : Known) (b : BlockTree) (j : Known) (region first : ℕ) (r : RoutineTree)
+    → completed_by j region (routine_heading r) (routine_body r) ≡ Some first
     → Sound k b j → Completed k b r first
 completion_sound k b j region first r e s =
-    let f = completed_found j region r.heading r.body first e in
-    let row = awaited (is_function r.heading) (row_at j first) f.waiting in
+    let f = completed_found j region (routine_heading r) (routine_body r) first e in
+    let row = awaited (is_function (routine_heading r)) (row_at j first) f.waiting in
     let forward = s.forward first row.kind None row.is in
     record {
       forward = forward;
@@ -188,21 +190,22 @@ row_completing function position first e = cc
 row_forward : (first : ℕ) (function : Bool) (block : Option ℕ) → Row.Part (PartRow.Completing first) ≡ Row.Part (PartRow.Forward function block) → ⊥
 row_forward first function block e = cc
 
-complete_sound : (k : Known) (b : Block) (j : Known) (region first position : ℕ) (r : Routine) → completed_by j region r.heading r.body ≡ Some first
-    → Sound k b j → Sound k b (with_completion j first position (is_function r.heading) (routine_name r))
+complete_sound : (k : Known) (b : BlockTree) (j : Known) (region first position : ℕ) (r : RoutineTree)
+    → completed_by j region (routine_heading r) (routine_body r) ≡ Some first
+    → Sound k b j → Sound k b (with_completion j first position (is_function (routine_heading r)) (routine_name r))
 complete_sound k b j region first position r e s =
     let c = completion_sound k b j region first r e s in
-    let row = Row.Part (PartRow.Forward (is_function r.heading) (Some position)) in
+    let row = Row.Part (PartRow.Forward (is_function (routine_heading r)) (Some position)) in
     put_sound k b (with_row j first row) (routine_name r) (Row.Part (PartRow.Completing first))
     (λ function block x. absurd (row_forward first function block x))
     (λ at x none. c.forward.directed (subst (IsNeverForward k b) (sym c.same) none))
     (put_sound k b j first row (λ function block x. c.forward)
-    (λ at x. absurd (row_completing (is_function r.heading) position at x)) s)
+    (λ at x. absurd (row_completing (is_function (routine_heading r)) position at x)) s)
 
 waits_row : (function : Bool) (first : ℕ) → Row.Part (PartRow.Forward function None) ≡ Row.Part (PartRow.Completing first) → ⊥
 waits_row function first e = cc
 
-pub sound_lasts : (k : Known) (b : Block) → Lasting (IsOfText k b) (Sound k b)
+pub sound_lasts : (k : Known) (b : BlockTree) → Lasting (IsOfText k b) (Sound k b)
 sound_lasts k b = record {
   puts = λ j m r quiet s. put_sound k b j m r (λ function block e. absurd (no_forward r function block quiet e))
       (λ first e. absurd (no_completing r first quiet e)) s;
@@ -235,8 +238,8 @@ sound_lasts k b = record {
   declares = λ j region value token s.
       alike k b j (and_label j region value token) refl (λ r n d e. sym (label_defined j region value token r n) ∙ e) (λ n. refl) s;
   chooses = λ j list value s. record { words = s.words; own = s.own; forward = s.forward; completing = s.completing };
-  waits = λ j r g none s. put_sound k b j (routine_name r) (Row.Part (PartRow.Forward (is_function r.heading) None))
+  waits = λ j r g none s. put_sound k b j (routine_name r) (Row.Part (PartRow.Forward (is_function (routine_heading r)) None))
       (λ function block e. record { spelled = g.spelled; directed = g.directed none })
-      (λ first e. absurd (waits_row (is_function r.heading) first e)) s;
+      (λ first e. absurd (waits_row (is_function (routine_heading r)) first e)) s;
   completes = λ j region first position r g e s. complete_sound k b j region first position r e s;
 }

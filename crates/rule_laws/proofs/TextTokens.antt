@@ -4,11 +4,10 @@ use Rattle.std.proofs.lemmas.List.{length-append, length-map}
 use Rattle.pas_lexer.specs.Lexed.{Lexed}
 use Rattle.grammar.specs.Nodes.{Item, Leaf, Node, Nothing, Pair, spell}
 use Rattle.grammar.specs.declared.terminals.Terminal.{Terminal}
-use Rattle.pas_tree.specs.{Blocks.tree_node, declared.blocks.Tree.Tree}
+use Rattle.pas_tree.specs.{BlockTrees.ProgramTree, TreeNodes.tree_node}
 use Rattle.pas_phrases.specs.Items.{items_from, numbered}
-use Rattle.pas_parser.specs.Kinds.{terminal_of, terminals_of}
+use Rattle.pas_parser.specs.{Formed.items_of, Kinds.terminal_of, Kinds.terminals_of}
 use Rattle.check_steps.specs.Words.{known_at_start, names_of, word_of}
-use Rattle.code_checker.specs.Declarations.{IsTextOf}
 use Rattle.rule_laws.proofs.Every.{Every}
 use Rattle.rule_laws.specs.{TextLaws.TokensDiffer, Tokens.Has, Tokens.IsDistinct}
 
@@ -91,12 +90,12 @@ length_items : (ks : List Terminal) → length (items_from ks 0) ≡ length ks
 unfolding items_from
 length_items ks = length_numbered 0 ks
 
-pub text_tokens : (l : Lexed) (t : Tree) → IsTextOf l t → Every (λ n. n < length (known_at_start l).words) (tree_node t)
-text_tokens l t text =
+pub text_tokens : (l : Lexed) (t : ProgramTree) → spell (tree_node t) ≡ items_of l.tokens → Every (λ n. n < length (known_at_start l).words) (tree_node t)
+text_tokens l t spelled_as =
     let ks = terminals_of l.tokens in
-    let spelled = ap (λ (is : List Item). length is) text.spelled in
+    let spelled = ap (λ (is : List Item). length is) spelled_as in
     let items = length_items ks in
     let kinds : length ks ≡ length l.tokens = length-map l.tokens (λ t. terminal_of t.kind) in
     let words : length (known_at_start l).words ≡ length l.tokens = length-map l.tokens (word_of (names_of l) l.source) in
     below (length (known_at_start l).words) (tree_node t) 0 (omega (arith, spelled, items, kinds, words))
-    (subst (Counted 0) (sym text.spelled) (all_counted ks))
+    (subst (Counted 0) (sym spelled_as) (all_counted ks))

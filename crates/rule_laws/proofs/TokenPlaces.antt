@@ -1,16 +1,15 @@
 -- The places of a tree's parts are tokens of its.
 use Rattle.std.proofs.Common.{ℕ, None, Option, Some}
 use Rattle.grammar.specs.Nodes.{Node}
-use Rattle.pas_tree.specs.{Constants.constant_node, Constants.signed_node, DenoterPlaces.first_of_constant, Denoters.sections_node, Denoters.tag_rest_node}
+use Rattle.pas_tree.specs.{Constants.constant_node, Constants.signed_node, DenoterPlaces.first_of_constant, DenoterTrees.SectionTrees, Denoters.tag_rest_node}
+use Rattle.pas_tree.specs.DenoterTrees as denoted
 use Rattle.pas_tree.specs.ExpressionPlaces.{first_of_expression, first_of_factor, first_of_members, first_of_simple, first_of_term}
-use Rattle.pas_tree.specs.Expressions.{expression_node, factor_node, members_node, simple_node, term_node}
+use Rattle.pas_tree.specs.ExpressionTrees.{ExpressionTree, FactorTree, MembersTree, SimpleTree, TermTree}
+use Rattle.pas_tree.specs.ExpressionTrees as expressed
 use Rattle.pas_tree.specs.OperatorPlaces.{adding_token, direction_token, multiplying_token, relational_token, sign_token}
 use Rattle.pas_tree.specs.Operators.{adding_node, direction_node, multiplying_node, relational_node, sign_leaf, sign_node}
-use Rattle.pas_tree.specs.declared.{constants.Constant.Constant, operators.MultiplyingOperator.MultiplyingOperator}
-use Rattle.pas_tree.specs.declared.denoters.{Fixed.Row_of-NextSection, Fixed.end_of-NextSection, Fixed.more_of-NextSection, Structure.Set', TagField.TagField}
-use Rattle.pas_tree.specs.declared.expressions.{Expression.Expression, Expression.Expression', Members.Empty, Members.Members, Members.Some as SomeMembers}
-use Rattle.pas_tree.specs.declared.expressions.{Simple.Simple, Simple.Simple', SomeMembers.SomeMembers', Term.Term, Term.Term'}
-use Rattle.pas_tree.specs.declared.expressions.Factor.{Access', Call', Factor, Nil, Not', Number, Paren', Set', Text}
+use Rattle.pas_tree.specs.TreeNodes.{expression_node, factor_node, members_node, sections_node, simple_node, term_node}
+use Rattle.pas_tree.specs.declared.{constants.Constant.Constant, denoters.TagField.TagField, operators.MultiplyingOperator.MultiplyingOperator}
 use Rattle.pas_tree.specs.declared.operators.{AddingOperator.AddingOperator, Direction.Direction, RelationalOperator.RelationalOperator, Sign.Sign}
 use Rattle.rule_laws.proofs.Every.{Every, Of}
 
@@ -58,9 +57,9 @@ first_of_constant-in (Constant.Name (Some s) n) h = sign_token-in s h.0
 first_of_constant-in (Constant.Text n) h = h
 
 -- what stands after the sections of a fixed part
-sections_end : (Q : ℕ → Type 0) {m : _} (r : Row_of-NextSection m) (end : Node) → Every Q (sections_node r end) → Every Q end
-sections_end Q end_of-NextSection end h = h
-sections_end Q (more_of-NextSection semicolon names colon d rest) end h = sections_end Q rest end h.1.1
+sections_end : (Q : ℕ → Type 0) (r : SectionTrees) (end : Node) → Every Q (sections_node r end) → Every Q end
+sections_end Q denoted.end_of_sections end h = h
+sections_end Q (denoted.more_sections semicolon section rest) end h = sections_end Q rest end h.1.1
 
 pub tag_name-in : (Q : ℕ → Type 0) (f : Option TagField) (name : ℕ) → Every Q (tag_rest_node f name) → Of Q name
 tag_name-in Q None name h = h.0
@@ -68,26 +67,26 @@ tag_name-in Q (Some f) name h = h.1.1
 
 -- ---- expressions
 
-first_of_members-in : {Q : ℕ → Type 0} (m : Members) → Every Q (members_node m) → Of Q (first_of_members m)
-first_of_members-in (Empty open' close) h = h.0
-first_of_members-in (SomeMembers (SomeMembers' open' first _ others close)) h = h.0
+first_of_members-in : {Q : ℕ → Type 0} (m : MembersTree) → Every Q (members_node m) → Of Q (first_of_members m)
+first_of_members-in (expressed.empty_members open' close) h = h.0
+first_of_members-in (expressed.some_members open' first others close) h = h.0
 
-first_of_factor-in : {Q : ℕ → Type 0} (f : Factor) → Every Q (factor_node f) → Of Q (first_of_factor f)
-first_of_factor-in (Number n) h = h
-first_of_factor-in (Text n) h = h
-first_of_factor-in (Nil n) h = h
-first_of_factor-in (Access' name _ selectors) h = h.0
-first_of_factor-in (Call' name _ arguments) h = h.0
-first_of_factor-in (Paren' open' _ e close) h = h.0
-first_of_factor-in (Set' _ members) h = first_of_members-in members h
-first_of_factor-in (Not' n _ f) h = h.0
+first_of_factor-in : {Q : ℕ → Type 0} (f : FactorTree) → Every Q (factor_node f) → Of Q (first_of_factor f)
+first_of_factor-in (expressed.a_number n) h = h
+first_of_factor-in (expressed.a_text n) h = h
+first_of_factor-in (expressed.a_nil n) h = h
+first_of_factor-in (expressed.an_access name selectors) h = h.0
+first_of_factor-in (expressed.a_call name arguments) h = h.0
+first_of_factor-in (expressed.a_paren open' e close) h = h.0
+first_of_factor-in (expressed.a_set members) h = first_of_members-in members h
+first_of_factor-in (expressed.a_not n f) h = h.0
 
-first_of_term-in : {Q : ℕ → Type 0} (t : Term) → Every Q (term_node t) → Of Q (first_of_term t)
-first_of_term-in (Term' first _ others) h = first_of_factor-in first h.0
+first_of_term-in : {Q : ℕ → Type 0} (t : TermTree) → Every Q (term_node t) → Of Q (first_of_term t)
+first_of_term-in (expressed.a_term first others) h = first_of_factor-in first h.0
 
-first_of_simple-in : {Q : ℕ → Type 0} (s : Simple) → Every Q (simple_node s) → Of Q (first_of_simple s)
-first_of_simple-in (Simple' (Some s) first _ others) h = sign_token-in s h.0
-first_of_simple-in (Simple' None first _ others) h = first_of_term-in first h.1.0
+first_of_simple-in : {Q : ℕ → Type 0} (s : SimpleTree) → Every Q (simple_node s) → Of Q (first_of_simple s)
+first_of_simple-in (expressed.a_simple (Some s) first others) h = sign_token-in s h.0
+first_of_simple-in (expressed.a_simple None first others) h = first_of_term-in first h.1.0
 
-pub first_of_expression-in : {Q : ℕ → Type 0} (e : Expression) → Every Q (expression_node e) → Of Q (first_of_expression e)
-first_of_expression-in (Expression' left relation) h = first_of_simple-in left h.0
+pub first_of_expression-in : {Q : ℕ → Type 0} (e : ExpressionTree) → Every Q (expression_node e) → Of Q (first_of_expression e)
+first_of_expression-in (expressed.an_expression left relation) h = first_of_simple-in left h.0

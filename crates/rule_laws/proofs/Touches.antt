@@ -51,10 +51,10 @@ pub record Touches (Q : ℕ → Type 0) (strict : Shown) {A : Type 0} (m : Step 
 
 -- ---- the relation
 
-no_longer : (xs : List Frame) → Longer xs xs
+pub no_longer : (xs : List Frame) → Longer xs xs
 no_longer xs = record { more = []; is = sym (append-nil xs) }
 
-longer_still : (xs ys zs : List Frame) → Longer xs ys → Longer ys zs → Longer xs zs
+pub longer_still : (xs ys zs : List Frame) → Longer xs ys → Longer ys zs → Longer xs zs
 longer_still xs ys zs a b = record {
   more = a.more ++ b.more;
   is = b.is ∙ ap (λ (l : List Frame). l ++ b.more) a.is ∙ append_assoc xs a.more b.more;

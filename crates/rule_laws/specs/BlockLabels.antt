@@ -1,15 +1,10 @@
 -- The labels in front of the statements of a block (6.8.1), in the order of the text.
 use Rattle.std.specs.Prelude.{◌++◌, ◌∷◌, [], ℕ, Bool, List, None, Option, Some, is_some, nat_eq}
 use Rattle.std.specs.List.{list_any}
-use Rattle.pas_tree.specs.declared.statements.{Case.more_of-NextBranch, Label.Label}
-use Rattle.pas_tree.specs.declared.statements.Case.{Case, Case' as CaseTree', Row_of-NextBranch, end_of-NextBranch}
-use Rattle.pas_tree.specs.declared.statements.Compound.{Compound, Compound' as CompoundTree'}
-use Rattle.pas_tree.specs.declared.statements.If.{Held-If-alternative, If, If' as IfTree', None', Some'}
-use Rattle.pas_tree.specs.declared.statements.Plain.{Assignment as Assignment', Call, Case', Compound', Empty, For'}
-use Rattle.pas_tree.specs.declared.statements.Plain.{Goto, If', Plain, Repeat', While', With'}
-use Rattle.pas_tree.specs.declared.statements.Repeat.{Repeat, Repeat' as RepeatTree'}
-use Rattle.pas_tree.specs.declared.statements.Statements.{Row_of-NextStatement, Statements, Statements'}
-use Rattle.pas_tree.specs.declared.statements.Statements.{end_of-NextStatement, more_of-NextStatement}
+use Rattle.pas_tree.specs.StatementTrees.{BranchTree, BranchTrees, CaseTree, CompoundTree, ElseTree, IfTree, PlainTree}
+use Rattle.pas_tree.specs.StatementTrees.{RepeatTree, StatementTree, StatementTrees, StatementsTree}
+use Rattle.pas_tree.specs.StatementTrees as tree
+use Rattle.pas_tree.specs.declared.statements.Label.{Label}
 use Rattle.check_steps.specs.{Known.Known, Known.frame_at, Known.label_at, Regions.declared_in}
 
 abbrev pub in_front : Option Label → List ℕ
@@ -17,49 +12,55 @@ in_front None = []
 in_front (Some l) = l.number ∷ []
 
 abbrev mutual
-  -- the labels of the statements inside of one
-  pub labels_inside : Plain → List ℕ
-  labels_inside Empty = []
-  labels_inside (Assignment' a) = []
-  labels_inside (Call name actuals) = []
-  labels_inside (Goto word label) = []
-  labels_inside (Compound' _ c) = compound_labels c
-  labels_inside (If' _ i) = if_labels i
-  labels_inside (Case' _ c) = case_labels c
-  labels_inside (Repeat' _ r) = repeat_labels r
-  labels_inside (While' _ word condition do_word label p) = in_front label ++ labels_inside p
-  labels_inside (For' _ word name becomes initial direction last do_word label p) = in_front label ++ labels_inside p
-  labels_inside (With' _ word first others do_word label p) = in_front label ++ labels_inside p
+  -- the labels in a statement
+  pub labels_of_statement : StatementTree → List ℕ
+  labels_of_statement (tree.a_statement label p) = in_front label ++ labels_inside p
 
-  pub compound_labels : Compound → List ℕ
-  compound_labels (CompoundTree' begin statements end) = sequence_labels statements
+  -- those of the statements inside of one
+  pub labels_inside : PlainTree → List ℕ
+  labels_inside tree.an_empty = []
+  labels_inside (tree.an_assignment a) = []
+  labels_inside (tree.a_procedure_call name actuals) = []
+  labels_inside (tree.a_goto word label) = []
+  labels_inside (tree.a_compound c) = compound_labels c
+  labels_inside (tree.an_if i) = if_labels i
+  labels_inside (tree.a_case c) = case_labels c
+  labels_inside (tree.a_repeat r) = repeat_labels r
+  labels_inside (tree.a_while word condition do_word s) = labels_of_statement s
+  labels_inside (tree.a_for word name becomes initial direction last do_word s) = labels_of_statement s
+  labels_inside (tree.a_with word first others do_word s) = labels_of_statement s
 
-  pub sequence_labels : Statements → List ℕ
-  sequence_labels (Statements' label p _ others) = (in_front label ++ labels_inside p) ++ more_labels others
+  pub compound_labels : CompoundTree → List ℕ
+  compound_labels (tree.compound_statement word body last) = sequence_labels body
 
-  pub more_labels : {m : _} → Row_of-NextStatement m → List ℕ
-  more_labels end_of-NextStatement = []
-  more_labels (more_of-NextStatement semicolon label p rest) = (in_front label ++ labels_inside p) ++ more_labels rest
+  pub sequence_labels : StatementsTree → List ℕ
+  sequence_labels (tree.statement_sequence first others) = labels_of_statement first ++ more_labels others
 
-  pub if_labels : If → List ℕ
-  if_labels (IfTree' word condition then' label p alternative) =
-      (in_front label ++ labels_inside p) ++ else_labels alternative
+  pub more_labels : StatementTrees → List ℕ
+  more_labels tree.end_of_statements = []
+  more_labels (tree.more_statements semicolon s rest) = labels_of_statement s ++ more_labels rest
 
-  pub else_labels : Held-If-alternative → List ℕ
-  else_labels None' = []
-  else_labels (Some' word label p) = in_front label ++ labels_inside p
+  pub if_labels : IfTree → List ℕ
+  if_labels (tree.if_statement word condition then_word s alternative) =
+      labels_of_statement s ++ else_labels alternative
 
-  pub case_labels : Case → List ℕ
-  case_labels (CaseTree' word selector of constants colon label p _ others semicolon end) =
-      (in_front label ++ labels_inside p) ++ branch_labels others
+  pub else_labels : ElseTree → List ℕ
+  else_labels tree.without_else = []
+  else_labels (tree.an_else word s) = labels_of_statement s
 
-  pub branch_labels : {m : _} → Row_of-NextBranch m → List ℕ
-  branch_labels end_of-NextBranch = []
-  branch_labels (more_of-NextBranch semicolon constants colon label p rest) =
-      (in_front label ++ labels_inside p) ++ branch_labels rest
+  pub case_labels : CaseTree → List ℕ
+  case_labels (tree.case_statement word selector of_word first others semicolon last) =
+      branch_labels first ++ branches_labels others
 
-  pub repeat_labels : Repeat → List ℕ
-  repeat_labels (RepeatTree' word statements until condition) = sequence_labels statements
+  pub branch_labels : BranchTree → List ℕ
+  branch_labels (tree.a_branch constants colon s) = labels_of_statement s
+
+  pub branches_labels : BranchTrees → List ℕ
+  branches_labels tree.end_of_branches = []
+  branches_labels (tree.more_branches semicolon b rest) = branch_labels b ++ branches_labels rest
+
+  pub repeat_labels : RepeatTree → List ℕ
+  repeat_labels (tree.repeat_statement word body until_word condition) = sequence_labels body
 
 -- whether the block of a frame itself declares a label
 abbrev pub declares : Known → ℕ → ℕ → Bool

@@ -1,11 +1,12 @@
 -- The constants of a case statement and of a variant part, and what they stand for (6.8.3.5, 6.4.3.3).
 use Rattle.std.specs.Prelude.{◌&&◌, ◌++◌, ◌∷◌, [], ℕ, Bool, List, None, Option, Some, false, map, nat_eq}
 use Rattle.std.specs.{List.list_any, Ordering.int_eq}
-use Rattle.pas_tree.specs.declared.{operators.Sign.Sign, statements.Case.more_of-NextBranch}
-use Rattle.pas_tree.specs.declared.constants.{Constant.Constant, Constants.Constants, NextConstant.NextConstant}
-use Rattle.pas_tree.specs.declared.denoters.Variants.{Row_of-NextArm, Variants as VariantsTree, Variants'}
-use Rattle.pas_tree.specs.declared.denoters.Variants.{end_of-NextArm, more_of-NextArm}
-use Rattle.pas_tree.specs.declared.statements.Case.{Case, Case' as CaseTree', Row_of-NextBranch, end_of-NextBranch}
+use Rattle.pas_tree.specs.{ConstantTrees.ConstantsTree, declared.operators.Sign.Sign}
+use Rattle.pas_tree.specs.DenoterTrees.{ArmTree, ArmTrees, VariantsTree}
+use Rattle.pas_tree.specs.DenoterTrees as denoters
+use Rattle.pas_tree.specs.StatementTrees.{BranchTree, BranchTrees, CaseTree}
+use Rattle.pas_tree.specs.StatementTrees as statements
+use Rattle.pas_tree.specs.declared.constants.{Constant.Constant, NextConstant.NextConstant}
 use Rattle.core_program.specs.ProgramRows.{text_at}
 use Rattle.check_steps.specs.{Known.Known, Known.find, Known.name_at, Known.spelled_at, Names.usable}
 use Rattle.kind_checker.specs.Constants.{integer_in, signed_value, text_value, value_of}
@@ -16,27 +17,31 @@ use Rattle.kind_checker.specs.declared.constants.ConstantValue.{ConstantValue, T
 abbrev pub in_next : NextConstant → Constant
 in_next n = n.constant
 
-abbrev pub listed : Constants → List Constant
-listed c = c.first ∷ map in_next c.others.items
+abbrev pub listed : ConstantsTree → List Constant
+listed c = c.first ∷ map in_next c.others
 
-abbrev pub branch_constants : {m : _} → Row_of-NextBranch m → List Constant
-branch_constants end_of-NextBranch = []
-branch_constants (more_of-NextBranch semicolon constants colon label p rest) = listed constants ++ branch_constants rest
+abbrev pub branch_constants : BranchTree → List Constant
+branch_constants (statements.a_branch constants colon s) = listed constants
+
+abbrev pub branches_constants : BranchTrees → List Constant
+branches_constants statements.end_of_branches = []
+branches_constants (statements.more_branches semicolon b rest) = branch_constants b ++ branches_constants rest
 
 -- the constants of all branches of a case statement
-abbrev pub case_constants : Case → List Constant
-case_constants (CaseTree' word selector of constants colon label p _ others semicolon end) =
-    listed constants ++ branch_constants others
+abbrev pub case_constants : CaseTree → List Constant
+case_constants (statements.case_statement word selector of_word first others semicolon last) =
+    branch_constants first ++ branches_constants others
 
-abbrev pub arm_constants : {m : _} → Row_of-NextArm m → List Constant
-arm_constants end_of-NextArm = []
-arm_constants (more_of-NextArm semicolon constants colon open' fields close rest) =
-    listed constants ++ arm_constants rest
+abbrev pub arm_constants : ArmTree → List Constant
+arm_constants (denoters.an_arm constants colon left fields right) = listed constants
+
+abbrev pub arms_constants : ArmTrees → List Constant
+arms_constants denoters.end_of_arms = []
+arms_constants (denoters.more_arms semicolon a rest) = arm_constants a ++ arms_constants rest
 
 -- the constants of all variants of a variant part
 abbrev pub variant_constants : VariantsTree → List Constant
-variant_constants (Variants' word tag of constants colon open' fields close _ others) =
-    listed constants ++ arm_constants others
+variant_constants (denoters.arms word tag of_word first others) = arm_constants first ++ arms_constants others
 
 -- ---- what they stand for
 

@@ -2,9 +2,10 @@
 use Rattle.std.specs.Prelude.{◌++◌, ◌-◌, ◌<◌, ◌↔◌, ◌∷◌, ◌≡◌, ◌⊎◌, ℕ, ℤ, All, Contains, List, None, Option, Some, false}
 use Rattle.std.specs.Prelude.{is_some, length, true}
 use Rattle.grammar.specs.Nodes.{Node}
-use Rattle.pas_tree.specs.{DenoterPlaces.first_of_constant, Denoters.variants_node, Statements.case_node}
-use Rattle.pas_tree.specs.declared.{constants.Constant.Constant, statements.Case.Case, statements.Case.Case'}
-use Rattle.pas_tree.specs.declared.denoters.Variants.{Variants, Variants'}
+use Rattle.pas_tree.specs.{DenoterPlaces.first_of_constant, DenoterTrees.VariantsTree, StatementTrees.CaseTree}
+use Rattle.pas_tree.specs.{TreeNodes.case_node, TreeNodes.variants_node, declared.constants.Constant.Constant}
+use Rattle.pas_tree.specs.DenoterTrees as denoters
+use Rattle.pas_tree.specs.StatementTrees as statements
 use Rattle.check_steps.specs.{Around.Falls, Known.Known, Known.is_chosen, Known.row_at, Known.type_at}
 use Rattle.check_steps.specs.declared.breaks.{Break.Break, Broken.TheVariants.Late}
 use Rattle.kind_checker.specs.{Constants.value_in, declared.constants.ConstantValue.ConstantValue}
@@ -45,33 +46,33 @@ pub record IsLookedAt (k : Known) (frame list : ℕ) (part : Node) : Type 0 wher
   pub free : (n : ℕ) → Has part n ⊎ (n ≡ length k.words - 1) → IsFree k n
   pub fresh : (v : ℤ) → is_chosen k list v ≡ false
 
-abbrev pub of_word : Case → ℕ
-of_word (Case' word selector of constants colon label p _ others semicolon end) = of
+abbrev pub of_word : CaseTree → ℕ
+of_word (statements.case_statement word selector of first others semicolon last) = of
 
 -- the host type of a case statement's selector
-abbrev pub selector_host : Known → ℕ → Case → ℕ
-selector_host k frame (Case' word selector of constants colon label p _ others semicolon end) =
+abbrev pub selector_host : Known → ℕ → CaseTree → ℕ
+selector_host k frame (statements.case_statement word selector of first others semicolon last) =
     (selected frame of selector k).value.choosing.host
 
 -- Among the constants of a case statement these break rule 22, at their first tokens.
 abbrev pub CasesTellEqualConstants : Type 0
-CasesTellEqualConstants = (k : Known) (frame : ℕ) (label : Option ℕ) (c : Case)
+CasesTellEqualConstants = (k : Known) (frame : ℕ) (label : Option ℕ) (c : CaseTree)
     (before : List Constant) (x : Constant) (after : List Constant)
     → IsLookedAt k frame (of_word c) (case_node c) → case_constants c ≡ before ++ x ∷ after → IsAmong before x after
     → Contains (case_statement frame label c k).broken (late_at 22 (first_of_constant x))
     ↔ IsWrongChoice k frame (selector_host k frame c) before x
 
-abbrev pub list_of : Variants → ℕ
-list_of (Variants' word tag of constants colon open' fields close _ others) = of
+abbrev pub list_of : VariantsTree → ℕ
+list_of (denoters.arms word tag of first others) = of
 
 -- the host type of a variant part's tag
-abbrev pub tag_host : Known → PartPlace → Variants → ℕ
-tag_host k p (Variants' word tag of constants colon open' fields close _ others) =
+abbrev pub tag_host : Known → PartPlace → VariantsTree → ℕ
+tag_host k p (denoters.arms word tag of first others) =
     (tag_part p tag.field tag.name k).value
 
 -- And so among the constants of a variant part.
 abbrev pub VariantsTellEqualConstants : Type 0
-VariantsTellEqualConstants = (k : Known) (p : PartPlace) (v : Variants) (last : Option ℕ)
+VariantsTellEqualConstants = (k : Known) (p : PartPlace) (v : VariantsTree) (last : Option ℕ)
     (before : List Constant) (x : Constant) (after : List Constant)
     → IsLookedAt k p.frame (list_of v) (variants_node v last) → variant_constants v ≡ before ++ x ∷ after
     → IsAmong before x after

@@ -1,7 +1,7 @@
 -- Which labels break rule 15.
 use Rattle.std.specs.Prelude.{◌++◌, ◌-◌, ◌<◌, ◌↔◌, ◌∷◌, ◌≡◌, ◌⊎◌, ℕ, All, Bool, Contains, List, None, Some, false}
 use Rattle.std.specs.Prelude.{length, true}
-use Rattle.pas_tree.specs.{Statements.compound_node, declared.statements.Compound.Compound}
+use Rattle.pas_tree.specs.{StatementTrees.CompoundTree, TreeNodes.compound_node}
 use Rattle.core_program.specs.declared.rows.{NameRow.NameRow, Row.Row}
 use Rattle.check_steps.specs.{Around.Falls, Regions.declared_in}
 use Rattle.check_steps.specs.Known.{Known, find_label, frame_at, label_at, row_at, type_at}
@@ -37,7 +37,7 @@ pub record IsOuterLabel (k : Known) (level token : ℕ) : Type 0 where
 -- The statements of the block of a frame begin to be looked at. Its own labels mark none so far, those of blocks around
 -- are further out, labels are declared at other tokens than those of the statements and the last one, and no record
 -- declares a label. Each frame comes after the one around it.
-pub record IsBlockBegun (k : Known) (frame : ℕ) (c : Compound) : Type 0 where
+pub record IsBlockBegun (k : Known) (frame : ℕ) (c : CompoundTree) : Type 0 where
   pub falls : Falls k.frames
   pub there : frame < length k.frames
   pub own : (value token : ℕ) → declared_in k.regions (frame_at k frame).region value ≡ Some token
@@ -51,6 +51,6 @@ pub record IsBlockBegun (k : Known) (frame : ℕ) (c : Compound) : Type 0 where
 
 -- Of the labels of a block's statements these break rule 15.
 abbrev pub BlocksTellLabels : Type 0
-BlocksTellLabels = (k : Known) (frame : ℕ) (c : Compound) (before : List ℕ) (label : ℕ) (after : List ℕ)
+BlocksTellLabels = (k : Known) (frame : ℕ) (c : CompoundTree) (before : List ℕ) (label : ℕ) (after : List ℕ)
     → IsBlockBegun k frame c → compound_labels c ≡ before ++ label ∷ after → IsOneLabel before label after
     → Contains (compound frame c k).broken (late_at 15 label) ↔ IsWrongLabel k frame before label

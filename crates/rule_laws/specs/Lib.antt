@@ -1,8 +1,8 @@
-pub mod AssignedNames
 pub mod BlockLabels
 pub mod CaseConstants
 pub mod CaseLaws
 pub mod ForwardHeadings
+pub mod FunctionAssignments
 pub mod FunctionResults
 pub mod LabelLaws
 pub mod Laws
@@ -12,3 +12,4 @@ pub mod ResultLaws
 pub mod TextLaws
 pub mod TextParts
 pub mod Tokens
+pub mod WithRecords

@@ -1,23 +1,25 @@
--- What a whole text breaks of rule 2; and its tokens.
-use Rattle.std.specs.Prelude.{◌++◌, ◌∷◌, ◌≡◌, [], ℕ, Bool, Contains, List, false, map, nat_eq, true}
+-- What a whole text breaks of rules 2 and 8; and its tokens.
+use Rattle.std.specs.Prelude.{◌++◌, ◌∷◌, ◌≡◌, ◌⊎◌, [], ℕ, Bool, Contains, List, false, map, nat_eq, true}
 use Rattle.std.specs.List.{list_any}
 use Rattle.pas_lexer.specs.{Lexed.Lexed, declared.kinds.Token.Token}
 use Rattle.grammar.specs.Nodes.{spell}
-use Rattle.pas_tree.specs.Blocks.{tree_node}
-use Rattle.pas_tree.specs.declared.blocks.{Block.Block, Block.out-Block, Routine.Routine, Tree.Tree}
-use Rattle.pas_tree.specs.declared.blocks.RoutineBody.{Block', Directive, RoutineBody}
+use Rattle.pas_tree.specs.BlockTrees.{BlockTree, BodyTree, ProgramTree, RoutineTree, routine_body, routine_heading}
+use Rattle.pas_tree.specs.BlockTrees as tree
+use Rattle.pas_tree.specs.TreeNodes.{tree_node}
 use Rattle.pas_parser.specs.Formed.{items_of}
 use Rattle.check_steps.specs.{Words.known_at_start, declared.breaks.Break.Break}
 use Rattle.check_steps.specs.Known.{Known, label_at, name_at}
 use Rattle.denoter_checker.specs.{RoutineParts.routine_name, declared.defines.Wanted.Wanted}
-use Rattle.code_checker.specs.{CheckedPrograms.broken, Declarations.IsTextOf}
-use Rattle.rule_laws.specs.{ForwardHeadings.is_block, Laws.broken_at, Tokens.IsDistinct}
-use Rattle.rule_laws.specs.RegionNames.{block_names, field_names, heading_names, labels_of}
-use Rattle.rule_laws.specs.TextParts.{OfRecordsIn, OfRoutines}
+use Rattle.code_checker.specs.CheckedPrograms.{broken}
+use Rattle.rule_laws.specs.{Laws.broken_at, TextParts.OfRecordsIn, TextParts.OfRoutines, Tokens.IsDistinct}
+use Rattle.rule_laws.specs.ForwardHeadings.{are_completing, has_forward, is_block}
+use Rattle.rule_laws.specs.NameLaws.{block_labels, block_routines}
+use Rattle.rule_laws.specs.RegionNames.{block_names, field_names, heading_names}
 
 -- No token stands twice in a tree that spells the tokens of a source, nor in any part of it.
 abbrev pub TokensDiffer : Type 0
-TokensDiffer = (tokens : List Token) (t : Tree) → spell (tree_node t) ≡ items_of tokens → IsDistinct (tree_node t)
+TokensDiffer = (tokens : List Token) (t : ProgramTree) → spell (tree_node t) ≡ items_of tokens
+    → IsDistinct (tree_node t)
 
 -- ---- names and labels of a text's regions (6.2.2.7)
 
@@ -32,7 +34,7 @@ SecondsAreTold k bs names = (before : List ℕ) (name : ℕ) (after : List ℕ) 
 
 -- So it is with the fields of each record type in a text, those of all its variants.
 abbrev pub TextsTellFields : Type 0
-TextsTellFields = (l : Lexed) (t : Tree)
+TextsTellFields = (l : Lexed) (t : ProgramTree)
     → OfRecordsIn (λ fields. SecondsAreTold (known_at_start l) (broken l t) (field_names Wanted.Fields fields)) t.block
 
 -- one of these tokens is a label of a token's value
@@ -45,49 +47,71 @@ LabelsAreTold k bs labels = (before : List ℕ) (label : ℕ) (after : List ℕ)
     → has_label k before label ≡ true → Contains bs (broken_at 2 label)
 
 -- In a block no directive follows a heading of this name.
-abbrev pub IsNeverForward : Known → Block → ℕ → Type 0
+abbrev pub IsNeverForward : Known → BlockTree → ℕ → Type 0
 IsNeverForward k b name =
-    OfRoutines (λ r. is_block r.body ≡ false → name_at k (routine_name r) ≡ name → ⊥) b
+    OfRoutines (λ r. is_block (routine_body r) ≡ false → name_at k (routine_name r) ≡ name → ⊥) b
 
 -- Of these names of procedures and functions, which stand in a region after other names, each breaks rule 2 that has
 -- the name of one before it, unless a forward heading of the text has it, too.
-abbrev pub HeadingsAreTold : Known → Block → List Break → (names headings : List ℕ) → Type 0
+abbrev pub HeadingsAreTold : Known → BlockTree → List Break → (names headings : List ℕ) → Type 0
 HeadingsAreTold k text bs names headings = (before : List ℕ) (name : ℕ) (after : List ℕ)
     → headings ≡ before ++ name ∷ after → IsNeverForward k text (name_at k name)
     → has_name k (names ++ before) name ≡ true → Contains bs (broken_at 2 name)
 
 -- so it is with the names and the labels of a region
-pub record RegionIsTold (k : Known) (text : Block) (bs : List Break) (all_names all_headings all_labels : List ℕ)
+pub record RegionIsTold (k : Known) (text : BlockTree) (bs : List Break) (all_names all_headings all_labels : List ℕ)
     : Type 0 where
   pub names : SecondsAreTold k bs all_names
   pub headings : HeadingsAreTold k text bs all_names all_headings
   pub labels : LabelsAreTold k bs all_labels
 
 -- the names of a block's own procedures and functions
-abbrev pub routine_names : Block → List ℕ
-routine_names b = map routine_name (out-Block b).routines.items
+abbrev pub routine_names : BlockTree → List ℕ
+routine_names b = map routine_name (block_routines b)
 
-abbrev pub headings_in_body : RoutineBody → List ℕ
-headings_in_body (Directive directive) = []
-headings_in_body (Block' _ b) = routine_names b
+abbrev pub headings_in_body : BodyTree → List ℕ
+headings_in_body (tree.a_directive directive) = []
+headings_in_body (tree.a_block_body b) = routine_names b
 
-abbrev pub names_in_body : RoutineBody → List ℕ
-names_in_body (Directive directive) = []
-names_in_body (Block' _ b) = block_names b
+abbrev pub names_in_body : BodyTree → List ℕ
+names_in_body (tree.a_directive directive) = []
+names_in_body (tree.a_block_body b) = block_names b
 
 -- the formal parameters of a procedure or function, and then the names of its block
-abbrev pub names_of_routine : Routine → List ℕ
-names_of_routine r = heading_names r.heading ++ names_in_body r.body
+abbrev pub names_of_routine : RoutineTree → List ℕ
+names_of_routine r = heading_names (routine_heading r) ++ names_in_body (routine_body r)
 
-abbrev pub labels_in_body : RoutineBody → List ℕ
-labels_in_body (Directive directive) = []
-labels_in_body (Block' _ b) = labels_of (out-Block b).labels
+abbrev pub labels_in_body : BodyTree → List ℕ
+labels_in_body (tree.a_directive directive) = []
+labels_in_body (tree.a_block_body b) = block_labels b
 
 -- So it is with the constants, types, variables, procedures, functions and labels of the program's block, and with
 -- those of each procedure and function and its formal parameters, but for what has the name of a forward heading.
 abbrev pub TextsTellNames : Type 0
-TextsTellNames = (l : Lexed) (t : Tree) → IsTextOf l t
+TextsTellNames = (l : Lexed) (t : ProgramTree) → spell (tree_node t) ≡ items_of l.tokens
     → let k = known_at_start l in let b = t.block in
-    RegionIsTold k b (broken l t) (block_names b) (routine_names b) (labels_of (out-Block b).labels)
+    RegionIsTold k b (broken l t) (block_names b) (routine_names b) (block_labels b)
     × OfRoutines (λ r. IsNeverForward k b (name_at k (routine_name r))
-    → RegionIsTold k b (broken l t) (names_of_routine r) (headings_in_body r.body) (labels_in_body r.body)) b
+    → RegionIsTold k b (broken l t) (names_of_routine r) (headings_in_body (routine_body r))
+    (labels_in_body (routine_body r))) b
+
+-- ---- forward headings (6.6.1)
+
+-- Of the procedures and functions of a part, each forward heading breaks rule 8 or has its block later in the part.
+abbrev pub ForwardsAreTold : Known → List Break → List RoutineTree → Type 0
+ForwardsAreTold k bs rs = (before : List RoutineTree) (r : RoutineTree) (after : List RoutineTree)
+    → rs ≡ before ++ r ∷ after → has_forward k (routine_body r) ≡ true
+    → Contains bs (broken_at 8 (routine_name r)) ⊎ (are_completing k r after ≡ true)
+
+abbrev pub routines_in_body : BodyTree → List RoutineTree
+routines_in_body (tree.a_directive directive) = []
+routines_in_body (tree.a_block_body b) = block_routines b
+
+-- So it is in the program's block, and in the block of each procedure and function, but for what has the name of a
+-- forward heading.
+abbrev pub TextsTellForwards : Type 0
+TextsTellForwards = (l : Lexed) (t : ProgramTree) → spell (tree_node t) ≡ items_of l.tokens
+    → let k = known_at_start l in let b = t.block in
+    ForwardsAreTold k (broken l t) (block_routines b)
+    × OfRoutines (λ r. IsNeverForward k b (name_at k (routine_name r))
+    → ForwardsAreTold k (broken l t) (routines_in_body (routine_body r))) b

@@ -1,116 +1,114 @@
 -- What holds of each procedure and function in a block, and of each record type that is written there (6.2.1, 6.4.3.3).
 use Rattle.std.specs.Prelude.{◌∷◌, [], List, None, Option, Some}
-use Rattle.pas_tree.specs.declared.blocks.{Block.more_of-Routine, Routine.Routine, TypeDefinition.TypeDefinition}
-use Rattle.pas_tree.specs.declared.blocks.{TypePart.TypePart, VariablePart.VariablePart}
-use Rattle.pas_tree.specs.declared.blocks.Block.{Block, Block' as BlockTree', Row_of-Routine, end_of-Routine}
-use Rattle.pas_tree.specs.declared.blocks.RoutineBody.{Block', Directive, RoutineBody}
-use Rattle.pas_tree.specs.declared.blocks.VariableDeclaration.{VariableDeclaration}
-use Rattle.pas_tree.specs.declared.denoters.ArrayDenoter.{ArrayDenoter, ArrayDenoter', Row_of-NextDenoter}
-use Rattle.pas_tree.specs.declared.denoters.ArrayDenoter.{end_of-NextDenoter, more_of-NextDenoter}
-use Rattle.pas_tree.specs.declared.denoters.Denoter.{Denoter, Enumeration, Name, Pointer, Structure', Subrange}
-use Rattle.pas_tree.specs.declared.denoters.Fields.{Empty, Fields, Fixed', Held-Fields-Fixed-1, None', Some'}
-use Rattle.pas_tree.specs.declared.denoters.Fields.{Variants' as FieldsVariants'}
-use Rattle.pas_tree.specs.declared.denoters.Fixed.{Fixed as FixedTree, Fixed' as FixedTree', Row_of-NextSection}
-use Rattle.pas_tree.specs.declared.denoters.Fixed.{end_of-NextSection, more_of-NextSection}
-use Rattle.pas_tree.specs.declared.denoters.NextVariants.{NextVariants, NextVariants'}
-use Rattle.pas_tree.specs.declared.denoters.Structure.{Array, Record', Set', Structure}
-use Rattle.pas_tree.specs.declared.denoters.Variants.{Row_of-NextArm, Variants as VariantsTree, Variants'}
-use Rattle.pas_tree.specs.declared.denoters.Variants.{end_of-NextArm, more_of-NextArm}
+use Rattle.pas_tree.specs.BlockTrees.{BlockTree, BodyTree, RoutineTree, RoutineTrees, TypeDefinitionTree, TypePartTree}
+use Rattle.pas_tree.specs.BlockTrees.{VariableDeclarationTree, VariablePartTree}
+use Rattle.pas_tree.specs.BlockTrees as blocks
+use Rattle.pas_tree.specs.DenoterTrees.{ArmTree, ArmTrees, ArrayTree, DenoterTree, DenoterTrees, FieldsTree, FixedTree}
+use Rattle.pas_tree.specs.DenoterTrees.{PartTree, SectionTree, SectionTrees, StructureTree, VariantsTree}
+use Rattle.pas_tree.specs.DenoterTrees as denoters
 use Rattle.denoter_checker.specs.Parts.{types_in, variables_in}
 
 -- ---- procedures and functions
 
 abbrev mutual
   -- this holds of each procedure and function of a block, and of those inside of them
-  pub OfRoutines : (Routine → Type 0) → Block → Type 0
-  OfRoutines P (BlockTree' labels constants types variables m routines body) = OfRows P routines
+  pub OfRoutines : (RoutineTree → Type 0) → BlockTree → Type 0
+  OfRoutines P (blocks.a_block labels constants types variables routines body) = OfEach P routines
 
-  pub OfRows : (Routine → Type 0) → {m : _} → Row_of-Routine m → Type 0
-  OfRows P end_of-Routine = Unit {0}
-  OfRows P (more_of-Routine heading semicolon body last_semicolon rest) =
-      (P (record { heading = heading; semicolon = semicolon; body = body; last_semicolon = last_semicolon })
-      × OfBody P body) × OfRows P rest
+  pub OfEach : (RoutineTree → Type 0) → RoutineTrees → Type 0
+  OfEach P blocks.end_of_routines = Unit {0}
+  OfEach P (blocks.more_routines r rest) = OfRoutine P r × OfEach P rest
 
-  pub OfBody : (Routine → Type 0) → RoutineBody → Type 0
-  OfBody P (Directive directive) = Unit {0}
-  OfBody P (Block' _ b) = OfRoutines P b
+  pub OfRoutine : (RoutineTree → Type 0) → RoutineTree → Type 0
+  OfRoutine P (blocks.a_routine heading semicolon body last_semicolon) =
+      P (blocks.a_routine heading semicolon body last_semicolon) × OfBody P body
+
+  pub OfBody : (RoutineTree → Type 0) → BodyTree → Type 0
+  OfBody P (blocks.a_directive directive) = Unit {0}
+  OfBody P (blocks.a_block_body b) = OfRoutines P b
 
 -- ---- record types
 
 abbrev mutual
   -- this holds of the fields of each record type that is written in a type, and inside of those
-  pub OfRecords : (Fields → Type 0) → Denoter → Type 0
-  OfRecords P (Name token) = Unit {0}
-  OfRecords P (Enumeration e) = Unit {0}
-  OfRecords P (Subrange first dots last) = Unit {0}
-  OfRecords P (Pointer caret name) = Unit {0}
-  OfRecords P (Structure' packed _ s) = InStructure P s
+  pub OfRecords : (FieldsTree → Type 0) → DenoterTree → Type 0
+  OfRecords P (denoters.a_type_name token) = Unit {0}
+  OfRecords P (denoters.an_enumeration e) = Unit {0}
+  OfRecords P (denoters.a_subrange first dots last) = Unit {0}
+  OfRecords P (denoters.a_pointer caret name) = Unit {0}
+  OfRecords P (denoters.a_structure packed s) = InStructure P s
 
-  pub InStructure : (Fields → Type 0) → Structure → Type 0
-  InStructure P (Array a) = InArray P a
-  InStructure P (Record' word fields end) = P fields × InFields P fields
-  InStructure P (Set' word of base) = OfRecords P base
+  pub InStructure : (FieldsTree → Type 0) → StructureTree → Type 0
+  InStructure P (denoters.an_array a) = InArray P a
+  InStructure P (denoters.a_record word fields end) = P fields × InFields P fields
+  InStructure P (denoters.a_set_type word of base) = OfRecords P base
 
-  pub InArray : (Fields → Type 0) → ArrayDenoter → Type 0
-  InArray P (ArrayDenoter' word open' first _ others close of component) =
+  pub InArray : (FieldsTree → Type 0) → ArrayTree → Type 0
+  InArray P (denoters.index_types word left first others right of component) =
       OfRecords P first × InIndexes P others × OfRecords P component
 
-  pub InIndexes : (Fields → Type 0) → {m : _} → Row_of-NextDenoter m → Type 0
-  InIndexes P end_of-NextDenoter = Unit {0}
-  InIndexes P (more_of-NextDenoter comma d rest) = OfRecords P d × InIndexes P rest
+  pub InIndexes : (FieldsTree → Type 0) → DenoterTrees → Type 0
+  InIndexes P denoters.end_of_denoters = Unit {0}
+  InIndexes P (denoters.more_denoters comma d rest) = OfRecords P d × InIndexes P rest
 
-  pub InFields : (Fields → Type 0) → Fields → Type 0
-  InFields P Empty = Unit {0}
-  InFields P (Fixed' fixed variants last) = InFixed P fixed × InHeld P variants
-  InFields P (FieldsVariants' _ variants last) = InVariants P variants
+  pub InFields : (FieldsTree → Type 0) → FieldsTree → Type 0
+  InFields P denoters.without_fields = Unit {0}
+  InFields P (denoters.fixed_fields fixed variants last) = InFixed P fixed × InPart P variants
+  InFields P (denoters.variant_fields variants last) = InVariants P variants
 
-  pub InFixed : (Fields → Type 0) → FixedTree → Type 0
-  InFixed P (FixedTree' names colon d _ others) = OfRecords P d × InSections P others
+  pub InFixed : (FieldsTree → Type 0) → FixedTree → Type 0
+  InFixed P (denoters.fixed_part first others) = InSection P first × InSections P others
 
-  pub InSections : (Fields → Type 0) → {m : _} → Row_of-NextSection m → Type 0
-  InSections P end_of-NextSection = Unit {0}
-  InSections P (more_of-NextSection semicolon names colon d rest) = OfRecords P d × InSections P rest
+  pub InSection : (FieldsTree → Type 0) → SectionTree → Type 0
+  InSection P (denoters.a_section names colon d) = OfRecords P d
 
-  pub InHeld : (Fields → Type 0) → Held-Fields-Fixed-1 → Type 0
-  InHeld P None' = Unit {0}
-  InHeld P (Some' n) = InNext P n
+  pub InSections : (FieldsTree → Type 0) → SectionTrees → Type 0
+  InSections P denoters.end_of_sections = Unit {0}
+  InSections P (denoters.more_sections semicolon s rest) = InSection P s × InSections P rest
 
-  pub InNext : (Fields → Type 0) → NextVariants → Type 0
-  InNext P (NextVariants' semicolon _ variants) = InVariants P variants
+  pub InPart : (FieldsTree → Type 0) → PartTree → Type 0
+  InPart P denoters.without_part = Unit {0}
+  InPart P (denoters.a_part semicolon variants) = InVariants P variants
 
-  pub InVariants : (Fields → Type 0) → VariantsTree → Type 0
-  InVariants P (Variants' word tag of constants colon open' fields close _ others) = InFields P fields × InArms P others
+  pub InVariants : (FieldsTree → Type 0) → VariantsTree → Type 0
+  InVariants P (denoters.arms word tag of_word first others) = InArm P first × InArms P others
 
-  pub InArms : (Fields → Type 0) → {m : _} → Row_of-NextArm m → Type 0
-  InArms P end_of-NextArm = Unit {0}
-  InArms P (more_of-NextArm semicolon constants colon open' fields close rest) = InFields P fields × InArms P rest
+  pub InArm : (FieldsTree → Type 0) → ArmTree → Type 0
+  InArm P (denoters.an_arm constants colon left fields right) = InFields P fields
 
-abbrev pub InTypes : (Fields → Type 0) → List TypeDefinition → Type 0
+  pub InArms : (FieldsTree → Type 0) → ArmTrees → Type 0
+  InArms P denoters.end_of_arms = Unit {0}
+  InArms P (denoters.more_arms semicolon a rest) = InArm P a × InArms P rest
+
+abbrev pub InTypes : (FieldsTree → Type 0) → List TypeDefinitionTree → Type 0
 InTypes P [] = Unit {0}
 InTypes P (d ∷ ds) = OfRecords P d.denoter × InTypes P ds
 
-abbrev pub InVariables : (Fields → Type 0) → List VariableDeclaration → Type 0
+abbrev pub InVariables : (FieldsTree → Type 0) → List VariableDeclarationTree → Type 0
 InVariables P [] = Unit {0}
 InVariables P (d ∷ ds) = OfRecords P d.denoter × InVariables P ds
 
-abbrev pub InTypePart : (Fields → Type 0) → Option TypePart → Type 0
+abbrev pub InTypePart : (FieldsTree → Type 0) → Option TypePartTree → Type 0
 InTypePart P None = Unit {0}
 InTypePart P (Some p) = InTypes P (types_in p)
 
-abbrev pub InVariablePart : (Fields → Type 0) → Option VariablePart → Type 0
+abbrev pub InVariablePart : (FieldsTree → Type 0) → Option VariablePartTree → Type 0
 InVariablePart P None = Unit {0}
 InVariablePart P (Some p) = InVariables P (variables_in p)
 
 abbrev mutual
   -- and of each that is written in a block, also in its procedures and functions
-  pub OfRecordsIn : (Fields → Type 0) → Block → Type 0
-  OfRecordsIn P (BlockTree' labels constants types variables m routines body) =
+  pub OfRecordsIn : (FieldsTree → Type 0) → BlockTree → Type 0
+  OfRecordsIn P (blocks.a_block labels constants types variables routines body) =
       InTypePart P types × InVariablePart P variables × InRoutines P routines
 
-  pub InRoutines : (Fields → Type 0) → {m : _} → Row_of-Routine m → Type 0
-  InRoutines P end_of-Routine = Unit {0}
-  InRoutines P (more_of-Routine heading semicolon body last_semicolon rest) = InBody P body × InRoutines P rest
+  pub InRoutines : (FieldsTree → Type 0) → RoutineTrees → Type 0
+  InRoutines P blocks.end_of_routines = Unit {0}
+  InRoutines P (blocks.more_routines r rest) = InRoutine P r × InRoutines P rest
 
-  pub InBody : (Fields → Type 0) → RoutineBody → Type 0
-  InBody P (Directive directive) = Unit {0}
-  InBody P (Block' _ b) = OfRecordsIn P b
+  pub InRoutine : (FieldsTree → Type 0) → RoutineTree → Type 0
+  InRoutine P (blocks.a_routine heading semicolon body last_semicolon) = InBody P body
+
+  pub InBody : (FieldsTree → Type 0) → BodyTree → Type 0
+  InBody P (blocks.a_directive directive) = Unit {0}
+  InBody P (blocks.a_block_body b) = OfRecordsIn P b

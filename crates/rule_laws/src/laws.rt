@@ -5,7 +5,7 @@ ghost use Rattle.rule_laws.specs.CaseLaws.{CasesTellEqualConstants, VariantsTell
 ghost use Rattle.rule_laws.specs.NameLaws.{BlocksTellNames, HeadingsTellFormals, LabelPartsTellLabels};
 ghost use Rattle.rule_laws.specs.NameLaws.{PartsTellSecondHeadings, ProgramsTellParameters, RecordsTellFields};
 ghost use Rattle.rule_laws.specs.ResultLaws.{FunctionsTellAssignments};
-ghost use Rattle.rule_laws.specs.TextLaws.{TextsTellFields, TextsTellNames, TokensDiffer};
+ghost use Rattle.rule_laws.specs.TextLaws.{TextsTellFields, TextsTellForwards, TextsTellNames, TokensDiffer};
 
 /// No token stands twice in the tree of a text.
 pub fn tokens_of_a_text_differ()
@@ -34,8 +34,8 @@ pub fn labels_are_declared_and_differ()
     ensures { BlocksTellLabels }
 {}
 
-/// A function without a with statement in its block breaks rule 12 if no statement of the block or of a routine in it
-/// assigns to the function.
+/// A function breaks rule 12 if no statement of its block or of a routine in it assigns to the function. Inside of with
+/// statements a name stands for a field of their records, if one of them has a field of this name.
 pub fn functions_are_assigned()
     ensures { FunctionsTellAssignments }
 {}
@@ -61,6 +61,12 @@ pub fn fields_of_a_text_differ()
 /// procedure and function together with its formal parameters, but for what has the name of a forward heading.
 pub fn names_of_a_text_differ()
     ensures { TextsTellNames }
+{}
+
+/// In a text, each forward heading of the program's block breaks rule 8 or has its block later in the part; and so each
+/// of the block of a procedure or function, but for one that has the name of a forward heading.
+pub fn forward_headings_of_a_text_have_blocks()
+    ensures { TextsTellForwards }
 {}
 
 /// So of the formal parameters of a heading.

@@ -5,11 +5,12 @@
 -- the check stands, and says whether it marks one so far.
 use Rattle.std.specs.Prelude.{if◌then◌else◌, ◌+◌, ◌-◌, ℕ, Bool, None, Option, Some, false, min, nat_eq, nat_lt, not}
 use Rattle.std.specs.Prelude.{true}
+use Rattle.pas_tree.specs.StatementTrees.{StatementTree, StatementTrees, StatementsTree}
+use Rattle.pas_tree.specs.StatementTrees as tree
 use Rattle.pas_tree.specs.declared.statements.{Label.Label, NextStatement.NextStatement}
-use Rattle.pas_tree.specs.declared.statements.Statements.{Statements, out-Statements}
 use Rattle.core_program.specs.declared.rows.{NameRow.NameRow, Row.Row, StatementRow.StatementRow}
 use Rattle.check_steps.specs.Known.{Known, find_label, label_at, row_at}
-use Rattle.check_steps.specs.Steps.{◌>>=◌, Step, each, give, late, look, put}
+use Rattle.check_steps.specs.Steps.{◌>>=◌, Step, give, late, look, put}
 use Rattle.expression_checker.specs.Names.{levels_to}
 use Rattle.statement_checker.specs.Sequences.{line_of, stated}
 
@@ -70,21 +71,31 @@ abbrev pub on_label : (ℕ → Step (Unit {0})) → Option Label → Step (Unit 
 on_label f None = give tt
 on_label f (Some l) = f l.number
 
+abbrev pub on_statement : (ℕ → Step (Unit {0})) → StatementTree → Step (Unit {0})
+on_statement f (tree.a_statement label plain) = on_label f label
+
+abbrev pub on_others : (ℕ → Step (Unit {0})) → StatementTrees → Step (Unit {0})
+on_others f tree.end_of_statements = give tt
+on_others f (tree.more_statements semicolon s rest) = do
+  _ ← on_statement f s
+  on_others f rest
+
+-- a step for each label in front of a statement of a sequence
+abbrev pub each_label : (ℕ → Step (Unit {0})) → StatementsTree → Step (Unit {0})
+each_label f (tree.statement_sequence first others) = do
+  _ ← on_statement f first
+  on_others f others
+
+-- one more of what the code holds
 unfoldable pub on_next : (ℕ → Step (Unit {0})) → Unit {0} → NextStatement → Step (Unit {0})
 on_next f u n = on_label f n.statement.label
 
--- a step for each label in front of a statement of a sequence
-abbrev pub each_label : (ℕ → Step (Unit {0})) → Statements → Step (Unit {0})
-each_label f s = do
-  _ ← on_label f (out-Statements s).first.label
-  each (on_next f) tt (out-Statements s).others.items
-
 -- from here on there is one more way to each statement of a sequence
-unfoldable pub reach_all : ℕ → Statements → Step (Unit {0})
+unfoldable pub reach_all : ℕ → StatementsTree → Step (Unit {0})
 reach_all frame s = each_label (reach_label frame) s
 
 -- from here on there is one way fewer
-unfoldable pub leave_all : ℕ → Statements → Step (Unit {0})
+unfoldable pub leave_all : ℕ → StatementsTree → Step (Unit {0})
 leave_all frame s = each_label (leave frame) s
 
 -- ---- labelled statements

@@ -1,9 +1,8 @@
 -- The required procedures of pointers and of packed arrays: new, dispose, pack and unpack (6.6.5.3, 6.6.5.4).
 use Rattle.std.specs.Prelude.{if◌then◌else◌, ◌&&◌, ◌||◌, ◌∷◌, [], ℕ, Bool, List, None, Option, Some, false, is_some}
 use Rattle.std.specs.Prelude.{length, nat_eq, nat_le, not, true}
-use Rattle.std.specs.Global.{Box}
 use Rattle.pas_tree.specs.ExpressionPlaces.{first_of_expression}
-use Rattle.pas_tree.specs.declared.statements.{Actual.Actual, Actuals.Actuals, NextActual.NextActual}
+use Rattle.pas_tree.specs.StatementTrees.{ActualTree, ActualsTree, NextActualTree}
 use Rattle.core_program.specs.ProgramRows.{size_of}
 use Rattle.core_program.specs.declared.rows.{StatementRow.StatementRow, TypeRow.TypeRow}
 use Rattle.check_steps.specs.Known.{Known}
@@ -49,14 +48,14 @@ new_variable first v = do
   _ ← too_big first (nat_le cells 65536)
   give domain
 
-unfoldable pub new_one : ℕ → RequiredCall → Actual → Step ℕ
+unfoldable pub new_one : ℕ → RequiredCall → ActualTree → Step ℕ
 new_one frame c a = do
   v ← plain_actual frame a
   domain ← new_variable (first_of_expression a.expression) v
   stated c.name (StatementRow.New c.line v.row domain)
 
 -- rule 32: what dispose takes is of no pointer type, at its first token
-unfoldable pub dispose_one : ℕ → RequiredCall → Actual → Step ℕ
+unfoldable pub dispose_one : ℕ → RequiredCall → ActualTree → Step ℕ
 dispose_one frame c a = do
   v ← plain_actual frame a
   fine ← look (λ k. is_pointer k v)
@@ -64,19 +63,19 @@ dispose_one frame c a = do
   domain ← look (λ k. domain_of k v)
   stated c.name (StatementRow.Dispose c.line v.row domain)
 
-abbrev pub pointer_one : Bool → ℕ → RequiredCall → Actual → Step ℕ
+abbrev pub pointer_one : Bool → ℕ → RequiredCall → ActualTree → Step ℕ
 pointer_one true frame c a = new_one frame c a
 pointer_one false frame c a = dispose_one frame c a
 
 -- rule 26: new and dispose take one actual
-abbrev pub pointer_some : Bool → ℕ → RequiredCall → Actuals → Bool → Step ℕ
+abbrev pub pointer_some : Bool → ℕ → RequiredCall → ActualsTree → Bool → Step ℕ
 pointer_some making frame c a true = pointer_one making frame c a.first
 pointer_some making frame c a false = wrong_number frame c.name a
 
 -- a call of new if it makes a variable, and else of dispose
-abbrev pub pointer_call : Bool → ℕ → RequiredCall → Option (Box Actuals) → Step ℕ
+abbrev pub pointer_call : Bool → ℕ → RequiredCall → Option ActualsTree → Step ℕ
 pointer_call making frame c None = without_actuals c.name
-pointer_call making frame c (Some a) = pointer_some making frame c a.value (nat_eq (length a.value.others.items) 0)
+pointer_call making frame c (Some a) = pointer_some making frame c a (nat_eq (length a.others) 0)
 
 -- ---- packed arrays
 
@@ -123,7 +122,7 @@ move_checked u i p = do
   late 32 p.first like
 
 -- an actual with its first token
-unfoldable pub operand_actual : ℕ → Actual → Step CheckedActual
+unfoldable pub operand_actual : ℕ → ActualTree → Step CheckedActual
 operand_actual frame a = do
   v ← plain_actual frame a
   give (record { first = first_of_expression a.expression; value = v })
@@ -131,7 +130,7 @@ operand_actual frame a = do
 abbrev pub pack_row : Bool → ℕ → CheckedActual → CheckedActual → CheckedActual → StatementRow
 pack_row packing line u i p = StatementRow.Pack packing line u.value.row i.value.row p.value.row
 
-unfoldable pub pack_three : ℕ → RequiredCall → Actual → Actual → Actual → Step ℕ
+unfoldable pub pack_three : ℕ → RequiredCall → ActualTree → ActualTree → ActualTree → Step ℕ
 pack_three frame c a b d = do
   u ← operand_actual frame a
   i ← operand_actual frame b
@@ -139,7 +138,7 @@ pack_three frame c a b d = do
   _ ← move_checked u i p
   stated c.name (pack_row true c.line u i p)
 
-unfoldable pub unpack_three : ℕ → RequiredCall → Actual → Actual → Actual → Step ℕ
+unfoldable pub unpack_three : ℕ → RequiredCall → ActualTree → ActualTree → ActualTree → Step ℕ
 unpack_three frame c a b d = do
   p ← operand_actual frame a
   u ← operand_actual frame b
@@ -147,16 +146,16 @@ unpack_three frame c a b d = do
   _ ← move_checked u i p
   stated c.name (pack_row false c.line u i p)
 
-abbrev pub three : Bool → ℕ → RequiredCall → Actual → Actual → Actual → Step ℕ
+abbrev pub three : Bool → ℕ → RequiredCall → ActualTree → ActualTree → ActualTree → Step ℕ
 three true frame c a b d = pack_three frame c a b d
 three false frame c a b d = unpack_three frame c a b d
 
 -- rule 26: pack and unpack take three actuals
-abbrev pub pack_some : Bool → ℕ → RequiredCall → Actuals → List NextActual → Step ℕ
+abbrev pub pack_some : Bool → ℕ → RequiredCall → ActualsTree → List NextActualTree → Step ℕ
 pack_some packing frame c a (b ∷ d ∷ []) = three packing frame c a.first b.actual d.actual
 pack_some packing frame c a others = wrong_number frame c.name a
 
 -- a call of pack, and else of unpack
-abbrev pub pack_call : Bool → ℕ → RequiredCall → Option (Box Actuals) → Step ℕ
+abbrev pub pack_call : Bool → ℕ → RequiredCall → Option ActualsTree → Step ℕ
 pack_call packing frame c None = without_actuals c.name
-pack_call packing frame c (Some a) = pack_some packing frame c a.value a.value.others.items
+pack_call packing frame c (Some a) = pack_some packing frame c a a.others

@@ -1,13 +1,14 @@
 -- Statements without others inside, and what statements have of expressions and accesses (6.8.2, 6.8.3).
-use Rattle.std.specs.Prelude.{◌+◌, ℕ, None, Option, Some, length, nat_eq}
-use Rattle.std.specs.Global.{Box}
+use Rattle.std.specs.Prelude.{◌+◌, ℕ, None, Option, Some, length}
 use Rattle.pas_tree.specs.{ExpressionPlaces.first_of_expression, declared.operators.Direction.Direction}
-use Rattle.pas_tree.specs.declared.expressions.{Access.Access, Expression.Expression}
-use Rattle.pas_tree.specs.declared.statements.{Actual.Actual, Actuals.Actuals, Assignment.Assignment}
+use Rattle.pas_tree.specs.ExpressionTrees.{AccessTree, ExpressionTree}
+use Rattle.pas_tree.specs.StatementTrees.{ActualTree, ActualsTree, AssignmentTree, NextAccessTree, NextActualTree}
+use Rattle.pas_tree.specs.StatementTrees.{actual_tree, next_access_tree}
 use Rattle.pas_tree.specs.declared.statements.{NextAccess.NextAccess, NextActual.NextActual}
 use Rattle.check_steps.specs.Steps.{◌>>=◌, Step, each, give, look}
-use Rattle.expression_checker.specs.{Actuals.access_name, Callees.count_checked, Threats.threat_alone}
+use Rattle.expression_checker.specs.{Callees.count_checked, Threats.threat_alone}
 use Rattle.expression_checker.specs.Expressions.{access, actual, expression, passing_to}
+use Rattle.expression_checker.specs.NamesAlone.{access_name, is_name}
 use Rattle.expression_checker.specs.declared.{actuals.Passing.Passing, callees.Callee.Callee, typed.Typed.Typed}
 use Rattle.statement_checker.specs.{Actuals.no_width, Calls.call_row, Calls.procedure_at, Choices.selector}
 use Rattle.statement_checker.specs.{Conditions.condition, Procedures.required_call, Records.inside_record}
@@ -20,21 +21,21 @@ use Rattle.statement_checker.specs.declared.parts.{ForBounds.ForBounds, Opened.O
 -- ---- expressions
 
 -- a condition, by its number
-unfoldable pub condition_row : ℕ → Expression → Step ℕ
+unfoldable pub condition_row : ℕ → ExpressionTree → Step ℕ
 condition_row frame e = do
   v ← expression frame e
   _ ← condition (first_of_expression e) v
   give v.row
 
 -- a bound of a for statement, by its number
-unfoldable pub bounded : ℕ → Control → Expression → Step ℕ
+unfoldable pub bounded : ℕ → Control → ExpressionTree → Step ℕ
 bounded frame c e = do
   v ← expression frame e
   _ ← bound c (first_of_expression e) v
   give v.row
 
 -- a for statement up to its bounds, which are inside of it
-unfoldable pub for_begins : ℕ → ℕ → Expression → Expression → Step ForBounds
+unfoldable pub for_begins : ℕ → ℕ → ExpressionTree → ExpressionTree → Step ForBounds
 for_begins frame name initial last = do
   c ← enter_for frame name
   from ← bounded frame c initial
@@ -49,7 +50,7 @@ for_ends label word direction b body = do
   for_row label word b.initial turns
 
 -- the selector of a case statement before the word `of`
-unfoldable pub selected : ℕ → ℕ → Expression → Step Selected
+unfoldable pub selected : ℕ → ℕ → ExpressionTree → Step Selected
 selected frame of' e = do
   v ← expression frame e
   c ← selector frame of' (first_of_expression e) v
@@ -58,23 +59,23 @@ selected frame of' e = do
 -- ---- assignments
 
 -- a variable as a whole is threatened
-unfoldable pub target_access : ℕ → Access → Step Typed
+unfoldable pub target_access : ℕ → AccessTree → Step Typed
 target_access frame a = do
   _ ← threat_alone frame (access_name a)
   access frame a
 
-abbrev pub target_as : ℕ → Access → Target → Step Typed
+abbrev pub target_as : ℕ → AccessTree → Target → Step Typed
 target_as frame a Target.Access = target_access frame a
 target_as frame a (Target.Result r) = result_target frame a.name r
 target_as frame a Target.Blockless = blockless_target a.name
 
 -- what stands on the left: an access, or the name alone of a function
-unfoldable pub assigned_to : ℕ → Access → Step Typed
+unfoldable pub assigned_to : ℕ → AccessTree → Step Typed
 assigned_to frame a = do
-  t ← look (λ k. target_at k frame a.name (nat_eq (length a.selectors.items) 0))
+  t ← look (λ k. target_at k frame a.name (is_name a.selectors))
   target_as frame a t
 
-unfoldable pub assignment : ℕ → Option ℕ → Assignment → Step ℕ
+unfoldable pub assignment : ℕ → Option ℕ → AssignmentTree → Step ℕ
 assignment frame label a = do
   to ← assigned_to frame a.target
   v ← expression frame a.value
@@ -84,25 +85,29 @@ assignment frame label a = do
 -- ---- calls
 
 -- an actual parameter of a procedure that is not required, at the parenthesis or the comma before it
-unfoldable pub passed_actual : ℕ → Passing → ℕ → Actual → Step Passing
+unfoldable pub passed_actual : ℕ → Passing → ℕ → ActualTree → Step Passing
 passed_actual frame p slot a = do
   next ← actual frame p slot a.expression
   _ ← no_width frame a.width
   give next
 
-unfoldable pub next_passed : ℕ → Passing → NextActual → Step Passing
-next_passed frame p n = passed_actual frame p n.comma n.actual
+abbrev pub another_passed : ℕ → Passing → NextActualTree → Step Passing
+another_passed frame p n = passed_actual frame p n.comma n.actual
 
-abbrev pub actuals_in : Actuals → ℕ
-actuals_in a = length a.others.items + 1
+-- the same of what the code holds
+unfoldable pub next_passed : ℕ → Passing → NextActual → Step Passing
+next_passed frame p n = passed_actual frame p n.comma (actual_tree n.actual)
+
+abbrev pub actuals_in : ActualsTree → ℕ
+actuals_in a = length a.others + 1
 
 -- a call with actual parameters, at the procedure's name: their list stands at the `(`
-unfoldable pub call_with : ℕ → ℕ → ℕ → Callee → Actuals → Step ℕ
+unfoldable pub call_with : ℕ → ℕ → ℕ → Callee → ActualsTree → Step ℕ
 call_with frame line name c a = do
   called ← count_checked name c (actuals_in a)
-  one ← passed_actual frame (passing_to called name) a.«open» a.first
-  _ ← each (next_passed frame) one a.others.items
-  call_row line name called.callee a.«open»
+  one ← passed_actual frame (passing_to called name) a.left a.first
+  _ ← each (another_passed frame) one a.others
+  call_row line name called.callee a.left
 
 -- a call without actual parameters
 unfoldable pub call_alone : ℕ → ℕ → Callee → Step ℕ
@@ -110,17 +115,17 @@ call_alone line name c = do
   called ← count_checked name c 0
   call_row line name called.callee 0
 
-abbrev pub declared_call : ℕ → ℕ → ℕ → Callee → Option (Box Actuals) → Step ℕ
+abbrev pub declared_call : ℕ → ℕ → ℕ → Callee → Option ActualsTree → Step ℕ
 declared_call frame line name c None = call_alone line name c
-declared_call frame line name c (Some a) = call_with frame line name c a.value
+declared_call frame line name c (Some a) = call_with frame line name c a
 
-abbrev pub call_as : ℕ → ℕ → ℕ → Callee → Option (Box Actuals) → Step ℕ
+abbrev pub call_as : ℕ → ℕ → ℕ → Callee → Option ActualsTree → Step ℕ
 call_as frame line name (Callee.Required r) actuals =
     required_call r frame (record { name = name; line = line }) actuals
 call_as frame line name c actuals = declared_call frame line name c actuals
 
 -- a procedure statement
-unfoldable pub call_statement : ℕ → Option ℕ → ℕ → Option (Box Actuals) → Step ℕ
+unfoldable pub call_statement : ℕ → Option ℕ → ℕ → Option ActualsTree → Step ℕ
 call_statement frame label name actuals = do
   c ← procedure_at frame name
   line ← look (λ k. line_of k label name)
@@ -129,16 +134,20 @@ call_statement frame label name actuals = do
 -- ---- with statements
 
 -- the first record of a with statement, in the list at its word
-unfoldable pub first_record : ℕ → ℕ → Access → Step Opened
+unfoldable pub first_record : ℕ → ℕ → AccessTree → Step Opened
 first_record frame word a = do
   v ← access frame a
   inner ← inside_record frame a.name v
   give (record { frame = inner; last = record { slot = word; item = v.row } })
 
 -- Each access is seen from inside of those before it.
-unfoldable pub next_record : Opened → NextAccess → Step Opened
-next_record o n = do
+unfoldable pub another_record : Opened → NextAccessTree → Step Opened
+another_record o n = do
   v ← access o.frame n.access
   inner ← inside_record o.frame n.access.name v
   last ← add_element o.last n.comma v.row
   give (record { frame = inner; last = last })
+
+-- the same of what the code holds
+unfoldable pub next_record : Opened → NextAccess → Step Opened
+next_record o n = another_record o (next_access_tree n)

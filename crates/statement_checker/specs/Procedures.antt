@@ -1,6 +1,6 @@
 -- Calls of required procedures (6.6.5, 6.9).
-use Rattle.std.specs.{Prelude.ℕ, Prelude.Option, Prelude.false, Prelude.true, Global.Box}
-use Rattle.pas_tree.specs.declared.statements.Actuals.{Actuals}
+use Rattle.std.specs.Prelude.{ℕ, Option, false, true}
+use Rattle.pas_tree.specs.StatementTrees.{ActualsTree}
 use Rattle.core_program.specs.declared.rows.Required.{Required}
 use Rattle.check_steps.specs.Steps.{Step, give}
 use Rattle.statement_checker.specs.{Moves.pack_call, Moves.pointer_call, Transfers.page, Transfers.transfer_call}
@@ -8,7 +8,7 @@ use Rattle.statement_checker.specs.declared.actuals.RequiredCall.{RequiredCall}
 use Rattle.statement_checker.specs.declared.transfers.Transfer.TheVariants.{Reading, Writing}
 
 -- A call of a required procedure. A function is none.
-abbrev pub required_call : Required → ℕ → RequiredCall → Option (Box Actuals) → Step ℕ
+abbrev pub required_call : Required → ℕ → RequiredCall → Option ActualsTree → Step ℕ
 required_call Required.Read frame c a = transfer_call Reading false frame c a
 required_call Required.Readln frame c a = transfer_call Reading true frame c a
 required_call Required.Write frame c a = transfer_call Writing false frame c a

@@ -1,22 +1,17 @@
 -- Statements (6.8): an equation for each construct. What is given is a statement's number.
 use Rattle.std.specs.Prelude.{ℕ, None, Option, Some}
-use Rattle.pas_tree.specs.declared.statements.{Case.more_of-NextBranch, Else.Else, Label.Label, NextBranch.NextBranch}
-use Rattle.pas_tree.specs.declared.statements.Case.{Case, Case' as CaseTree', Row_of-NextBranch, end_of-NextBranch}
-use Rattle.pas_tree.specs.declared.statements.Compound.{Compound, Compound' as CompoundTree'}
-use Rattle.pas_tree.specs.declared.statements.If.{Held-If-alternative, If, If' as IfTree', None', Some'}
-use Rattle.pas_tree.specs.declared.statements.NextStatement.{NextStatement}
-use Rattle.pas_tree.specs.declared.statements.Plain.{Assignment as Assignment', Call, Case', Compound', Empty, For'}
-use Rattle.pas_tree.specs.declared.statements.Plain.{Goto, If', Plain, Repeat', While', With'}
-use Rattle.pas_tree.specs.declared.statements.Repeat.{Repeat, Repeat' as RepeatTree'}
-use Rattle.pas_tree.specs.declared.statements.Statements.{Row_of-NextStatement, Statements, Statements'}
-use Rattle.pas_tree.specs.declared.statements.Statements.{end_of-NextStatement, more_of-NextStatement}
+use Rattle.pas_tree.specs.ConstantTrees.{ConstantsTree, constants_tree}
+use Rattle.pas_tree.specs.StatementTrees.{BranchTree, BranchTrees, CaseTree, CompoundTree, ElseTree, IfTree, PlainTree}
+use Rattle.pas_tree.specs.StatementTrees.{RepeatTree, StatementTree, StatementTrees, StatementsTree}
+use Rattle.pas_tree.specs.StatementTrees as tree
+use Rattle.pas_tree.specs.declared.statements.{Label.Label, NextBranch.NextBranch, NextStatement.NextStatement}
 use Rattle.check_steps.specs.Steps.{◌>>=◌, Step, each, give}
 use Rattle.denoter_checker.specs.{Variants.choices, declared.variants.Choosing.Choosing}
-use Rattle.statement_checker.specs.{Choices.case_row, Parts.next_record, Parts.selected, Records.put_with}
+use Rattle.statement_checker.specs.{Choices.case_row, Records.put_with, Sequences.repeat_row, Sequences.while_row}
 use Rattle.statement_checker.specs.Labels.{jump, labelled, leave, leave_all, mark, reach_all, reach_label}
-use Rattle.statement_checker.specs.Parts.{assignment, call_statement, condition_row, first_record, for_begins, for_ends}
+use Rattle.statement_checker.specs.Parts.{another_record, assignment, call_statement, condition_row, first_record}
+use Rattle.statement_checker.specs.Parts.{for_begins, for_ends, selected}
 use Rattle.statement_checker.specs.Sequences.{add_element, compound_row, empty, if_else_row, if_row, link_element}
-use Rattle.statement_checker.specs.Sequences.{repeat_row, while_row}
 use Rattle.statement_checker.specs.declared.sequences.{Branching.Branching, Element.Element}
 
 abbrev pub element : ℕ → ℕ → Element
@@ -40,107 +35,114 @@ labelled_by frame (Some l) m = do
   _ ← leave frame l.number
   labelled l.number n
 
+-- one more statement of a list, at its semicolon, by itself
+abbrev pub added_element : Element → ℕ → Step ℕ → Step Element
+added_element last slot m = do
+  n ← m
+  add_element last slot n
+
+-- a case list element, by its statement
+abbrev pub chosen_by : Choosing → ℕ → ℕ → ConstantsTree → Step ℕ → Step ℕ
+chosen_by c last slot constants m = do
+  n ← m
+  choices c n last slot constants
+
 abbrev mutual
+  -- a statement that may have a label
+  pub statement_step : ℕ → StatementTree → Step ℕ
+  statement_step frame (tree.a_statement label p) = labelled_by frame label (plain frame (label_token label) p)
+
   -- a statement without its label, whose line is that of the label if there is one
-  pub plain : ℕ → Option ℕ → Plain → Step ℕ
-  plain frame label Empty = empty
-  plain frame label (Assignment' a) = assignment frame label a.value
-  plain frame label (Call name actuals) = call_statement frame label name actuals
-  plain frame label (Goto word target) = jump frame label word target
-  plain frame label (Compound' _ c) = compound frame c
-  plain frame label (If' _ i) = if_statement frame label i
-  plain frame label (Case' _ c) = case_statement frame label c
-  plain frame label (Repeat' _ r) = repeat_statement frame label r
-  plain frame label (While' _ word condition do_word inner p) = do
+  pub plain : ℕ → Option ℕ → PlainTree → Step ℕ
+  plain frame label tree.an_empty = empty
+  plain frame label (tree.an_assignment a) = assignment frame label a
+  plain frame label (tree.a_procedure_call name actuals) = call_statement frame label name actuals
+  plain frame label (tree.a_goto word target) = jump frame label word target
+  plain frame label (tree.a_compound c) = compound frame c
+  plain frame label (tree.an_if x) = if_statement frame label x
+  plain frame label (tree.a_case x) = case_statement frame label x
+  plain frame label (tree.a_repeat x) = repeat_statement frame label x
+  plain frame label (tree.a_while word condition do_word s) = do
     c ← condition_row frame condition
-    body ← labelled_by frame inner (plain frame (label_token inner) p)
-    while_row label word c body
-  plain frame label (For' _ word name becomes initial direction last do_word inner p) = do
+    inside ← statement_step frame s
+    while_row label word c inside
+  plain frame label (tree.a_for word name becomes initial direction last do_word s) = do
     b ← for_begins frame name initial last
-    body ← labelled_by frame inner (plain frame (label_token inner) p)
-    for_ends label word direction b body
-  plain frame label (With' _ word first others do_word inner p) = do
+    inside ← statement_step frame s
+    for_ends label word direction b inside
+  plain frame label (tree.a_with word first others do_word s) = do
     one ← first_record frame word first
-    all ← each next_record one others.items
+    all ← each another_record one others
     _ ← link_element all.last 0
-    body ← labelled_by all.frame inner (plain all.frame (label_token inner) p)
-    put_with label word do_word body
+    inside ← statement_step all.frame s
+    put_with label word do_word inside
 
   -- The list of the statements stands at `begin`. From within all of them may be reached.
-  pub compound : ℕ → Compound → Step ℕ
-  compound frame (CompoundTree' begin statements end) = do
-    _ ← reach_all frame statements
-    last ← sequence frame begin statements
-    _ ← leave_all frame statements
-    compound_row begin last end
+  pub compound : ℕ → CompoundTree → Step ℕ
+  compound frame (tree.compound_statement word body end) = do
+    _ ← reach_all frame body
+    last ← sequence frame word body
+    _ ← leave_all frame body
+    compound_row word last end
 
   -- statements in a list that begins at a number; the last one is given
-  pub sequence : ℕ → ℕ → Statements → Step Element
-  sequence frame list (Statements' label p _ others) = do
-    n ← labelled_by frame label (plain frame (label_token label) p)
+  pub sequence : ℕ → ℕ → StatementsTree → Step Element
+  sequence frame list (tree.statement_sequence first others) = do
+    n ← statement_step frame first
     more_statements frame (element list n) others
 
-  pub more_statements : ℕ → Element → {m : _} → Row_of-NextStatement m → Step Element
-  more_statements frame last end_of-NextStatement = give last
-  more_statements frame last (more_of-NextStatement semicolon label p rest) = do
-    n ← labelled_by frame label (plain frame (label_token label) p)
-    next ← add_element last semicolon n
+  pub more_statements : ℕ → Element → StatementTrees → Step Element
+  more_statements frame last tree.end_of_statements = give last
+  more_statements frame last (tree.more_statements semicolon s rest) = do
+    next ← added_element last semicolon (statement_step frame s)
     more_statements frame next rest
 
-  pub if_statement : ℕ → Option ℕ → If → Step ℕ
-  if_statement frame label (IfTree' word condition then' inner p alternative) = do
+  pub if_statement : ℕ → Option ℕ → IfTree → Step ℕ
+  if_statement frame label (tree.if_statement word condition then_word s alternative) = do
     c ← condition_row frame condition
-    n ← labelled_by frame inner (plain frame (label_token inner) p)
-    else_held frame (branching label word c n) alternative
+    n ← statement_step frame s
+    else_statement frame (branching label word c n) alternative
 
-  pub else_held : ℕ → Branching → Held-If-alternative → Step ℕ
-  else_held frame b None' = if_row b
-  else_held frame b (Some' word label p) = do
-    n ← labelled_by frame label (plain frame (label_token label) p)
+  pub else_statement : ℕ → Branching → ElseTree → Step ℕ
+  else_statement frame b tree.without_else = if_row b
+  else_statement frame b (tree.an_else word s) = do
+    n ← statement_step frame s
     if_else_row b n
 
   -- The list of the values that choose stands at `of`.
-  pub case_statement : ℕ → Option ℕ → Case → Step ℕ
-  case_statement frame label (CaseTree' word selector of constants colon inner p _ others semicolon end) = do
-    s ← selected frame of selector
-    n ← labelled_by frame inner (plain frame (label_token inner) p)
-    last ← choices s.choosing n of of constants
+  pub case_statement : ℕ → Option ℕ → CaseTree → Step ℕ
+  case_statement frame label (tree.case_statement word selector of_word first others semicolon end) = do
+    s ← selected frame of_word selector
+    last ← branch_step frame s.choosing of_word of_word first
     _ ← more_branches frame s.choosing last others
-    case_row label word s.row of
+    case_row label word s.row of_word
 
-  pub more_branches : ℕ → Choosing → ℕ → {m : _} → Row_of-NextBranch m → Step ℕ
-  more_branches frame c last end_of-NextBranch = give last
-  more_branches frame c last (more_of-NextBranch semicolon constants colon label p rest) = do
-    n ← labelled_by frame label (plain frame (label_token label) p)
-    next ← choices c n last semicolon constants
+  pub branch_step : ℕ → Choosing → ℕ → ℕ → BranchTree → Step ℕ
+  branch_step frame c last slot (tree.a_branch constants colon s) =
+      chosen_by c last slot constants (statement_step frame s)
+
+  pub more_branches : ℕ → Choosing → ℕ → BranchTrees → Step ℕ
+  more_branches frame c last tree.end_of_branches = give last
+  more_branches frame c last (tree.more_branches semicolon b rest) = do
+    next ← branch_step frame c last semicolon b
     more_branches frame c next rest
 
   -- The list of the statements stands at `repeat`. From within all of them may be reached.
-  pub repeat_statement : ℕ → Option ℕ → Repeat → Step ℕ
-  repeat_statement frame label (RepeatTree' word statements until condition) = do
-    _ ← reach_all frame statements
-    last ← sequence frame word statements
-    _ ← leave_all frame statements
+  pub repeat_statement : ℕ → Option ℕ → RepeatTree → Step ℕ
+  repeat_statement frame label (tree.repeat_statement word body until_word condition) = do
+    _ ← reach_all frame body
+    last ← sequence frame word body
+    _ ← leave_all frame body
     _ ← link_element last 0
     c ← condition_row frame condition
-    repeat_row label word until c
+    repeat_row label word until_word c
 
--- a statement that may have a label
-abbrev pub statement_step : ℕ → Option Label → Plain → Step ℕ
-statement_step frame label p = labelled_by frame label (plain frame (label_token label) p)
-
--- ---- the same over lists
+-- ---- one more of what the code holds
 
 unfoldable pub next_statement : ℕ → Element → NextStatement → Step Element
-next_statement frame last n = do
-  m ← statement_step frame n.statement.label n.statement.plain
-  add_element last n.semicolon m
+next_statement frame last n = added_element last n.semicolon (statement_step frame (tree.statement_tree n.statement))
 
 unfoldable pub next_branch : ℕ → Choosing → ℕ → NextBranch → Step ℕ
-next_branch frame c last n = do
-  m ← statement_step frame n.branch.statement.label n.branch.statement.plain
-  choices c m last n.semicolon n.branch.constants
-
-abbrev pub else_of : ℕ → Branching → Option Else → Step ℕ
-else_of frame b None = if_row b
-else_of frame b (Some e) = statement_step frame e.statement.label e.statement.plain >>= λ n. if_else_row b n
+next_branch frame c last n =
+    chosen_by c last n.semicolon (constants_tree n.branch.constants)
+    (statement_step frame (tree.statement_tree n.branch.statement))

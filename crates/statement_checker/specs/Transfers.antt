@@ -1,15 +1,15 @@
 -- The required procedures of text files: read, readln, write, writeln and page (6.9).
 use Rattle.std.specs.Prelude.{◌&&◌, ◌||◌, ◌∷◌, [], ℕ, Bool, List, None, Option, Some, false, length, nat_eq, nat_lt}
-use Rattle.std.specs.{Prelude.true, Global.Box}
-use Rattle.pas_tree.specs.ExpressionPlaces.{first_of_expression}
-use Rattle.pas_tree.specs.declared.statements.{Actual.Actual, Actuals.Actuals, NextActual.NextActual, Width.Width}
+use Rattle.std.specs.Prelude.{true}
+use Rattle.pas_tree.specs.{ExpressionPlaces.first_of_expression, declared.statements.NextActual.NextActual}
+use Rattle.pas_tree.specs.StatementTrees.{ActualTree, ActualsTree, NextActualTree, WidthTree, actual_tree}
 use Rattle.core_program.specs.declared.rows.{ItemRow.ItemRow, StatementRow.StatementRow}
 use Rattle.core_program.specs.declared.rows.TextFile.{TextFile, TheVariants.Input, TheVariants.Output}
 use Rattle.check_steps.specs.{Items.add_item, Known.Known}
 use Rattle.check_steps.specs.Steps.{◌>>=◌, Step, each, give, late, look}
 use Rattle.kind_checker.specs.{Operators.is_of_host, Operators.is_operand, Operators.is_unknown_shape, Shapes.shape_of}
 use Rattle.kind_checker.specs.declared.shapes.{ExpressionType.ExpressionType, Shape.Shape}
-use Rattle.expression_checker.specs.{Actuals.name_alone, Expressions.expression as expression_step}
+use Rattle.expression_checker.specs.{Expressions.expression as expression_step, NamesAlone.name_alone}
 use Rattle.expression_checker.specs.{Threats.threat_alone, declared.typed.Location.Location, declared.typed.Typed.Typed}
 use Rattle.statement_checker.specs.{Sequences.stated, declared.actuals.RequiredCall.RequiredCall}
 use Rattle.statement_checker.specs.Actuals.{actual_file, plain_actual, wrong_number}
@@ -28,7 +28,7 @@ is_readable k v = is_unknown_shape (shape_of k v.of)
 
 -- rule 32: an actual of read is no access of an integer or a char type, at its first token; a variable as a whole is
 -- threatened
-unfoldable pub read_item : ℕ → ℕ → ℕ → Actual → Step ℕ
+unfoldable pub read_item : ℕ → ℕ → ℕ → ActualTree → Step ℕ
 read_item frame last slot a = do
   _ ← threat_alone frame (name_alone a.expression)
   v ← plain_actual frame a
@@ -45,7 +45,7 @@ is_writable (Shape.Text length) = true
 is_writable s = is_unknown_shape s
 
 -- rule 33: a width is not an integer, at the `:`
-unfoldable pub width : ℕ → Width → Step ℕ
+unfoldable pub width : ℕ → WidthTree → Step ℕ
 width frame w = do
   v ← expression_step frame w.width
   fine ← look (λ k. is_operand 0 (shape_of k v.of))
@@ -62,14 +62,14 @@ written_item v None = ItemRow.Written v.row (written_type v.of v.row) 0
 written_item v (Some width) = ItemRow.WrittenWide v.row (written_type v.of v.row) width 0
 
 -- an actual and its width; where the last item of the list stands is given
-abbrev pub put_written : ℕ → ℕ → Typed → ℕ → Option Width → Step ℕ
+abbrev pub put_written : ℕ → ℕ → Typed → ℕ → Option WidthTree → Step ℕ
 put_written frame last v slot None = add_item last slot (written_item v None)
 put_written frame last v slot (Some w) = do
   n ← width frame w
   add_item last slot (written_item v (Some n))
 
 -- rule 32: an actual of write is no integer, char, Boolean or string, at its first token
-unfoldable pub write_item : ℕ → ℕ → ℕ → Actual → Step ℕ
+unfoldable pub write_item : ℕ → ℕ → ℕ → ActualTree → Step ℕ
 write_item frame last slot a = do
   v ← expression_step frame a.expression
   fine ← look (λ k. is_writable (shape_of k v.of))
@@ -78,12 +78,16 @@ write_item frame last slot a = do
 
 -- ---- lists of what is read or written
 
-abbrev pub item_by : Transfer → ℕ → ℕ → ℕ → Actual → Step ℕ
+abbrev pub item_by : Transfer → ℕ → ℕ → ℕ → ActualTree → Step ℕ
 item_by Reading frame last slot a = read_item frame last slot a
 item_by Writing frame last slot a = write_item frame last slot a
 
+abbrev pub another_item : Transfer → ℕ → ℕ → NextActualTree → Step ℕ
+another_item t frame last n = item_by t frame last n.comma n.actual
+
+-- the same of what the code holds
 unfoldable pub next_item : Transfer → ℕ → ℕ → NextActual → Step ℕ
-next_item t frame last n = item_by t frame last n.comma n.actual
+next_item t frame last n = item_by t frame last n.comma (actual_tree n.actual)
 
 -- the input is read, the output is written
 abbrev pub is_file_of : Transfer → TextFile → Bool
@@ -92,26 +96,26 @@ is_file_of Writing Output = true
 is_file_of t file = false
 
 -- The first actual may name the text file; rule 32: it is the wrong one, at its first token.
-abbrev pub first_item : Transfer → ℕ → ℕ → ℕ → Actual → Option TextFile → Step ℕ
+abbrev pub first_item : Transfer → ℕ → ℕ → ℕ → ActualTree → Option TextFile → Step ℕ
 first_item t frame last slot a None = item_by t frame last slot a
 first_item t frame last slot a (Some file) = do
   _ ← late 32 (first_of_expression a.expression) (is_file_of t file)
   give last
 
-abbrev pub first_comma : List NextActual → ℕ
+abbrev pub first_comma : List NextActualTree → ℕ
 first_comma [] = 0
 first_comma (n ∷ ns) = n.comma
 
 -- The number of the list: the `(`, or after a text file the first comma. After a text file alone it is empty.
-abbrev pub list_of : Option TextFile → Actuals → ℕ
-list_of None a = a.«open»
-list_of (Some file) a = first_comma a.others.items
+abbrev pub list_of : Option TextFile → ActualsTree → ℕ
+list_of None a = a.left
+list_of (Some file) a = first_comma a.others
 
 -- the list of what is read or written, by its number
-unfoldable pub items : Transfer → ℕ → ℕ → Actuals → Option TextFile → Step ℕ
+unfoldable pub items : Transfer → ℕ → ℕ → ActualsTree → Option TextFile → Step ℕ
 items t frame name a file = do
-  one ← first_item t frame name a.«open» a.first file
-  _ ← each (next_item t frame) one a.others.items
+  one ← first_item t frame name a.left a.first file
+  _ ← each (another_item t frame) one a.others
   give (list_of file a)
 
 abbrev pub transfer_row : Transfer → Bool → ℕ → ℕ → StatementRow
@@ -119,12 +123,12 @@ transfer_row Reading ends_line line list = StatementRow.Read ends_line line list
 transfer_row Writing ends_line line list = StatementRow.Write ends_line line list
 
 -- Rule 26: read and write want one actual at least after the text file, at the procedure's name.
-abbrev pub is_enough : Bool → Option TextFile → Actuals → Bool
+abbrev pub is_enough : Bool → Option TextFile → ActualsTree → Bool
 is_enough ends_line None a = true
-is_enough ends_line (Some file) a = ends_line || nat_lt 0 (length a.others.items)
+is_enough ends_line (Some file) a = ends_line || nat_lt 0 (length a.others)
 
 -- a call with actuals of read, write, or of readln and writeln, which end a line
-unfoldable pub transfer_with : Transfer → Bool → ℕ → RequiredCall → Actuals → Step ℕ
+unfoldable pub transfer_with : Transfer → Bool → ℕ → RequiredCall → ActualsTree → Step ℕ
 transfer_with t ends_line frame c a = do
   file ← look (λ k. actual_file k frame a.first)
   _ ← late 26 c.name (is_enough ends_line file a)
@@ -137,35 +141,35 @@ transfer_alone t ends_line c = do
   _ ← late 26 c.name ends_line
   stated c.name (transfer_row t ends_line c.line 0)
 
-abbrev pub transfer_call : Transfer → Bool → ℕ → RequiredCall → Option (Box Actuals) → Step ℕ
+abbrev pub transfer_call : Transfer → Bool → ℕ → RequiredCall → Option ActualsTree → Step ℕ
 transfer_call t ends_line frame c None = transfer_alone t ends_line c
-transfer_call t ends_line frame c (Some a) = transfer_with t ends_line frame c a.value
+transfer_call t ends_line frame c (Some a) = transfer_with t ends_line frame c a
 
 -- ---- page
 
 -- What is no text file is known to be none, unless its type is unknown.
-unfoldable pub page_other : ℕ → Actual → Step (Unit {0})
+unfoldable pub page_other : ℕ → ActualTree → Step (Unit {0})
 page_other frame a = do
   v ← plain_actual frame a
   fine ← look (λ k. is_unknown_shape (shape_of k v.of))
   late 32 (first_of_expression a.expression) fine
 
 -- rule 32: what page takes is not the output, at its first token
-abbrev pub paged : ℕ → Actual → Option TextFile → Step (Unit {0})
+abbrev pub paged : ℕ → ActualTree → Option TextFile → Step (Unit {0})
 paged frame a None = page_other frame a
 paged frame a (Some file) = late 32 (first_of_expression a.expression) (is_file_of Writing file)
 
-unfoldable pub page_one : ℕ → RequiredCall → Actual → Step ℕ
+unfoldable pub page_one : ℕ → RequiredCall → ActualTree → Step ℕ
 page_one frame c a = do
   file ← look (λ k. actual_file k frame a)
   _ ← paged frame a file
   stated c.name (StatementRow.Page c.line)
 
 -- rule 26: page takes one actual at most
-abbrev pub page_some : ℕ → RequiredCall → Actuals → Bool → Step ℕ
+abbrev pub page_some : ℕ → RequiredCall → ActualsTree → Bool → Step ℕ
 page_some frame c a true = page_one frame c a.first
 page_some frame c a false = wrong_number frame c.name a
 
-abbrev pub page : ℕ → RequiredCall → Option (Box Actuals) → Step ℕ
+abbrev pub page : ℕ → RequiredCall → Option ActualsTree → Step ℕ
 page frame c None = stated c.name (StatementRow.Page c.line)
-page frame c (Some a) = page_some frame c a.value (nat_eq (length a.value.others.items) 0)
+page frame c (Some a) = page_some frame c a (nat_eq (length a.others) 0)

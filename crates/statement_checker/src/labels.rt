@@ -1,6 +1,7 @@
 //! Labels and gotos (6.8.1, 6.8.2.4).
 
 ghost use Rattle.std.specs.Prelude.{◌≡◌};
+ghost use Rattle.pas_tree.specs.StatementTrees.{statements_tree};
 ghost use Rattle.check_steps.specs.Steps.{Does, each};
 ghost use Rattle.statement_checker.specs.Labels.{is_unmarked, jump, label_of, labelled, leave, leave_all, levels_in};
 ghost use Rattle.statement_checker.specs.Labels.{mark, marked_label, on_label, on_next, own_label, put_label};
@@ -165,18 +166,18 @@ fn leave_others(work: &mut Work, others: &[NextStatement], frame: u32)
 
 /// From here on there is one more way to each labelled statement of a sequence. For the outermost sequence of a block's
 /// statement part this is so before the routines of the block are checked.
-#[tactic(auto, using(check_steps::proofs::Runs::steps), unfolding(crate::specs::Labels::reach_all))]
+#[tactic(auto, using(check_steps::proofs::Runs::steps, pas_tree::proofs::StatementViews::statements_view, crate::proofs::Walks::labels_each), unfolding(crate::specs::Labels::reach_all))]
 pub fn reach_all(work: &mut Work, s: &Statements, frame: u32)
-    ensures { Does (reach_all frame s.now) tt work.old work.new }
+    ensures { Does (reach_all frame (statements_tree s.now)) tt work.old work.new }
 {
     reach_held(work, &s.first.label, frame);
     reach_others(work, &s.others, frame);
 }
 
 /// From here on there is one way fewer to each labelled statement of a sequence.
-#[tactic(auto, using(check_steps::proofs::Runs::steps), unfolding(crate::specs::Labels::leave_all))]
+#[tactic(auto, using(check_steps::proofs::Runs::steps, pas_tree::proofs::StatementViews::statements_view, crate::proofs::Walks::labels_each), unfolding(crate::specs::Labels::leave_all))]
 pub fn leave_all(work: &mut Work, s: &Statements, frame: u32)
-    ensures { Does (leave_all frame s.now) tt work.old work.new }
+    ensures { Does (leave_all frame (statements_tree s.now)) tt work.old work.new }
 {
     leave_held(work, &s.first.label, frame);
     leave_others(work, &s.others, frame);

@@ -1,6 +1,7 @@
 //! The required procedures of pointers and of packed arrays: new, dispose, pack and unpack (6.6.5.3, 6.6.5.4).
 
-ghost use Rattle.std.specs.Prelude.{◌≡◌};
+ghost use Rattle.std.specs.Prelude.{◌≡◌, map};
+ghost use Rattle.pas_tree.specs.StatementTrees.{actual_tree, actuals_tree, held_actuals_tree, next_actual_tree};
 ghost use Rattle.check_steps.specs.Steps.{Does};
 ghost use Rattle.statement_checker.specs.Moves.{assignable_or, component_type_in, dispose_one, domain_in, domain_of};
 ghost use Rattle.statement_checker.specs.Moves.{domain_or, index_in, is_array, is_index_of, is_like, is_made};
@@ -18,6 +19,7 @@ use expression_checker::selectors::type_row;
 use kind_checker::ExpressionType;
 use kind_checker::operators::is_unknown_shape;
 use kind_checker::shapes::{is_assignable, is_same_type, shape_of};
+use kind_checker::sizes::MOST_CELLS;
 use pas_tree::first_of_expression;
 use pas_tree::statements::{Actual, Actuals, NextActual};
 
@@ -74,13 +76,13 @@ fn check_made(work: &mut Work, first: u32, value: Typed) -> u32
     work.late(32, first, fine);
     let domain = domain_of(&work.tables, value);
     let cells = work.tables.program().size_of(domain);
-    work.too_big(first, cells <= 65_536);
+    work.too_big(first, cells <= MOST_CELLS);
     domain
 }
 
 #[tactic(auto, using(check_steps::proofs::Runs::steps), unfolding(crate::specs::Moves::new_one))]
 fn check_new(work: &mut Work, a: &Actual, frame: u32, call: RequiredCall) -> u32
-    ensures { Does (new_one frame call a.now) result work.old work.new }
+    ensures { Does (new_one frame call (actual_tree a.now)) result work.old work.new }
 {
     let value = check_plain(work, a, frame);
     let of = check_made(work, first_of_expression(&a.expression), value);
@@ -94,7 +96,7 @@ fn check_new(work: &mut Work, a: &Actual, frame: u32, call: RequiredCall) -> u32
 
 #[tactic(auto, using(check_steps::proofs::Runs::steps), unfolding(crate::specs::Moves::dispose_one))]
 fn check_dispose(work: &mut Work, a: &Actual, frame: u32, call: RequiredCall) -> u32
-    ensures { Does (dispose_one frame call a.now) result work.old work.new }
+    ensures { Does (dispose_one frame call (actual_tree a.now)) result work.old work.new }
 {
     let value = check_plain(work, a, frame);
     let fine = is_pointer(&work.tables, value);
@@ -115,7 +117,7 @@ fn check_pointer_one(
     making: bool,
     call: RequiredCall,
 ) -> u32
-    ensures { Does (pointer_one making frame call a.now) result work.old work.new }
+    ensures { Does (pointer_one making frame call (actual_tree a.now)) result work.old work.new }
 {
     if making {
         check_new(work, a, frame, call)
@@ -132,7 +134,7 @@ fn check_pointer_some(
     call: RequiredCall,
     one: bool,
 ) -> u32
-    ensures { Does (pointer_some making frame call a.now one) result work.old work.new }
+    ensures { Does (pointer_some making frame call (actuals_tree a.now) one) result work.old work.new }
 {
     if one {
         check_pointer_one(work, &a.first, frame, making, call)
@@ -142,6 +144,7 @@ fn check_pointer_some(
 }
 
 /// A call of new if it makes a variable, and else of dispose.
+#[tactic(auto, using(crate::proofs::Walks::actuals_counted))]
 pub(crate) fn check_pointer(
     work: &mut Work,
     actuals: &Option<Box<Actuals>>,
@@ -149,7 +152,7 @@ pub(crate) fn check_pointer(
     making: bool,
     call: RequiredCall,
 ) -> u32
-    ensures { Does (pointer_call making frame call actuals.now) result work.old work.new }
+    ensures { Does (pointer_call making frame call (held_actuals_tree actuals.now)) result work.old work.new }
 {
     match actuals {
         None => check_without_actuals(work, call.name),
@@ -250,7 +253,7 @@ fn check_moved(
 
 #[tactic(auto, using(check_steps::proofs::Runs::steps), unfolding(crate::specs::Moves::operand_actual))]
 fn check_operand(work: &mut Work, a: &Actual, frame: u32) -> CheckedActual
-    ensures { Does (operand_actual frame a.now) result work.old work.new }
+    ensures { Does (operand_actual frame (actual_tree a.now)) result work.old work.new }
 {
     let value = check_plain(work, a, frame);
     CheckedActual {
@@ -286,7 +289,8 @@ fn check_pack(
     frame: u32,
     call: RequiredCall,
 ) -> u32
-    ensures { Does (pack_three frame call a.now b.now c.now) result work.old work.new }
+    ensures { Does (pack_three frame call (actual_tree a.now) (actual_tree b.now) (actual_tree c.now)) result work.old
+        work.new }
 {
     let unpacked = check_operand(work, a, frame);
     let index = check_operand(work, b, frame);
@@ -308,7 +312,8 @@ fn check_unpack(
     frame: u32,
     call: RequiredCall,
 ) -> u32
-    ensures { Does (unpack_three frame call a.now b.now c.now) result work.old work.new }
+    ensures { Does (unpack_three frame call (actual_tree a.now) (actual_tree b.now) (actual_tree c.now)) result work.old
+        work.new }
 {
     let packed = check_operand(work, a, frame);
     let unpacked = check_operand(work, b, frame);
@@ -330,7 +335,8 @@ fn check_three(
     packing: bool,
     call: RequiredCall,
 ) -> u32
-    ensures { Does (three packing frame call a.now b.now c.now) result work.old work.new }
+    ensures { Does (three packing frame call (actual_tree a.now) (actual_tree b.now) (actual_tree c.now)) result
+        work.old work.new }
 {
     if packing {
         check_pack(work, a, b, c, frame, call)
@@ -347,7 +353,8 @@ fn check_pack_some(
     packing: bool,
     call: RequiredCall,
 ) -> u32
-    ensures { Does (pack_some packing frame call a.now others.now) result work.old work.new }
+    ensures { Does (pack_some packing frame call (actuals_tree a.now) (map next_actual_tree others.now)) result work.old
+        work.new }
 {
     match others {
         [second, third] => {
@@ -373,7 +380,7 @@ pub(crate) fn check_pack_call(
     packing: bool,
     call: RequiredCall,
 ) -> u32
-    ensures { Does (pack_call packing frame call actuals.now) result work.old work.new }
+    ensures { Does (pack_call packing frame call (held_actuals_tree actuals.now)) result work.old work.new }
 {
     match actuals {
         None => check_without_actuals(work, call.name),

@@ -1,6 +1,8 @@
 //! Statements without others inside, and what statements have of expressions and accesses (6.8.2, 6.8.3).
 
 ghost use Rattle.std.specs.Prelude.{◌≡◌, IfOk};
+ghost use Rattle.pas_tree.specs.ExpressionTrees.{access_tree, expression_tree};
+ghost use Rattle.pas_tree.specs.StatementTrees.{actual_tree, actuals_tree, assignment_tree, held_actuals_tree};
 ghost use Rattle.check_steps.specs.Steps.{Does, each};
 ghost use Rattle.expression_checker.specs.Expressions.{passing_to};
 ghost use Rattle.statement_checker.specs.Parts.{actuals_in, assigned_to, assignment, bounded, call_alone, call_as};
@@ -59,7 +61,7 @@ pub struct Opened {
 /// A condition, by its number.
 #[tactic(auto, using(check_steps::proofs::Runs::steps), unfolding(crate::specs::Parts::condition_row))]
 pub fn check_tested(work: &mut Work, e: &Expression, frame: u32) -> u32
-    ensures { Does (condition_row frame e.now) result work.old work.new }
+    ensures { Does (condition_row frame (expression_tree e.now)) result work.old work.new }
 {
     let value = check_expression(work, e, frame);
     check_condition(work, first_of_expression(e), value);
@@ -69,7 +71,7 @@ pub fn check_tested(work: &mut Work, e: &Expression, frame: u32) -> u32
 /// A bound of a for statement, by its number.
 #[tactic(auto, using(check_steps::proofs::Runs::steps), unfolding(crate::specs::Parts::bounded))]
 fn check_bounded(work: &mut Work, e: &Expression, frame: u32, control: Control) -> u32
-    ensures { Does (bounded frame control e.now) result work.old work.new }
+    ensures { Does (bounded frame control (expression_tree e.now)) result work.old work.new }
 {
     let value = check_expression(work, e, frame);
     check_bound(work, control, first_of_expression(e), value);
@@ -85,7 +87,8 @@ pub fn begin_for(
     initial: &Expression,
     last: &Expression,
 ) -> Result<ForBounds, AllocError>
-    ensures { IfOk result (λ b. Does (for_begins frame name initial.now last.now) b work.old work.new) }
+    ensures { IfOk result (λ b. Does (for_begins frame name (expression_tree initial.now) (expression_tree last.now)) b
+        work.old work.new) }
 {
     let control = enter_for(work, frame, name)?;
     let initial = check_bounded(work, initial, frame, control);
@@ -117,7 +120,7 @@ pub fn end_for(
 /// The selector of a case statement before the word `of`.
 #[tactic(auto, using(check_steps::proofs::Runs::steps), unfolding(crate::specs::Parts::selected))]
 pub fn check_selected(work: &mut Work, e: &Expression, frame: u32, of: u32) -> Selected
-    ensures { Does (selected frame of e.now) result work.old work.new }
+    ensures { Does (selected frame of (expression_tree e.now)) result work.old work.new }
 {
     let value = check_expression(work, e, frame);
     let choosing = check_selector(work, frame, of, first_of_expression(e), value);
@@ -129,7 +132,7 @@ pub fn check_selected(work: &mut Work, e: &Expression, frame: u32, of: u32) -> S
 
 #[tactic(auto, using(check_steps::proofs::Runs::steps), unfolding(crate::specs::Parts::target_access))]
 fn check_target_access(work: &mut Work, a: &Access, frame: u32) -> Typed
-    ensures { Does (target_access frame a.now) result work.old work.new }
+    ensures { Does (target_access frame (access_tree a.now)) result work.old work.new }
 {
     check_threat_alone(work, frame, access_name(a));
     check_access(work, a, frame)
@@ -137,7 +140,7 @@ fn check_target_access(work: &mut Work, a: &Access, frame: u32) -> Typed
 
 #[tactic(auto, using(check_steps::proofs::Runs::steps))]
 fn check_target_as(work: &mut Work, a: &Access, frame: u32, target: Target) -> Typed
-    ensures { Does (target_as frame a.now target) result work.old work.new }
+    ensures { Does (target_as frame (access_tree a.now) target) result work.old work.new }
 {
     match target {
         Target::Access => check_target_access(work, a, frame),
@@ -147,9 +150,9 @@ fn check_target_as(work: &mut Work, a: &Access, frame: u32, target: Target) -> T
 }
 
 /// What stands on the left of `:=`.
-#[tactic(auto, using(check_steps::proofs::Runs::steps), unfolding(crate::specs::Parts::assigned_to))]
+#[tactic(auto, using(check_steps::proofs::Runs::steps, expression_checker::proofs::Walks::name_items), unfolding(crate::specs::Parts::assigned_to))]
 pub fn check_target(work: &mut Work, a: &Access, frame: u32) -> Typed
-    ensures { Does (assigned_to frame a.now) result work.old work.new }
+    ensures { Does (assigned_to frame (access_tree a.now)) result work.old work.new }
 {
     let alone = a.selectors.len() == 0;
     work.come_to(frame);
@@ -160,7 +163,7 @@ pub fn check_target(work: &mut Work, a: &Access, frame: u32) -> Typed
 /// An assignment, which may have a label: its number is that of the `:=`.
 #[tactic(auto, using(check_steps::proofs::Runs::steps), unfolding(crate::specs::Parts::assignment))]
 pub fn check_assignment(work: &mut Work, a: &Assignment, frame: u32, label: Option<u32>) -> u32
-    ensures { Does (assignment frame label a.now) result work.old work.new }
+    ensures { Does (assignment frame label (assignment_tree a.now)) result work.old work.new }
 {
     let target = check_target(work, &a.target, frame);
     let value = check_expression(work, &a.value, frame);
@@ -177,7 +180,7 @@ fn check_passed_actual(
     passing: Passing,
     slot: u32,
 ) -> Passing
-    ensures { Does (passed_actual frame passing slot a.now) result work.old work.new }
+    ensures { Does (passed_actual frame passing slot (actual_tree a.now)) result work.old work.new }
 {
     let next = check_actual(work, &a.expression, frame, passing, slot);
     check_no_width(work, &a.width, frame);
@@ -202,8 +205,9 @@ fn check_more_passed(work: &mut Work, others: &[NextActual], frame: u32, first: 
     passing
 }
 
+#[tactic(auto, using(crate::proofs::Walks::actuals_counted))]
 fn actuals_in(a: &Actuals) -> usize
-    ensures { result ≡ actuals_in a.now }
+    ensures { result ≡ actuals_in (actuals_tree a.now) }
 {
     a.others.len() + 1
 }
@@ -218,7 +222,7 @@ fn passing_to(called: Called, name: u32) -> Passing
     }
 }
 
-#[tactic(auto, using(check_steps::proofs::Runs::steps), unfolding(crate::specs::Parts::call_with))]
+#[tactic(auto, using(check_steps::proofs::Runs::steps, crate::proofs::Walks::passed_each), unfolding(crate::specs::Parts::call_with))]
 fn check_call_with(
     work: &mut Work,
     a: &Actuals,
@@ -227,7 +231,7 @@ fn check_call_with(
     name: u32,
     callee: Callee,
 ) -> u32
-    ensures { Does (call_with frame line name callee a.now) result work.old work.new }
+    ensures { Does (call_with frame line name callee (actuals_tree a.now)) result work.old work.new }
 {
     let called = check_counted(work, name, callee, actuals_in(a));
     let first = passing_to(called, name);
@@ -253,7 +257,7 @@ fn check_declared(
     name: u32,
     callee: Callee,
 ) -> u32
-    ensures { Does (declared_call frame line name callee actuals.now) result work.old work.new }
+    ensures { Does (declared_call frame line name callee (held_actuals_tree actuals.now)) result work.old work.new }
 {
     match actuals {
         None => check_call_alone(work, line, name, callee),
@@ -270,7 +274,7 @@ fn check_call_as(
     name: u32,
     callee: Callee,
 ) -> u32
-    ensures { Does (call_as frame line name callee actuals.now) result work.old work.new }
+    ensures { Does (call_as frame line name callee (held_actuals_tree actuals.now)) result work.old work.new }
 {
     match callee {
         Callee::Required(required) => {
@@ -289,7 +293,7 @@ pub fn check_call(
     label: Option<u32>,
     name: u32,
 ) -> u32
-    ensures { Does (call_statement frame label name actuals.now) result work.old work.new }
+    ensures { Does (call_statement frame label name (held_actuals_tree actuals.now)) result work.old work.new }
 {
     let callee = check_procedure(work, frame, name);
     let line = line_of(&work.tables, label, name);
@@ -304,7 +308,7 @@ pub fn open_first_record(
     frame: u32,
     word: u32,
 ) -> Result<Opened, AllocError>
-    ensures { IfOk result (λ o. Does (first_record frame word a.now) o work.old work.new) }
+    ensures { IfOk result (λ o. Does (first_record frame word (access_tree a.now)) o work.old work.new) }
 {
     let value = check_access(work, a, frame);
     let inner = open_record(work, frame, a.name, value)?;
@@ -315,7 +319,7 @@ pub fn open_first_record(
     Ok(Opened { frame: inner, last })
 }
 
-#[tactic(auto, using(check_steps::proofs::Runs::steps), unfolding(crate::specs::Parts::next_record))]
+#[tactic(auto, using(check_steps::proofs::Runs::steps), unfolding(crate::specs::Parts::another_record, crate::specs::Parts::next_record))]
 fn open_next_record(work: &mut Work, n: &NextAccess, opened: Opened) -> Result<Opened, AllocError>
     ensures { IfOk result (λ o. Does (next_record opened n.now) o work.old work.new) }
 {

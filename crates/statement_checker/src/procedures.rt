@@ -1,6 +1,7 @@
 //! Calls of required procedures (6.6.5, 6.9).
 
 ghost use Rattle.std.specs.Prelude.{◌≡◌};
+ghost use Rattle.pas_tree.specs.StatementTrees.{held_actuals_tree};
 ghost use Rattle.check_steps.specs.Steps.{Does};
 ghost use Rattle.statement_checker.specs.Procedures.{required_call};
 
@@ -20,7 +21,7 @@ pub fn check_required(
     required: Required,
     call: RequiredCall,
 ) -> u32
-    ensures { Does (required_call required frame call actuals.now) result work.old work.new }
+    ensures { Does (required_call required frame call (held_actuals_tree actuals.now)) result work.old work.new }
 {
     match required {
         Required::Read => check_transfer(work, actuals, frame, Transfer::Reading, false, call),

@@ -1,6 +1,8 @@
 //! Statements (6.8).
 
 ghost use Rattle.std.specs.Prelude.{◌≡◌, IfOk};
+ghost use Rattle.pas_tree.specs.StatementTrees.{case_tree, compound_tree, if_tree, plain_tree, repeat_tree};
+ghost use Rattle.pas_tree.specs.StatementTrees.{statement_tree, statements_tree};
 ghost use Rattle.check_steps.specs.Steps.{Does, each};
 ghost use Rattle.statement_checker.specs.Statements.{case_statement, compound, element, if_statement, next_branch};
 ghost use Rattle.statement_checker.specs.Statements.{next_statement, plain, repeat_statement, sequence, statement_step};
@@ -36,7 +38,7 @@ fn element(slot: u32, item: u32) -> Element
 #[cycle(statements)]
 #[tactic(auto, using(check_steps::proofs::Runs::steps))]
 fn check_statement(work: &mut Work, s: &Statement, frame: u32) -> Result<u32, AllocError>
-    ensures { IfOk result (λ n. Does (statement_step frame s.now.label s.now.plain) n work.old work.new) }
+    ensures { IfOk result (λ n. Does (statement_step frame (statement_tree s.now)) n work.old work.new) }
 {
     match &s.label {
         None => check_plain(work, &s.plain, frame, None),
@@ -51,14 +53,14 @@ fn check_statement(work: &mut Work, s: &Statement, frame: u32) -> Result<u32, Al
 }
 
 #[cycle(statements)]
-#[tactic(auto, using(check_steps::proofs::Runs::steps))]
+#[tactic(auto, using(check_steps::proofs::Runs::steps, crate::proofs::Walks::records_each))]
 fn check_plain(
     work: &mut Work,
     p: &Plain,
     frame: u32,
     label: Option<u32>,
 ) -> Result<u32, AllocError>
-    ensures { IfOk result (λ n. Does (plain frame label p.now) n work.old work.new) }
+    ensures { IfOk result (λ n. Does (plain frame label (plain_tree p.now)) n work.old work.new) }
 {
     match p {
         Plain::Empty => Ok(put_empty(work)),
@@ -91,9 +93,9 @@ fn check_plain(
 
 /// A compound statement, seen from a frame: what is given is its number.
 #[cycle(statements)]
-#[tactic(auto, using(check_steps::proofs::Runs::steps, crate::proofs::StatementFields::statement_outs))]
+#[tactic(auto, using(check_steps::proofs::Runs::steps, pas_tree::proofs::StatementViews::statement_views))]
 pub fn check_compound(work: &mut Work, c: &Compound, frame: u32) -> Result<u32, AllocError>
-    ensures { IfOk result (λ n. Does (compound frame c.now) n work.old work.new) }
+    ensures { IfOk result (λ n. Does (compound frame (compound_tree c.now)) n work.old work.new) }
 {
     reach_all(work, &c.statements, frame);
     let last = check_sequence(work, &c.statements, frame, c.begin)?;
@@ -102,14 +104,14 @@ pub fn check_compound(work: &mut Work, c: &Compound, frame: u32) -> Result<u32, 
 }
 
 #[cycle(statements)]
-#[tactic(auto, using(check_steps::proofs::Runs::steps, crate::proofs::StatementFields::statement_outs))]
+#[tactic(auto, using(check_steps::proofs::Runs::steps, pas_tree::proofs::StatementViews::statements_view, crate::proofs::Walks::statements_each))]
 fn check_sequence(
     work: &mut Work,
     s: &Statements,
     frame: u32,
     list: u32,
 ) -> Result<Element, AllocError>
-    ensures { IfOk result (λ e. Does (sequence frame list s.now) e work.old work.new) }
+    ensures { IfOk result (λ e. Does (sequence frame list (statements_tree s.now)) e work.old work.new) }
 {
     let first = check_statement(work, &s.first, frame)?;
     check_more_statements(work, &s.others, frame, element(list, first))
@@ -134,9 +136,9 @@ fn check_more_statements(
 }
 
 #[cycle(statements)]
-#[tactic(auto, using(check_steps::proofs::Runs::steps, crate::proofs::StatementFields::statement_outs))]
+#[tactic(auto, using(check_steps::proofs::Runs::steps, pas_tree::proofs::StatementViews::statement_views))]
 fn check_if(work: &mut Work, x: &If, frame: u32, label: Option<u32>) -> Result<u32, AllocError>
-    ensures { IfOk result (λ n. Does (if_statement frame label x.now) n work.old work.new) }
+    ensures { IfOk result (λ n. Does (if_statement frame label (if_tree x.now)) n work.old work.new) }
 {
     let condition = check_tested(work, &x.condition, frame);
     let then = check_statement(work, &x.statement, frame)?;
@@ -156,9 +158,9 @@ fn check_if(work: &mut Work, x: &If, frame: u32, label: Option<u32>) -> Result<u
 }
 
 #[cycle(statements)]
-#[tactic(auto, using(check_steps::proofs::Runs::steps, crate::proofs::StatementFields::statement_outs))]
+#[tactic(auto, using(check_steps::proofs::Runs::steps, pas_tree::proofs::StatementViews::statement_views, crate::proofs::Walks::branches_each))]
 fn check_case(work: &mut Work, x: &Case, frame: u32, label: Option<u32>) -> Result<u32, AllocError>
-    ensures { IfOk result (λ n. Does (case_statement frame label x.now) n work.old work.new) }
+    ensures { IfOk result (λ n. Does (case_statement frame label (case_tree x.now)) n work.old work.new) }
 {
     let selected = check_selected(work, &x.selector, frame, x.of);
     let first = check_statement(work, &x.first.statement, frame)?;
@@ -189,14 +191,14 @@ fn check_more_branches(
 }
 
 #[cycle(statements)]
-#[tactic(auto, using(check_steps::proofs::Runs::steps, crate::proofs::StatementFields::statement_outs))]
+#[tactic(auto, using(check_steps::proofs::Runs::steps, pas_tree::proofs::StatementViews::statement_views))]
 fn check_repeat(
     work: &mut Work,
     x: &Repeat,
     frame: u32,
     label: Option<u32>,
 ) -> Result<u32, AllocError>
-    ensures { IfOk result (λ n. Does (repeat_statement frame label x.now) n work.old work.new) }
+    ensures { IfOk result (λ n. Does (repeat_statement frame label (repeat_tree x.now)) n work.old work.new) }
 {
     reach_all(work, &x.statements, frame);
     let last = check_sequence(work, &x.statements, frame, x.word)?;

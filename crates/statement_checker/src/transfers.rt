@@ -1,6 +1,8 @@
 //! The required procedures of text files: read, readln, write, writeln and page (6.9).
 
-ghost use Rattle.std.specs.Prelude.{◌≡◌};
+ghost use Rattle.std.specs.Prelude.{◌≡◌, map, option_map};
+ghost use Rattle.pas_tree.specs.StatementTrees.{actual_tree, actuals_tree, held_actuals_tree, next_actual_tree};
+ghost use Rattle.pas_tree.specs.StatementTrees.{width_tree};
 ghost use Rattle.check_steps.specs.Steps.{Does, each};
 ghost use Rattle.statement_checker.specs.Transfers.{first_comma, first_item, is_access, is_enough, is_file_of};
 ghost use Rattle.statement_checker.specs.Transfers.{is_readable, is_writable, item_by, items, list_of, next_item, page};
@@ -49,7 +51,7 @@ fn is_readable(tables: &Tables, value: Typed) -> bool
 
 #[tactic(auto, using(check_steps::proofs::Runs::steps), unfolding(crate::specs::Transfers::read_item))]
 fn check_read(work: &mut Work, a: &Actual, frame: u32, last: u32, slot: u32) -> u32
-    ensures { Does (read_item frame last slot a.now) result work.old work.new }
+    ensures { Does (read_item frame last slot (actual_tree a.now)) result work.old work.new }
 {
     check_threat_alone(work, frame, name_alone(&a.expression));
     let value = check_plain(work, a, frame);
@@ -74,7 +76,7 @@ fn is_writable(shape: Shape) -> bool
 
 #[tactic(auto, using(check_steps::proofs::Runs::steps), unfolding(crate::specs::Transfers::width))]
 fn check_width(work: &mut Work, w: &Width, frame: u32) -> u32
-    ensures { Does (width frame w.now) result work.old work.new }
+    ensures { Does (width frame (width_tree w.now)) result work.old work.new }
 {
     let value = check_expression(work, &w.width, frame);
     let fine = is_operand(INTEGER, shape_of(&work.tables, value.of));
@@ -119,7 +121,7 @@ fn put_written(
     value: Typed,
     slot: u32,
 ) -> u32
-    ensures { Does (put_written frame last value slot w.now) result work.old work.new }
+    ensures { Does (put_written frame last value slot (option_map width_tree w.now)) result work.old work.new }
 {
     match w {
         None => put_item(work, last, slot, written_item(value, None)),
@@ -132,7 +134,7 @@ fn put_written(
 
 #[tactic(auto, using(check_steps::proofs::Runs::steps), unfolding(crate::specs::Transfers::write_item))]
 fn check_write(work: &mut Work, a: &Actual, frame: u32, last: u32, slot: u32) -> u32
-    ensures { Does (write_item frame last slot a.now) result work.old work.new }
+    ensures { Does (write_item frame last slot (actual_tree a.now)) result work.old work.new }
 {
     let value = check_expression(work, &a.expression, frame);
     let fine = is_writable(shape_of(&work.tables, value.of));
@@ -148,7 +150,7 @@ fn check_item(
     last: u32,
     slot: u32,
 ) -> u32
-    ensures { Does (item_by transfer frame last slot a.now) result work.old work.new }
+    ensures { Does (item_by transfer frame last slot (actual_tree a.now)) result work.old work.new }
 {
     match transfer {
         Transfer::Reading => check_read(work, a, frame, last, slot),
@@ -205,7 +207,8 @@ fn check_first_item(
     last: u32,
     file: Option<TextFile>,
 ) -> u32
-    ensures { Does (first_item transfer frame last a.now.«open» a.now.first file) result work.old work.new }
+    ensures { Does (first_item transfer frame last a.now.«open» (actual_tree a.now.first) file) result work.old
+        work.new }
 {
     match file {
         None => check_item(work, &a.first, frame, transfer, last, a.open),
@@ -218,7 +221,7 @@ fn check_first_item(
 }
 
 fn first_comma(others: &[NextActual]) -> u32
-    ensures { result ≡ first_comma others.now }
+    ensures { result ≡ first_comma (map next_actual_tree others.now) }
 {
     match others {
         [] => LIST_END,
@@ -227,7 +230,7 @@ fn first_comma(others: &[NextActual]) -> u32
 }
 
 fn list_of(file: Option<TextFile>, a: &Actuals) -> u32
-    ensures { result ≡ list_of file a.now }
+    ensures { result ≡ list_of file (actuals_tree a.now) }
 {
     match file {
         None => a.open,
@@ -235,7 +238,7 @@ fn list_of(file: Option<TextFile>, a: &Actuals) -> u32
     }
 }
 
-#[tactic(auto, using(check_steps::proofs::Runs::steps), unfolding(crate::specs::Transfers::items))]
+#[tactic(auto, using(check_steps::proofs::Runs::steps, crate::proofs::Walks::items_each), unfolding(crate::specs::Transfers::items))]
 fn check_items(
     work: &mut Work,
     a: &Actuals,
@@ -244,7 +247,7 @@ fn check_items(
     name: u32,
     file: Option<TextFile>,
 ) -> u32
-    ensures { Does (items transfer frame name a.now file) result work.old work.new }
+    ensures { Does (items transfer frame name (actuals_tree a.now) file) result work.old work.new }
 {
     let first = check_first_item(work, a, frame, transfer, name, file);
     check_more_items(work, &a.others, frame, transfer, first);
@@ -268,8 +271,9 @@ fn transfer_row(transfer: Transfer, ends_line: bool, line: u32, actuals: u32) ->
     }
 }
 
+#[tactic(auto, using(crate::proofs::Walks::actuals_counted))]
 fn is_enough(ends_line: bool, file: Option<TextFile>, a: &Actuals) -> bool
-    ensures { result ≡ is_enough ends_line file a.now }
+    ensures { result ≡ is_enough ends_line file (actuals_tree a.now) }
 {
     match file {
         None => true,
@@ -286,7 +290,7 @@ fn check_transfer_with(
     ends_line: bool,
     call: RequiredCall,
 ) -> u32
-    ensures { Does (transfer_with transfer ends_line frame call a.now) result work.old work.new }
+    ensures { Does (transfer_with transfer ends_line frame call (actuals_tree a.now)) result work.old work.new }
 {
     work.come_to(frame);
     let file = actual_file(&work.tables, frame, &a.first);
@@ -325,7 +329,8 @@ pub(crate) fn check_transfer(
     ends_line: bool,
     call: RequiredCall,
 ) -> u32
-    ensures { Does (transfer_call transfer ends_line frame call actuals.now) result work.old work.new }
+    ensures { Does (transfer_call transfer ends_line frame call (held_actuals_tree actuals.now)) result work.old
+        work.new }
 {
     match actuals {
         None => check_transfer_alone(work, transfer, ends_line, call),
@@ -335,7 +340,7 @@ pub(crate) fn check_transfer(
 
 #[tactic(auto, using(check_steps::proofs::Runs::steps), unfolding(crate::specs::Transfers::page_other))]
 fn check_page_other(work: &mut Work, a: &Actual, frame: u32)
-    ensures { Does (page_other frame a.now) tt work.old work.new }
+    ensures { Does (page_other frame (actual_tree a.now)) tt work.old work.new }
 {
     let value = check_plain(work, a, frame);
     let fine = is_unknown_shape(shape_of(&work.tables, value.of));
@@ -344,7 +349,7 @@ fn check_page_other(work: &mut Work, a: &Actual, frame: u32)
 
 #[tactic(auto, using(check_steps::proofs::Runs::steps))]
 fn check_paged(work: &mut Work, a: &Actual, frame: u32, file: Option<TextFile>)
-    ensures { Does (paged frame a.now file) tt work.old work.new }
+    ensures { Does (paged frame (actual_tree a.now) file) tt work.old work.new }
 {
     match file {
         None => check_page_other(work, a, frame),
@@ -357,7 +362,7 @@ fn check_paged(work: &mut Work, a: &Actual, frame: u32, file: Option<TextFile>)
 
 #[tactic(auto, using(check_steps::proofs::Runs::steps), unfolding(crate::specs::Transfers::page_one))]
 fn check_page_one(work: &mut Work, a: &Actual, frame: u32, call: RequiredCall) -> u32
-    ensures { Does (page_one frame call a.now) result work.old work.new }
+    ensures { Does (page_one frame call (actual_tree a.now)) result work.old work.new }
 {
     work.come_to(frame);
     let file = actual_file(&work.tables, frame, a);
@@ -366,7 +371,7 @@ fn check_page_one(work: &mut Work, a: &Actual, frame: u32, call: RequiredCall) -
 }
 
 fn check_page_some(work: &mut Work, a: &Actuals, frame: u32, call: RequiredCall, one: bool) -> u32
-    ensures { Does (page_some frame call a.now one) result work.old work.new }
+    ensures { Does (page_some frame call (actuals_tree a.now) one) result work.old work.new }
 {
     if one {
         check_page_one(work, &a.first, frame, call)
@@ -376,13 +381,14 @@ fn check_page_some(work: &mut Work, a: &Actuals, frame: u32, call: RequiredCall,
 }
 
 /// A call of page.
+#[tactic(auto, using(crate::proofs::Walks::actuals_counted))]
 pub(crate) fn check_page(
     work: &mut Work,
     actuals: &Option<Box<Actuals>>,
     frame: u32,
     call: RequiredCall,
 ) -> u32
-    ensures { Does (page frame call actuals.now) result work.old work.new }
+    ensures { Does (page frame call (held_actuals_tree actuals.now)) result work.old work.new }
 {
     match actuals {
         None => put_statement(work, call.name, StatementRow::Page { line: call.line }),

@@ -1,7 +1,13 @@
-use Rattle.std.proofs.Common.{◌++◌, ◌+◌, ◌∙◌, ◌∷◌, [], List, ap, sym}
+use Rattle.std.proofs.Common.{◌++◌, ◌+◌, ◌∙◌, ◌∷◌, [], List, ap, arith, length, sym}
+use Rattle.std.proofs.lemmas.List.{length-take}
 use Rattle.answer_book.specs.{Answers.Answers, Entries.entry_at, declared.entries.Entry.Entry}
 use Rattle.dialog_replies.proofs.EntriesInTurn.{at_place, one_more}
 use Rattle.dialog_replies.proofs.saving.entries_now.Goals as goal
+
+pub push-requires : goal.push-requires
+push-requires c =
+    let taken = ap length c.places.invariant in
+    omega (arith, length-take c.places.place c.args.debug.now.book.entries, c.places-test.true, c.entries-place-end.ensures.few)
 
 pub places-preserved : goal.places-preserved
 places-preserved c =
