@@ -1,5 +1,6 @@
 //! Tests of what a run is made of and kept in: lists of values, the store, the log and its effects, the calls, a
-//! machine and a body; and of whole runs, with their calls done again, outputs sliced, and alike calls in classes.
+//! machine and a body; and of whole runs, with their calls done again, outputs sliced, alike calls in classes,
+//! and a right program that judges its calls.
 #![tactic(auto)]
 
 #[cfg(test)]
@@ -8,6 +9,8 @@ mod actions;
 mod classes;
 #[cfg(test)]
 mod log;
+#[cfg(test)]
+mod references;
 #[cfg(test)]
 mod runs;
 #[cfg(test)]

@@ -152,6 +152,7 @@ pub fn history_of(alloc: Global, program: &Program, input: &[u8]) -> Result<Hist
     requires short { length input.now ≤ most_bytes }
     ensures ran { IfOk result (λ h. (input : List ℕ) × (length input ≤ most_bytes)
         × IsOfRun program.now input h.budget h) }
+    ensures some_steps { IfOk result (λ h. 0 < h.budget) }
     ensures budget { IfOk result (λ h. h.budget ≤ 4000000) }
 {
     let history = run(alloc, program, input, 1_000)?;

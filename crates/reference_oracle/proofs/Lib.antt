@@ -1,0 +1,15 @@
+pub mod CallsKept
+pub mod EntriesGiven
+pub mod FramesMade
+pub mod HeadingsCompared
+pub mod ListsWalked
+pub mod MatchesFound
+pub mod PairsMatch
+pub mod PairsNumbered
+pub mod PlacesPut
+pub mod RecordsCompared
+pub mod ReferencesAsked
+pub mod RowsFit
+pub mod RowsSay
+pub mod VerdictsTested
+pub mod WhatIsRead

@@ -1,0 +1,13 @@
+pub mod Answers
+pub mod Asking
+pub mod Compared
+pub mod Fitting
+pub mod Kept
+pub mod Laws
+pub mod Matches
+pub mod PairsOfTypes
+pub mod Places
+pub mod Reading
+pub mod Shapes
+pub mod SignaturesOf
+pub mod Verdicts
