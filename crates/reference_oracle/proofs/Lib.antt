@@ -2,10 +2,13 @@ pub mod CallsKept
 pub mod EntriesGiven
 pub mod FramesMade
 pub mod HeadingsCompared
+pub mod LevelsFound
 pub mod ListsWalked
 pub mod MatchesFound
+pub mod NamesFound
 pub mod PairsMatch
 pub mod PairsNumbered
+pub mod PartsPut
 pub mod PlacesPut
 pub mod RecordsCompared
 pub mod ReferencesAsked

@@ -26,6 +26,13 @@ stands_last (p ∷ pairs) q = stands_last pairs q
 pub extends_twice : (xs ys zs : List TypePair) → Extends xs ys → Extends ys zs → Extends xs zs
 extends_twice xs ys zs f g number q there = g number q (f number q there)
 
+pub extends_long : (xs ys : List TypePair) → Extends xs ys → length xs ≤ length ys
+extends_long xs ys h = elim (cases_lt (length ys) (length xs)) [
+  | inl l ↦ (let x = there_is xs (length ys) l in
+      absurd (let w = slice_get_within ys (length ys) x.0 (h (length ys) x.0 x.1) in omega (arith, w)))
+  | inr l ↦ l
+]
+
 -- one pair more is numbered
 pub numbers_one : (old new : TypePair → Option ℕ) (pairs : List TypePair) (q : TypePair) (number : ℕ) → number ≡ length pairs → AreNumbers old pairs
     → ((r : TypePair) → new r ≡ update same_pair old q (Some number) r) → AreNumbers new (pairs ++ q ∷ [])

@@ -4,8 +4,12 @@ pub mod Compared
 pub mod Fitting
 pub mod Kept
 pub mod Laws
+pub mod Levels
 pub mod Matches
+pub mod NamesKept
+pub mod PairsKept
 pub mod PairsOfTypes
+pub mod PartsKept
 pub mod Places
 pub mod Reading
 pub mod Shapes

@@ -1,9 +1,8 @@
 -- The pairs of types that have to match, as the code keeps them: in a list, each by its place there.
-use Rattle.std.specs.Prelude.{◌∷◌, ◌≡◌, [], ℕ, Bool, List, None, Option, Some, false, slice_get, unwrap_or}
-use Rattle.std.specs.{Global.Vec, List.list_all}
-use Rattle.reference_oracle.specs.Shapes.{Programs, pairs_inside, same_within}
+use Rattle.std.specs.Prelude.{◌∷◌, ◌≡◌, [], ℕ, Bool, List, None, Option, Some, slice_get}
+use Rattle.std.specs.Global.{Vec}
+use Rattle.reference_oracle.specs.{Shapes.Programs, Shapes.pairs_inside, declared.parts.TypePair.TypePair}
 use Rattle.reference_oracle.specs.contracts.parts.TypePairPartialEq.TheImpl as equality
-use Rattle.reference_oracle.specs.declared.parts.TypePair.{TypePair}
 
 -- the list in a vector, if there is one
 abbrev pub pairs_in : Option (Vec TypePair) → Option (List TypePair)
@@ -38,22 +37,7 @@ AreInside pairs None None = Unit {0}
 AreInside pairs (Some ns) (Some qs) = StandAt pairs ns.items qs
 AreInside pairs ns qs = ⊥
 
--- The first pairs of the list have their inner ones noted.
+-- the first pairs of the list have their inner ones noted
 abbrev pub AreNoted : Programs → List TypePair → List (Option (Vec ℕ)) → Type 0
 AreNoted ps pairs noted = (number : ℕ) (ns : Option (Vec ℕ)) → slice_get noted number ≡ Some ns
     → (q : TypePair) × (slice_get pairs number ≡ Some q) × AreInside pairs ns (pairs_inside ps q)
-
--- ---- which of them match
-
-abbrev pub bit_at : List Bool → (number : ℕ) → Bool
-bit_at bits number = unwrap_or (slice_get bits number) false
-
--- a pair matches if all inside do
-abbrev pub matches_by : List Bool → Option (Vec ℕ) → Bool
-matches_by bits None = false
-matches_by bits (Some ns) = list_all (bit_at bits) ns.items
-
--- these are the pairs that match, where types stand at most this many deep in one another
-abbrev pub AreMatched : Programs → List TypePair → (most : ℕ) → List Bool → Type 0
-AreMatched ps pairs most bits =
-    (number : ℕ) (q : TypePair) → slice_get pairs number ≡ Some q → bit_at bits number ≡ same_within ps most q

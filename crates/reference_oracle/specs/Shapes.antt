@@ -120,17 +120,29 @@ abbrev pub pairs_of_records : Programs → TypePair → Option (List TypePair)
 pairs_of_records ps q =
     record_pairs ps (record_parts_of ps.subject q.subject) (record_parts_of ps.reference q.reference)
 
--- Types agree in all but the types in them, and these are then in pairs: subranges with the same bounds, of hosts;
--- arrays, records or sets, equally packed.
-abbrev pub type_pairs : Programs → TypePair → TypeRow → TypeRow → Option (List TypePair)
-type_pairs ps q (TypeRow.Ordinal least greatest) (TypeRow.Ordinal other_least other) =
+-- Ordinal types agree in all but the types in them, and these are then in pairs: enumerations and required types that
+-- are the same, and subranges with the same bounds, of hosts.
+abbrev pub ordinal_pairs : Programs → TypePair → TypeRow → TypeRow → Option (List TypePair)
+ordinal_pairs ps q (TypeRow.Ordinal least greatest) (TypeRow.Ordinal other_least other) =
     if same_ordinals ps q greatest other then Some [] else None
-type_pairs ps q (TypeRow.Subrange s least greatest) (TypeRow.Subrange t other_least other) =
+ordinal_pairs ps q (TypeRow.Subrange s least greatest) (TypeRow.Subrange t other_least other) =
     if int_eq least other_least && int_eq greatest other then Some (pair s t ∷ []) else None
-type_pairs ps q (TypeRow.Set packed s) (TypeRow.Set other t) =
+ordinal_pairs ps q s t = None
+
+-- sets or arrays, equally packed
+abbrev pub set_or_array_pairs : TypeRow → TypeRow → Option (List TypePair)
+set_or_array_pairs (TypeRow.Set packed s) (TypeRow.Set other t) =
     if same_truth packed other then Some (pair s t ∷ []) else None
-type_pairs ps q (TypeRow.Array packed i s cells) (TypeRow.Array other j t others) =
+set_or_array_pairs (TypeRow.Array packed i s cells) (TypeRow.Array other j t others) =
     if same_truth packed other then Some (pair i j ∷ pair s t ∷ []) else None
+set_or_array_pairs s t = None
+
+-- two types: ordinal types; or arrays, records or sets, equally packed
+abbrev pub type_pairs : Programs → TypePair → TypeRow → TypeRow → Option (List TypePair)
+type_pairs ps q (TypeRow.Ordinal least greatest) t = ordinal_pairs ps q (TypeRow.Ordinal least greatest) t
+type_pairs ps q (TypeRow.Subrange s least greatest) t = ordinal_pairs ps q (TypeRow.Subrange s least greatest) t
+type_pairs ps q (TypeRow.Set packed s) t = set_or_array_pairs (TypeRow.Set packed s) t
+type_pairs ps q (TypeRow.Array packed i s cells) t = set_or_array_pairs (TypeRow.Array packed i s cells) t
 type_pairs ps q (TypeRow.Record packed region cells variants) (TypeRow.Record other regions others more) =
     if same_truth packed other then pairs_of_records ps q else None
 type_pairs ps q s t = None

@@ -12,6 +12,7 @@ use crate::asks::{args_for, entry_for, items_from};
 use crate::fits::{effect_of, is_common, returned_or_faulted};
 use crate::headings::counterpart;
 use crate::matches::{Match, matches_of, turned_matches};
+use crate::pairs::Pairs;
 use crate::places::places_of;
 use call_tree::Call;
 use cell_value::{Cells, Memory, STACK_END};
@@ -65,10 +66,11 @@ pub(crate) fn fit_of(
     if !returned_or_faulted(row.way) {
         return Ok(None);
     }
-    let Some(routine) = counterpart(alloc, program, reference, row.routine)? else {
+    let mut pairs = Pairs::new(alloc, program, reference)?;
+    let Some(routine) = counterpart(alloc, program, reference, &mut pairs, row.routine)? else {
         return Ok(None);
     };
-    let matches = matches_of(alloc, program, reference)?;
+    let matches = matches_of(alloc, program, reference, &mut pairs)?;
     let places = places_of(alloc, &matches)?;
     let found = effect_of(alloc, &run.log, row)?;
     if !can_answer(reference, routine, &places, &row.args, &found) {

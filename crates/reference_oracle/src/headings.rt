@@ -1,14 +1,14 @@
 //! Which routine of the reference answers for one of the subject.
 
-ghost use Rattle.std.specs.Prelude.{◌≡◌, IfOk, Some, find, length, option_map};
+ghost use Rattle.std.specs.Prelude.{◌≡◌, IfOk, OnOk, Some, find, length, option_map};
 ghost use Rattle.std.specs.List.{range_with_len};
 ghost use Rattle.core_program.specs.Headings.{same_mode, signature_at, variable_type};
 ghost use Rattle.core_program.specs.ProgramRows.{routine_at, row_at};
-ghost use Rattle.reference_oracle.specs.{Shapes.programs, SignaturesOf.signature_of};
+ghost use Rattle.reference_oracle.specs.{PairsKept.ArePairs, Shapes.programs, SignaturesOf.signature_of};
 ghost use Rattle.reference_oracle.specs.Fitting.{counterpart, is_namesake, same_results, same_sections};
 ghost use Rattle.reference_oracle.specs.Fitting.{same_signatures, section_at, sections_in_turn};
 
-use crate::pairs::same_shape;
+use crate::pairs::Pairs;
 use crate::shapes::names_agree;
 use cell_value::Memory;
 use core_program::rows::{ItemRow, Mode, NameRow, PartRow, Row};
@@ -100,10 +100,13 @@ fn sections_in_turn(
     alloc: Global,
     subject: &Program,
     reference: &Program,
+    pairs: &mut Pairs,
     section: Section,
     other: Section,
 ) -> Result<InTurn, Memory>
-    ensures { IfOk result (λ found. found ≡ sections_in_turn (programs subject.now reference.now) section other) }
+    requires pairs { ArePairs (programs subject.now reference.now) pairs.old }
+    ensures found { IfOk result (λ found. found ≡ sections_in_turn (programs subject.now reference.now) section other) }
+    ensures pairs { OnOk result (ArePairs (programs subject.now reference.now) pairs.new) }
 {
     match section {
         Section::Names {
@@ -121,7 +124,7 @@ fn sections_in_turn(
                 if !(same_mode(mode, passed) && count == many) {
                     return Ok(InTurn::Apart);
                 }
-                if same_shape(alloc, subject, reference, of, kind)? {
+                if pairs.same_shape(alloc, subject, reference, of, kind)? {
                     Ok(InTurn::Further(next, after))
                 } else {
                     Ok(InTurn::Apart)
@@ -142,18 +145,21 @@ fn same_sections(
     alloc: Global,
     subject: &Program,
     reference: &Program,
+    pairs: &mut Pairs,
     first: u32,
     other: u32,
 ) -> Result<bool, Memory>
-    ensures { IfOk result (λ same. same
+    requires pairs { ArePairs (programs subject.now reference.now) pairs.old }
+    ensures same { IfOk result (λ same. same
         ≡ same_sections (programs subject.now reference.now) (length subject.now.rows) first other) }
+    ensures pairs { OnOk result (ArePairs (programs subject.now reference.now) pairs.new) }
 {
     let mut a = first;
     let mut b = other;
     'sections: for step in 0..subject.rows() {
         let section = section_at(subject, a);
         let beside = section_at(reference, b);
-        match sections_in_turn(alloc, subject, reference, section, beside)? {
+        match sections_in_turn(alloc, subject, reference, pairs, section, beside)? {
             InTurn::Further(next, after) => {
                 a = next;
                 b = after;
@@ -193,16 +199,19 @@ fn same_results(
     alloc: Global,
     subject: &Program,
     reference: &Program,
+    pairs: &mut Pairs,
     kind: Option<u32>,
     other: Option<u32>,
 ) -> Result<bool, Memory>
-    ensures { IfOk result (λ same. same ≡ same_results (programs subject.now reference.now) kind other) }
+    requires pairs { ArePairs (programs subject.now reference.now) pairs.old }
+    ensures same { IfOk result (λ same. same ≡ same_results (programs subject.now reference.now) kind other) }
+    ensures pairs { OnOk result (ArePairs (programs subject.now reference.now) pairs.new) }
 {
     match kind {
         None => Ok(other.is_none()),
         Some(kind) => match other {
             None => Ok(false),
-            Some(other) => same_shape(alloc, subject, reference, kind, other),
+            Some(other) => pairs.same_shape(alloc, subject, reference, kind, other),
         },
     }
 }
@@ -212,11 +221,14 @@ fn same_signatures(
     alloc: Global,
     subject: &Program,
     reference: &Program,
+    pairs: &mut Pairs,
     heading: u32,
     other: u32,
 ) -> Result<bool, Memory>
-    ensures { IfOk result (λ same. same ≡ same_signatures (programs subject.now reference.now)
+    requires pairs { ArePairs (programs subject.now reference.now) pairs.old }
+    ensures same { IfOk result (λ same. same ≡ same_signatures (programs subject.now reference.now)
         (signature_at subject.now heading) (signature_at reference.now other)) }
+    ensures pairs { OnOk result (ArePairs (programs subject.now reference.now) pairs.new) }
 {
     let Some(parts) = parts_of(subject, heading) else {
         return Ok(false);
@@ -224,8 +236,22 @@ fn same_signatures(
     let Some(others) = parts_of(reference, other) else {
         return Ok(false);
     };
-    if same_results(alloc, subject, reference, parts.result, others.result)? {
-        same_sections(alloc, subject, reference, parts.sections, others.sections)
+    if same_results(
+        alloc,
+        subject,
+        reference,
+        pairs,
+        parts.result,
+        others.result,
+    )? {
+        same_sections(
+            alloc,
+            subject,
+            reference,
+            pairs,
+            parts.sections,
+            others.sections,
+        )
     } else {
         Ok(false)
     }
@@ -265,9 +291,12 @@ pub(crate) fn counterpart(
     alloc: Global,
     subject: &Program,
     reference: &Program,
+    pairs: &mut Pairs,
     routine: u32,
 ) -> Result<Option<u32>, Memory>
-    ensures { IfOk result (λ found. found ≡ counterpart (programs subject.now reference.now) routine) }
+    requires pairs { ArePairs (programs subject.now reference.now) pairs.old }
+    ensures found { IfOk result (λ found. found ≡ counterpart (programs subject.now reference.now) routine) }
+    ensures pairs { OnOk result (ArePairs (programs subject.now reference.now) pairs.new) }
 {
     let Some(asked) = subject.routine(routine) else {
         return Ok(None);
@@ -278,7 +307,14 @@ pub(crate) fn counterpart(
     let Some(other) = reference.routine(number) else {
         return Ok(None);
     };
-    if same_signatures(alloc, subject, reference, asked.heading, other.heading)? {
+    if same_signatures(
+        alloc,
+        subject,
+        reference,
+        pairs,
+        asked.heading,
+        other.heading,
+    )? {
         Ok(Some(number))
     } else {
         Ok(None)

@@ -2,11 +2,11 @@
 
 ghost use Rattle.std.specs.Prelude.{◌++◌, ◌≡◌, IfOk, OnOk, map, option_to_list};
 ghost use Rattle.core_program.specs.ProgramRows.{row_at};
-ghost use Rattle.reference_oracle.specs.{Matches.turned, Shapes.programs};
-ghost use Rattle.reference_oracle.specs.Matches.{block_variable_in, block_variables, match_with, matches, namesake};
+ghost use Rattle.reference_oracle.specs.{PairsKept.ArePairs, Shapes.programs};
+ghost use Rattle.reference_oracle.specs.Matches.{block_variable_in, block_variables, match_with, matches, turned};
 
-use crate::pairs::same_shape;
-use crate::shapes::names_agree;
+use crate::names::{by_name, namesake};
+use crate::pairs::Pairs;
 use cell_value::Memory;
 use core_program::Program;
 use core_program::rows::{Mode, NameRow, Row};
@@ -85,38 +85,23 @@ fn block_variables(alloc: Global, program: &Program) -> Result<Vec<BlockVariable
     Ok(variables)
 }
 
-/// The variable of the reference's program block with the name of one of the subject's.
-fn namesake(
-    subject: &Program,
-    reference: &Program,
-    variable: BlockVariable,
-    others: &[BlockVariable],
-) -> Option<BlockVariable>
-    requires all { others.now ≡ block_variables reference.now }
-    ensures { result ≡ namesake (programs subject.now reference.now) variable }
-{
-    'others: for i in 0..others.len() {
-        if names_agree(subject, reference, variable.token, others[i].token) {
-            return Some(others[i]);
-        }
-    }
-    None
-}
-
 /// Two variables of one name, if they are of one shape.
 fn match_of(
     alloc: Global,
     subject: &Program,
     reference: &Program,
+    pairs: &mut Pairs,
     variable: BlockVariable,
     other: Option<BlockVariable>,
 ) -> Result<Option<Match>, Memory>
-    ensures { IfOk result (λ found. found ≡ match_with (programs subject.now reference.now) variable other) }
+    requires pairs { ArePairs (programs subject.now reference.now) pairs.old }
+    ensures found { IfOk result (λ found. found ≡ match_with (programs subject.now reference.now) variable other) }
+    ensures pairs { OnOk result (ArePairs (programs subject.now reference.now) pairs.new) }
 {
     match other {
         None => Ok(None),
         Some(other) => {
-            if same_shape(alloc, subject, reference, variable.kind, other.kind)? {
+            if pairs.same_shape(alloc, subject, reference, variable.kind, other.kind)? {
                 Ok(Some(Match {
                     subject: variable.address,
                     reference: other.address,
@@ -129,23 +114,38 @@ fn match_of(
     }
 }
 
+/// Puts two variables at the end of a list, if they match.
+fn put_both(matches: &mut Vec<Match>, both: Option<Match>) -> Result<(), Memory>
+    ensures { OnOk result (matches.new.items ≡ matches.old.items ++ option_to_list both) }
+{
+    match both {
+        None => Ok(()),
+        Some(both) => {
+            matches.push(both)?;
+            Ok(())
+        }
+    }
+}
+
 /// The variables of the subject's program block that match those of the reference's of the same name and shape.
 pub(crate) fn matches_of(
     alloc: Global,
     subject: &Program,
     reference: &Program,
+    pairs: &mut Pairs,
 ) -> Result<Vec<Match>, Memory>
+    requires pairs { ArePairs (programs subject.now reference.now) pairs.old }
     ensures { IfOk result (λ v. v.items ≡ matches (programs subject.now reference.now)) }
 {
     let variables = block_variables(alloc, subject)?;
     let others = block_variables(alloc, reference)?;
+    let named = by_name(alloc, reference, &others)?;
     let mut found = Vec::new(alloc);
     'variables: for i in 0..variables.len() {
-        let other = namesake(subject, reference, variables[i], &others);
-        match match_of(alloc, subject, reference, variables[i], other)? {
-            None => {}
-            Some(both) => found.push(both)?,
-        }
+        let variable = variables[i];
+        let other = namesake(alloc, subject, &named, variable)?;
+        let both = match_of(alloc, subject, reference, pairs, variable, other)?;
+        put_both(&mut found, both)?;
     }
     Ok(found)
 }

@@ -1,13 +1,13 @@
-//! The pairs of types that have to match so that one pair does, and whether they do.
+//! The pairs of types that have to match so that one pair does, each looked at once.
 
-ghost use Rattle.std.specs.Prelude.{◌≡◌, IfOk, OnOk, Some, length, map, slice_get, true};
-ghost use Rattle.std.specs.{HashMap.get, List.list_all, Map.update};
-ghost use Rattle.reference_oracle.specs.PairsOfTypes.{AreInside, AreMatched, AreNoted, AreNumbers, Extends, StandAt};
-ghost use Rattle.reference_oracle.specs.PairsOfTypes.{bit_at, matches_by, pairs_in, same_pair};
-ghost use Rattle.reference_oracle.specs.Shapes.{Programs, programs, same_shape};
-ghost use Rattle.reference_oracle.specs.declared.parts.TypePair.{TypePair};
+ghost use Rattle.std.specs.Prelude.{◌≡◌, IfOk, OnOk, Some, length, slice_get};
+ghost use Rattle.std.specs.{HashMap.get, Map.update};
+ghost use Rattle.reference_oracle.specs.{PairsKept.ArePairs, PairsOfTypes.same_pair, PartsKept.AreBothParts};
+ghost use Rattle.reference_oracle.specs.{Shapes.programs, Shapes.same_shape, declared.parts.TypePair.TypePair};
+ghost use Rattle.reference_oracle.specs.PairsOfTypes.{AreInside, AreNoted, AreNumbers, Extends, StandAt, pairs_in};
 
-use crate::parts::TypePair;
+use crate::levels::{add_levels, is_within, level_at, settle};
+use crate::parts::{BothParts, TypePair};
 use crate::shapes::pairs_inside;
 use cell_value::Memory;
 use core_program::Program;
@@ -89,132 +89,109 @@ fn inside_of(
     }
 }
 
-/// The pairs that one leads to, with itself the first, and of each the numbers of those inside of it.
-#[derive(Drop)]
-struct Pairs {
-    list: Vec<TypePair>,
-    inside: Vec<Option<Vec<u32>>>,
-}
-
-/// The pairs that one leads to. More of them than numbers of 32 bits count as out of memory.
-fn pairs_from(
+/// Of each pair from the first without on, the numbers of those inside of it. More of them than can be counted are out
+/// of memory.
+fn look_inside(
     alloc: Global,
     subject: &Program,
     reference: &Program,
-    pair: TypePair,
-) -> Result<Pairs, Memory>
-    ensures first { IfOk result (λ pairs. slice_get pairs.list.items 0 ≡ Some pair) }
-    ensures noted { IfOk result (λ pairs.
-        AreNoted (programs subject.now reference.now) pairs.list.items pairs.inside.items) }
-    ensures all { IfOk result (λ pairs. length pairs.inside.items ≡ length pairs.list.items) }
+    parts: &BothParts,
+    list: &mut Vec<TypePair>,
+    known: &mut HashMap<TypePair, u32>,
+    inside: &mut Vec<Option<Vec<u32>>>,
+) -> Result<(), Memory>
+    requires parts { AreBothParts (programs subject.now reference.now) parts.now }
+    requires numbers { AreNumbers (get same_pair known.old) list.old.items }
+    requires noted { AreNoted (programs subject.now reference.now) list.old.items inside.old.items }
+    ensures noted { OnOk result (AreNoted (programs subject.now reference.now) list.new.items inside.new.items) }
+    ensures all { OnOk result (length inside.new.items ≡ length list.new.items) }
+    ensures more { OnOk result (Extends list.old.items list.new.items) }
+    ensures numbers { OnOk result (AreNumbers (get same_pair known.new) list.new.items) }
 {
-    let mut list = Vec::new(alloc);
-    let mut known = HashMap::new(alloc);
-    list.push(pair)?;
-    note(&mut known, pair, 0)?;
-    let mut inside = Vec::new(alloc);
-    'pairs: for at in 0..u32::MAX {
-        if at as usize >= list.len() {
-            return Ok(Pairs { list, inside });
+    'pairs: for at in inside.len()..usize::MAX {
+        if at >= list.len() {
+            return Ok(());
         }
-        let found = pairs_inside(alloc, subject, reference, list[at as usize])?;
-        let numbers = inside_of(alloc, &mut list, &mut known, found)?;
+        let found = pairs_inside(alloc, subject, reference, parts, list[at])?;
+        let numbers = inside_of(alloc, list, known, found)?;
         inside.push(numbers)?;
     }
     Err(AllocError)
 }
 
-/// Whether the pair of a number matches.
-fn bit_at(bits: &[bool], number: u32) -> bool
-    ensures { result ≡ bit_at bits.now number }
-{
-    match bits.get(number as usize) {
-        Some(bit) => *bit,
-        None => false,
-    }
+/// The pairs of types that were looked at: all that one of them leads to are among them.
+#[derive(Drop)]
+pub(crate) struct Pairs {
+    parts: BothParts,
+    list: Vec<TypePair>,
+    known: HashMap<TypePair, u32>,
+    // Of each pair the numbers of those inside of it, if it can match.
+    inside: Vec<Option<Vec<u32>>>,
+    // Of each pair its level, if it matches.
+    levels: Vec<Option<u32>>,
 }
 
-/// Whether all pairs of these numbers match.
-fn all_match(bits: &[bool], numbers: &[u32]) -> bool
-    ensures { result ≡ list_all (bit_at bits.now) numbers.now }
-{
-    'each: for i in 0..numbers.len() {
-        if !bit_at(bits, numbers[i]) {
-            return false;
-        }
+impl Pairs {
+    /// None so far.
+    pub(crate) fn new(alloc: Global, subject: &Program, reference: &Program) -> Result<Self, Memory>
+        ensures { IfOk result (ArePairs (programs subject.now reference.now)) }
+    {
+        let parts = BothParts::of(alloc, subject, reference)?;
+        Ok(Pairs {
+            parts,
+            list: Vec::new(alloc),
+            known: HashMap::new(alloc),
+            inside: Vec::new(alloc),
+            levels: Vec::new(alloc),
+        })
     }
-    true
-}
 
-/// Whether a pair matches, by those inside of it.
-fn matches_by(bits: &[bool], inside: &Option<Vec<u32>>) -> bool
-    ensures { result ≡ matches_by bits.now inside.now }
-{
-    match inside {
-        None => false,
-        Some(numbers) => all_match(bits, numbers),
+    /// The number of a pair, which is looked at, with all that it leads to, if it was not before.
+    fn look_at(
+        &mut self,
+        alloc: Global,
+        subject: &Program,
+        reference: &Program,
+        pair: TypePair,
+    ) -> Result<u32, Memory>
+        requires pairs { ArePairs (programs subject.now reference.now) self.old }
+        ensures there { IfOk result (λ n. slice_get self.new.list.items n ≡ Some pair) }
+        ensures pairs { OnOk result (ArePairs (programs subject.now reference.now) self.new) }
+    {
+        let start = self.inside.len();
+        let number = number_of(&mut self.list, &mut self.known, pair)?;
+        look_inside(
+            alloc,
+            subject,
+            reference,
+            &self.parts,
+            &mut self.list,
+            &mut self.known,
+            &mut self.inside,
+        )?;
+        add_levels(&mut self.levels, self.inside.len())?;
+        settle(alloc, &mut self.levels, &self.inside, start, number)?;
+        Ok(number)
     }
-}
 
-/// Which pairs match, by those inside of them.
-fn next_bits(alloc: Global, pairs: &Pairs, bits: &[bool]) -> Result<Vec<bool>, Memory>
-    ensures { IfOk result (λ next. next.items ≡ map (matches_by bits.now) pairs.now.inside.items) }
-{
-    let mut next = Vec::new(alloc);
-    'each: for i in 0..pairs.inside.len() {
-        next.push(matches_by(bits, &pairs.inside[i]))?;
+    /// Whether a type of the subject and one of the reference have one shape.
+    pub(crate) fn same_shape(
+        &mut self,
+        alloc: Global,
+        subject: &Program,
+        reference: &Program,
+        a: u32,
+        b: u32,
+    ) -> Result<bool, Memory>
+        requires pairs { ArePairs (programs subject.now reference.now) self.old }
+        ensures same { IfOk result (λ same. same ≡ same_shape (programs subject.now reference.now) a b) }
+        ensures pairs { OnOk result (ArePairs (programs subject.now reference.now) self.new) }
+    {
+        let pair = TypePair {
+            subject: a,
+            reference: b,
+        };
+        let number = self.look_at(alloc, subject, reference, pair)?;
+        Ok(is_within(subject.rows(), level_at(&self.levels, number)))
     }
-    Ok(next)
-}
-
-/// Whether two lists are the same.
-fn is_same(bits: &[bool], others: &[bool]) -> bool
-    ensures { result ≡ true → bits.now ≡ others.now }
-{
-    if bits.len() != others.len() {
-        return false;
-    }
-    'each: for i in 0..bits.len() {
-        if bits[i] != others[i] {
-            return false;
-        }
-    }
-    true
-}
-
-/// Which pairs match, where types stand at most this many deep in one another. Once no pair more matches by going
-/// deeper, none will.
-fn settled(alloc: Global, pairs: &Pairs, most: usize) -> Result<Vec<bool>, Memory>
-    requires all { length pairs.now.inside.items ≡ length pairs.now.list.items }
-    ensures { IfOk result (λ bits. (ps : Programs) → AreNoted ps pairs.now.list.items pairs.now.inside.items
-        → AreMatched ps pairs.now.list.items most bits.items) }
-{
-    let mut bits = vec![in alloc; false; pairs.list.len()]?;
-    'depths: for depth in 0..most {
-        let next = next_bits(alloc, pairs, &bits)?;
-        if is_same(&bits, &next) {
-            return Ok(bits);
-        }
-        bits = next;
-    }
-    Ok(bits)
-}
-
-/// Whether a type of the subject and one of the reference have one shape.
-pub(crate) fn same_shape(
-    alloc: Global,
-    subject: &Program,
-    reference: &Program,
-    a: u32,
-    b: u32,
-) -> Result<bool, Memory>
-    ensures { IfOk result (λ same. same ≡ same_shape (programs subject.now reference.now) a b) }
-{
-    let pair = TypePair {
-        subject: a,
-        reference: b,
-    };
-    let pairs = pairs_from(alloc, subject, reference, pair)?;
-    let bits = settled(alloc, &pairs, subject.rows())?;
-    Ok(bit_at(&bits, 0))
 }

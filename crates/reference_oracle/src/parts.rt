@@ -1,8 +1,9 @@
 //! What records and variants are made of, as far as it counts for their shape.
 
-ghost use Rattle.std.specs.Prelude.{◌++◌, ◌≡◌, IfOk, OnOk, length};
+ghost use Rattle.std.specs.Prelude.{if◌then◌else◌, ◌++◌, ◌==◌, ◌≡◌, [], ℕ, IfOk, OnOk, length};
 ghost use Rattle.core_program.specs.ProgramRows.{row_at};
-ghost use Rattle.reference_oracle.specs.Shapes.{choice_at, choices_from, parts_in, position_in, record_parts_of};
+ghost use Rattle.reference_oracle.specs.PartsKept.{AreBothParts, AreParts, holder_in, parts_at};
+ghost use Rattle.reference_oracle.specs.Shapes.{choice_at, choices_from, parts_in, position_in, programs};
 
 use cell_value::Memory;
 use core_program::Program;
@@ -131,20 +132,107 @@ fn put_part(
     }
 }
 
-/// The parts of a record, or of a variant, in order. A row that has no number of 32 bits counts as out of memory.
-pub(crate) fn parts_of(
-    alloc: Global,
+/// What holds the part of a record or a variant at a token, if one stands there.
+fn holder_at(program: &Program, token: u32) -> Option<u32>
+    ensures { result ≡ holder_in (row_at program.now token) }
+{
+    match program.row(token) {
+        Row::Name(NameRow::Field { holder, .. }) => Some(holder),
+        Row::Name(NameRow::Tag { holder, .. }) => Some(holder),
+        Row::Part(PartRow::Variants { holder, .. }) => Some(holder),
+        _ => None,
+    }
+}
+
+/// Puts what stands at a token to the parts of what holds it. A holder that is no row counts as out of memory.
+fn put_to(
     program: &Program,
-    whole: u32,
-) -> Result<Vec<RecordPart>, Memory>
-    ensures { IfOk result (λ v. v.items ≡ record_parts_of program.now whole) }
+    lists: &mut Vec<Vec<RecordPart>>,
+    holder: u32,
+    token: u32,
+) -> Result<(), Memory>
+    ensures { OnOk result ((whole : ℕ) → parts_at lists.new.items whole ≡ parts_at lists.old.items whole
+        ++ (if whole == holder then parts_in program.now holder token (row_at program.now token) else [])) }
+{
+    let at = holder as usize;
+    if at >= lists.len() {
+        return Err(AllocError);
+    }
+    put_part(program, &mut lists[at], holder, token)?;
+    Ok(())
+}
+
+/// Puts what stands at a token, if it is a part of a record or of a variant, to the parts of that.
+fn put_at(program: &Program, lists: &mut Vec<Vec<RecordPart>>, token: u32) -> Result<(), Memory>
+    ensures { OnOk result ((whole : ℕ) → parts_at lists.new.items whole
+        ≡ parts_at lists.old.items whole ++ parts_in program.now whole token (row_at program.now token)) }
+{
+    match holder_at(program, token) {
+        None => Ok(()),
+        Some(holder) => put_to(program, lists, holder, token),
+    }
+}
+
+/// So many lists without parts.
+fn empty_lists(alloc: Global, count: u32) -> Result<Vec<Vec<RecordPart>>, Memory>
+    ensures { IfOk result (λ v. (whole : ℕ) → parts_at v.items whole ≡ []) }
+{
+    let mut lists = Vec::new(alloc);
+    'each: for _ in 0..count {
+        lists.push(Vec::new(alloc))?;
+    }
+    Ok(lists)
+}
+
+/// The parts of each record and of each variant, by the number of that. A row that has no number of 32 bits counts as
+/// out of memory.
+fn parts_of(alloc: Global, program: &Program) -> Result<Vec<Vec<RecordPart>>, Memory>
+    ensures { IfOk result (λ v. AreParts program.now v.items) }
 {
     let Ok(rows) = u32::try_from(program.rows()) else {
         return Err(AllocError);
     };
-    let mut parts = Vec::new(alloc);
+    let mut lists = empty_lists(alloc, rows)?;
     'tokens: for token in 0..rows {
-        put_part(program, &mut parts, whole, token)?;
+        put_at(program, &mut lists, token)?;
     }
-    Ok(parts)
+    Ok(lists)
+}
+
+/// The parts of the records and variants of two programs.
+#[derive(Drop)]
+pub(crate) struct BothParts {
+    subject: Vec<Vec<RecordPart>>,
+    reference: Vec<Vec<RecordPart>>,
+}
+
+impl BothParts {
+    /// Those of these programs: a pass over the rows of each.
+    pub(crate) fn of(alloc: Global, subject: &Program, reference: &Program) -> Result<Self, Memory>
+        ensures { IfOk result (λ parts. AreBothParts (programs subject.now reference.now) parts) }
+    {
+        let subject = parts_of(alloc, subject)?;
+        let reference = parts_of(alloc, reference)?;
+        Ok(BothParts { subject, reference })
+    }
+
+    /// Those of a record, or of a variant, of the subject.
+    pub(crate) fn in_subject(&self, whole: u32) -> &[RecordPart]
+        ensures { result.now ≡ parts_at self.now.subject.items whole }
+    {
+        match self.subject.get(whole as usize) {
+            Some(parts) => parts,
+            None => &[],
+        }
+    }
+
+    /// Those of a record, or of a variant, of the reference.
+    pub(crate) fn in_reference(&self, whole: u32) -> &[RecordPart]
+        ensures { result.now ≡ parts_at self.now.reference.items whole }
+    {
+        match self.reference.get(whole as usize) {
+            Some(parts) => parts,
+            None => &[],
+        }
+    }
 }

@@ -2,11 +2,12 @@
 
 ghost use Rattle.std.specs.Prelude.{if◌then◌else◌, ◌++◌, ◌+◌, ◌<◌, ◌∷◌, ◌≡◌, [], IfOk, None, OnOk, Some};
 ghost use Rattle.std.specs.{List.list_all, List.range_with_len, Str.str_eq_ignore_ascii_case};
-ghost use Rattle.reference_oracle.specs.{PairsOfTypes.at_most_one, PairsOfTypes.pairs_in, Shapes.type_pairs};
-ghost use Rattle.reference_oracle.specs.Shapes.{constant_token, constants_agree, names_agree, pair, pairs_inside};
-ghost use Rattle.reference_oracle.specs.Shapes.{pairs_of_records, part_pair, programs, record_pairs, same_ordinals};
+ghost use Rattle.reference_oracle.specs.{PairsOfTypes.at_most_one, PairsOfTypes.pairs_in, PartsKept.AreBothParts};
+ghost use Rattle.reference_oracle.specs.Shapes.{constant_token, constants_agree, names_agree, ordinal_pairs, pair};
+ghost use Rattle.reference_oracle.specs.Shapes.{pairs_inside, pairs_of_records, part_pair, programs, record_pairs};
+ghost use Rattle.reference_oracle.specs.Shapes.{same_ordinals, set_or_array_pairs, type_pairs};
 
-use crate::parts::{RecordPart, TypePair, parts_of};
+use crate::parts::{BothParts, RecordPart, TypePair};
 use cell_value::Memory;
 use core_program::Program;
 use core_program::rows::{CHAR, PartRow, Row, TypeRow};
@@ -176,14 +177,23 @@ fn pairs_of_records(
     alloc: Global,
     subject: &Program,
     reference: &Program,
+    parts: &BothParts,
     pair: TypePair,
 ) -> Result<Option<Vec<TypePair>>, Memory>
+    requires { AreBothParts (programs subject.now reference.now) parts.now }
     ensures { IfOk result (λ found. pairs_in found
         ≡ pairs_of_records (programs subject.now reference.now) pair) }
 {
-    let parts = parts_of(alloc, subject, pair.subject)?;
-    let others = parts_of(alloc, reference, pair.reference)?;
-    record_pairs(alloc, subject, reference, &parts, &others)
+    let here = parts.in_subject(pair.subject);
+    let there = parts.in_reference(pair.reference);
+    record_pairs(alloc, subject, reference, here, there)
+}
+
+/// No pair, if all agrees.
+fn no_pair(alloc: Global, agreed: bool) -> Option<Vec<TypePair>>
+    ensures { pairs_in result ≡ (if agreed then Some [] else None) }
+{
+    if agreed { Some(Vec::new(alloc)) } else { None }
 }
 
 /// One pair, if all else agrees.
@@ -224,8 +234,8 @@ fn two_pairs(
     Ok(Some(pairs))
 }
 
-/// What has to match so that two types do, and `None` where they do not agree in all else.
-fn type_pairs(
+/// What has to match so that two ordinal types do, and `None` where they do not agree in all else.
+fn ordinal_pairs(
     alloc: Global,
     subject: &Program,
     reference: &Program,
@@ -234,16 +244,13 @@ fn type_pairs(
     other: TypeRow,
 ) -> Result<Option<Vec<TypePair>>, Memory>
     ensures { IfOk result (λ found. pairs_in found
-        ≡ type_pairs (programs subject.now reference.now) pair kind other) }
+        ≡ ordinal_pairs (programs subject.now reference.now) pair kind other) }
 {
     match kind {
         TypeRow::Ordinal { greatest, .. } => match other {
             TypeRow::Ordinal { greatest: last, .. } => {
-                if same_ordinals(subject, reference, pair, greatest, last) {
-                    Ok(Some(Vec::new(alloc)))
-                } else {
-                    Ok(None)
-                }
+                let agreed = same_ordinals(subject, reference, pair, greatest, last);
+                Ok(no_pair(alloc, agreed))
             }
             _ => Ok(None),
         },
@@ -259,6 +266,19 @@ fn type_pairs(
             } => one_pair(alloc, least == first && greatest == last, host, of),
             _ => Ok(None),
         },
+        _ => Ok(None),
+    }
+}
+
+/// What has to match so that two sets, or two arrays, do, and `None` where they do not agree in all else.
+fn set_or_array_pairs(
+    alloc: Global,
+    kind: TypeRow,
+    other: TypeRow,
+) -> Result<Option<Vec<TypePair>>, Memory>
+    ensures { IfOk result (λ found. pairs_in found ≡ set_or_array_pairs kind other) }
+{
+    match kind {
         TypeRow::Set { packed, base } => match other {
             TypeRow::Set {
                 packed: too,
@@ -286,10 +306,33 @@ fn type_pairs(
             }
             _ => Ok(None),
         },
+        _ => Ok(None),
+    }
+}
+
+/// What has to match so that two types do, and `None` where they do not agree in all else.
+fn type_pairs(
+    alloc: Global,
+    subject: &Program,
+    reference: &Program,
+    parts: &BothParts,
+    pair: TypePair,
+    kind: TypeRow,
+    other: TypeRow,
+) -> Result<Option<Vec<TypePair>>, Memory>
+    requires { AreBothParts (programs subject.now reference.now) parts.now }
+    ensures { IfOk result (λ found. pairs_in found
+        ≡ type_pairs (programs subject.now reference.now) pair kind other) }
+{
+    match kind {
+        TypeRow::Ordinal { .. } => ordinal_pairs(alloc, subject, reference, pair, kind, other),
+        TypeRow::Subrange { .. } => ordinal_pairs(alloc, subject, reference, pair, kind, other),
+        TypeRow::Set { .. } => set_or_array_pairs(alloc, kind, other),
+        TypeRow::Array { .. } => set_or_array_pairs(alloc, kind, other),
         TypeRow::Record { packed, .. } => match other {
             TypeRow::Record { packed: too, .. } => {
                 if packed == too {
-                    pairs_of_records(alloc, subject, reference, pair)
+                    pairs_of_records(alloc, subject, reference, parts, pair)
                 } else {
                     Ok(None)
                 }
@@ -306,17 +349,21 @@ pub(crate) fn pairs_inside(
     alloc: Global,
     subject: &Program,
     reference: &Program,
+    parts: &BothParts,
     pair: TypePair,
 ) -> Result<Option<Vec<TypePair>>, Memory>
+    requires { AreBothParts (programs subject.now reference.now) parts.now }
     ensures { IfOk result (λ found. pairs_in found ≡ pairs_inside (programs subject.now reference.now) pair) }
 {
     match subject.row(pair.subject) {
         Row::Type(kind) => match reference.row(pair.reference) {
-            Row::Type(other) => type_pairs(alloc, subject, reference, pair, kind, other),
+            Row::Type(other) => type_pairs(alloc, subject, reference, parts, pair, kind, other),
             _ => Ok(None),
         },
         Row::Part(PartRow::Variant { .. }) => match reference.row(pair.reference) {
-            Row::Part(PartRow::Variant { .. }) => pairs_of_records(alloc, subject, reference, pair),
+            Row::Part(PartRow::Variant { .. }) => pairs_of_records(
+                alloc, subject, reference, parts, pair,
+            ),
             _ => Ok(None),
         },
         _ => Ok(None),

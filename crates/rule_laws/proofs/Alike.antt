@@ -15,6 +15,7 @@ use Rattle.rule_laws.specs.{CaseConstants.stands_for, CaseConstants.with_sign_of
 -- what a row says of a type or a constant
 abbrev pub denoted : Row → Row
 denoted (Row.Name (NameRow.Routine assigned number region)) = Row.Nothing
+denoted (Row.Name (NameRow.Label marked value level ways)) = Row.Nothing
 denoted r = said r
 
 denoted_said : (r : Row) → denoted (said r) ≡ denoted r
@@ -22,6 +23,7 @@ denoted_said (Row.Type t) = refl
 denoted_said (Row.Name (NameRow.Constant of' v)) = refl
 denoted_said (Row.Name (NameRow.Text token)) = refl
 denoted_said (Row.Name (NameRow.Routine assigned number region)) = refl
+denoted_said (Row.Name (NameRow.Label marked value level ways)) = refl
 denoted_said r = refl
 
 pub record Alike (k j : Known) : Type 0 where
@@ -67,6 +69,7 @@ nothing_said (Row.Type t) type value = absurd (none-some t (sym type))
 nothing_said (Row.Name (NameRow.Constant of' v)) type value = absurd (none-some (ConstantValue.Ordinal of' v) (sym value))
 nothing_said (Row.Name (NameRow.Text token)) type value = absurd (none-some (ConstantValue.Text token) (sym value))
 nothing_said (Row.Name (NameRow.Routine assigned number region)) type value = refl
+nothing_said (Row.Name (NameRow.Label marked v level ways)) type value = refl
 nothing_said r type value = refl
 
 pub nothing_told : (k : Known) (part : Node) → ((n : ℕ) → Has part n ⊎ (n ≡ length k.words - 1) → IsFree k n) → IsUntold k part
@@ -90,6 +93,7 @@ type_said (Row.Type t) = refl
 type_said (Row.Name (NameRow.Constant of' v)) = refl
 type_said (Row.Name (NameRow.Text token)) = refl
 type_said (Row.Name (NameRow.Routine assigned number region)) = refl
+type_said (Row.Name (NameRow.Label marked value level ways)) = refl
 type_said r = refl
 
 pub type_still : (k j : Known) → Alike k j → (n : ℕ) → type_at j n ≡ type_at k n

@@ -1,5 +1,6 @@
 -- What steps on other tokens leave of a row.
-use Rattle.std.proofs.Common.{◌&&◌, ◌∙◌, ◌∷◌, ◌≡◌, ◌⊎◌, [], ℕ, Bool, List, ap, false, inl, inr, refl, set, slice_get, suc, sym, true, unwrap_or, zero}
+use Rattle.std.proofs.Common.{◌&&◌, ◌-◌, ◌∙◌, ◌∷◌, ◌≡◌, ◌⊎◌, [], ℕ, Bool, List, ap, false, inl, inr, nat_eq, not, refl, set, slice_get, suc, sym, true}
+use Rattle.std.proofs.Common.{unwrap_or, zero}
 use Rattle.core_program.specs.declared.rows.{NameRow.NameRow, Row.Row}
 use Rattle.check_steps.specs.{Items.row_on, Known.Known, Known.row_at, Known.with_row}
 use Rattle.statement_checker.specs.{Assignments.with_value, Labels.marked_label, Labels.with_ways}
@@ -30,19 +31,31 @@ face s (Row.Name (NameRow.Routine assigned number region)) = Row.Name (NameRow.R
 face s (Row.Item i) = Row.Nothing
 face s r = r
 
--- what a row says of a type, a constant, a procedure or a function
+-- what a row says of a type, a constant, a procedure, a function or a label
 abbrev pub said : Row → Row
 said (Row.Type t) = Row.Type t
 said (Row.Name (NameRow.Constant of' v)) = Row.Name (NameRow.Constant of' v)
 said (Row.Name (NameRow.Text token)) = Row.Name (NameRow.Text token)
 said (Row.Name (NameRow.Routine assigned number region)) = Row.Name (NameRow.Routine false number region)
+said (Row.Name (NameRow.Label marked value level ways)) = Row.Name (NameRow.Label false value level 0)
 said r = Row.Nothing
+
+-- whether the row is that of a label which the block of this level declares and which marks no statement so far
+abbrev pub fine_in : ℕ → Row → Bool
+fine_in level (Row.Name (NameRow.Label marked value l ways)) = not marked && nat_eq (level - l) 0
+fine_in level r = false
+
+-- where nothing is said no label stands
+pub unsaid_fine : (level : ℕ) (r : Row) → said r ≡ Row.Nothing → fine_in level r ≡ false
+unsaid_fine level (Row.Name (NameRow.Label marked value l ways)) e = absurd cc
+unsaid_fine level r e = refl
 
 -- ---- changes that show nothing
 
 pub record Shows (strict : Shown) (g : Row → Row) : Type 0 where
   pub looks : (r : Row) → face strict (g r) ≡ face strict r
   pub says : (r : Row) → said (g r) ≡ said r
+  pub spends : (level : ℕ) (r : Row) → fine_in level r ≡ false → fine_in level (g r) ≡ false
 
 ways_face : (strict : Shown) (r : Row) (n : ℕ) → face strict (with_ways r n) ≡ face strict r
 ways_face strict (Row.Name (NameRow.Label marked value level ways)) n = refl
@@ -52,8 +65,16 @@ ways_said : (r : Row) (n : ℕ) → said (with_ways r n) ≡ said r
 ways_said (Row.Name (NameRow.Label marked value level ways)) n = refl
 ways_said r n = refl
 
+ways_fine : (level : ℕ) (r : Row) (n : ℕ) → fine_in level (with_ways r n) ≡ fine_in level r
+ways_fine level (Row.Name (NameRow.Label marked value l ways)) n = refl
+ways_fine level r n = refl
+
 pub ways_show : (strict : Shown) (f : Row → ℕ) → Shows strict (λ r. with_ways r (f r))
-ways_show strict f = record { looks = λ r. ways_face strict r (f r); says = λ r. ways_said r (f r) }
+ways_show strict f = record {
+  looks = λ r. ways_face strict r (f r);
+  says = λ r. ways_said r (f r);
+  spends = λ level r e. ways_fine level r (f r) ∙ e;
+}
 
 on_face : (strict : Shown) (r : Row) (n : ℕ) → face strict (row_on r n) ≡ face strict r
 on_face strict (Row.Item i) n = refl
@@ -63,8 +84,12 @@ on_said : (r : Row) (n : ℕ) → said (row_on r n) ≡ said r
 on_said (Row.Item i) n = refl
 on_said r n = refl
 
+on_fine : (level : ℕ) (r : Row) (n : ℕ) → fine_in level (row_on r n) ≡ fine_in level r
+on_fine level (Row.Item i) n = refl
+on_fine level r n = refl
+
 pub on_show : (strict : Shown) (n : ℕ) → Shows strict (λ r. row_on r n)
-on_show strict n = record { looks = λ r. on_face strict r n; says = λ r. on_said r n }
+on_show strict n = record { looks = λ r. on_face strict r n; says = λ r. on_said r n; spends = λ level r e. on_fine level r n ∙ e }
 
 value_face : (strict : Shown) → strict.results ≡ false → (r : Row) → face strict (with_value r) ≡ face strict r
 value_face strict lax (Row.Name (NameRow.Routine assigned number region)) =
@@ -75,8 +100,12 @@ value_said : (r : Row) → said (with_value r) ≡ said r
 value_said (Row.Name (NameRow.Routine assigned number region)) = refl
 value_said r = refl
 
+value_fine : (level : ℕ) (r : Row) → fine_in level (with_value r) ≡ fine_in level r
+value_fine level (Row.Name (NameRow.Routine assigned number region)) = refl
+value_fine level r = refl
+
 pub value_shows : (strict : Shown) → strict.results ≡ false → Shows strict with_value
-value_shows strict lax = record { looks = value_face strict lax; says = value_said }
+value_shows strict lax = record { looks = value_face strict lax; says = value_said; spends = λ level r e. value_fine level r ∙ e }
 
 mark_face : (strict : Shown) → strict.marks ≡ false → (r : Row) → face strict (marked_label r) ≡ face strict r
 mark_face strict lax (Row.Name (NameRow.Label marked value level ways)) =
@@ -87,8 +116,12 @@ mark_said : (r : Row) → said (marked_label r) ≡ said r
 mark_said (Row.Name (NameRow.Label marked value level ways)) = refl
 mark_said r = refl
 
+mark_fine : (level : ℕ) (r : Row) → fine_in level r ≡ false → fine_in level (marked_label r) ≡ false
+mark_fine level (Row.Name (NameRow.Label marked value l ways)) e = refl
+mark_fine level r e = e
+
 pub mark_shows : (strict : Shown) → strict.marks ≡ false → Shows strict marked_label
-mark_shows strict lax = record { looks = mark_face strict lax; says = mark_said }
+mark_shows strict lax = record { looks = mark_face strict lax; says = mark_said; spends = mark_fine }
 
 -- ---- one row put
 

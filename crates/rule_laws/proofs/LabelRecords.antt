@@ -16,23 +16,11 @@ use Rattle.statement_checker.specs.declared.{parts.Opened.Opened, sequences.Elem
 use Rattle.rule_laws.proofs.{Alike.type_said, Breaks.In, Breaks.in_either, Breaks.in_right, Every.Every, Every.Of, ExpressionExpressions.access-touches}
 use Rattle.rule_laws.proofs.{Faces.marking, InTurn.Goes, StatementSequences.add_element-touches, Touches.bind-touches, Touches.give-touches}
 use Rattle.rule_laws.proofs.LabelTurns.{Inside, IsSpot, Seen, Spot, Still, Turn, label_outermost, rule_of, still_of, wrong_in}
+use Rattle.rule_laws.proofs.Outward.{frame_before, frame_last, one_longer}
 use Rattle.rule_laws.proofs.StatementStatements.{first_opened, next_opened, record_opened}
 use Rattle.rule_laws.specs.{CaseLaws.late_at, Tokens.Has}
 
 -- ---- one more frame
-
-frame_before : (fs : List Frame) (x : Frame) (f : ℕ) → f < length fs → frame_in (fs ++ x ∷ []) f ≡ frame_in fs f
-frame_before [] x f below = absurd (omega (arith, below))
-frame_before (y ∷ ys) x zero below = refl
-frame_before (y ∷ ys) x (suc f) below = frame_before ys x f (omega (arith, below))
-
-pub frame_last : (fs : List Frame) (x : Frame) → frame_in (fs ++ x ∷ []) (length fs) ≡ x
-frame_last [] x = refl
-frame_last (y ∷ ys) x = frame_last ys x
-
-pub one_longer : (fs : List Frame) (x : Frame) → length (fs ++ x ∷ []) ≡ suc (length fs)
-one_longer [] x = refl
-one_longer (y ∷ ys) x = ap suc (one_longer ys x)
 
 -- a frame after the last of them has none around it
 frame_past : (fs : List Frame) (f : ℕ) → length fs ≤ f → reach (frame_in fs f).outer ≤ f

@@ -1,5 +1,5 @@
 -- What the steps of the declarations keep: whatever each change of the tables keeps that they make.
-use Rattle.std.proofs.Common.{◌+◌, ◌∷◌, ◌≡◌, ◌≤◌, [], ℕ, ℤ, Bool, List, None, Option, Some, arith, false, is_none, length, refl, subst, true}
+use Rattle.std.proofs.Common.{◌+◌, ◌<◌, ◌∷◌, ◌≡◌, ◌≤◌, [], ℕ, ℤ, Bool, List, None, Option, Some, arith, false, is_none, length, refl, subst, true}
 use Rattle.pas_tree.specs.{ConstantTrees.NamesTree, declared.constants.NextName.NextName}
 use Rattle.pas_tree.specs.BlockTrees.{RoutineTree, routine_body, routine_heading}
 use Rattle.core_program.specs.declared.{program.Routine.Routine as RoutineRow, rows.NameRow.NameRow, rows.PartRow.PartRow, rows.Row.Row, rows.TypeRow.TypeRow}
@@ -15,16 +15,28 @@ use Rattle.rule_laws.proofs.Breaks.{Each}
 use Rattle.rule_laws.proofs.Keeping.{Keeps, ask-keeps, bind-keeps, give-keeps, look-keeps, put-keeps, when-keeps}
 use Rattle.rule_laws.specs.ForwardHeadings.{is_block}
 
--- a row that is not of a heading which waits for a block, has one elsewhere, or has that of another
+-- A row that is not of a heading which waits for a block, has one elsewhere, or has that of another, and not of a
+-- procedure or function, a label or a record type.
 abbrev pub is_quiet : Row → Bool
 is_quiet (Row.Part (PartRow.Forward function block)) = false
 is_quiet (Row.Part (PartRow.Completing first)) = false
+is_quiet (Row.Name (NameRow.Routine assigned number region)) = false
+is_quiet (Row.Name (NameRow.Label marked value level ways)) = false
+is_quiet (Row.Type (TypeRow.Record packed region cells variants)) = false
 is_quiet r = true
 
 -- the row of a heading that completes another, and that one's
 abbrev pub with_completion : Known → (first position : ℕ) (function : Bool) (name : ℕ) → Known
 with_completion k first position function name =
     with_row (with_row k first (Row.Part (PartRow.Forward function (Some position)))) name (Row.Part (PartRow.Completing first))
+
+-- A region that was opened where the tables were so, and that declares no label.
+pub record IsRecordRegion (I : Known → Type 0) (k : Known) (region : ℕ) : Type 0 where
+  pub before : Known
+  pub held : I before
+  pub opened : region ≡ length before.regions
+  pub there : region < length k.regions
+  pub none : (value : ℕ) → declared_in k.regions region value ≡ None
 
 -- The routines are those of the text.
 pub record Lasting (G : RoutineTree → Type 0) (I : Known → Type 0) : Type 0 where
@@ -36,14 +48,22 @@ pub record Lasting (G : RoutineTree → Type 0) (I : Known → Type 0) : Type 0 
   pub regions : (k : Known) (token : ℕ) (f : Frame) → I k → I (and_region k token f)
   pub defines : (k : Known) (region : ℕ) (d : Definition) → I k → I (and_definition k region (name_at k d.token) d)
   pub requires : (k : Known) (name : ℕ) (d : Definition) → length k.words ≤ d.token → I k → I (and_definition k 0 name d)
-  pub declares : (k : Known) (region value token : ℕ) → I k → I (and_label k region value token)
   pub chooses : (k : Known) (list : ℕ) (value : ℤ) → I k → I (and_choice k list value)
+  pub records : (k : Known) (word : ℕ) (packed : Bool) (region cells : ℕ) (variants : Option ℕ) → IsRecordRegion I k region → I k
+      → I (with_row k word (Row.Type (TypeRow.Record packed region cells variants)))
   -- a heading that a directive follows waits for a block
   pub waits : (k : Known) (r : RoutineTree) → G r → is_block (routine_body r) ≡ false → I k
       → I (with_row k (routine_name r) (Row.Part (PartRow.Forward (is_function (routine_heading r)) None)))
   pub completes : (k : Known) (region first position : ℕ) (r : RoutineTree) → G r → completed_by k region (routine_heading r) (routine_body r) ≡ Some first
       → I k
       → I (with_completion k first position (is_function (routine_heading r)) (routine_name r))
+
+-- and what else the declarations of blocks change
+pub record Declaring (G : RoutineTree → Type 0) (I : Known → Type 0) : Type 0 where
+  pub kept : Lasting G I
+  pub declares : (k : Known) (region value token : ℕ) → I k → I (and_label k region value token)
+  pub labels : (k : Known) (token value level : ℕ) → I k → I (with_row k token (Row.Name (NameRow.Label false value level 0)))
+  pub heads : (k : Known) (name number region : ℕ) → I k → I (with_row k name (Row.Name (NameRow.Routine false number region)))
 
 -- ---- rows
 
@@ -109,11 +129,12 @@ unfolding define_in look ◌>>=◌ ask
 define_in-lasts c region d =
     record { of = λ k i. when_defined c (is_none (defined_in k.regions region (name_at k d.token))) k region d i }
 
-pub declare_in-lasts : {G : RoutineTree → Type 0} {I : Known → Type 0} → Lasting G I → (region value token : ℕ) → Keeps I (declare_in region value token)
+pub declare_in-keeps : {I : Known → Type 0} (region value token : ℕ) → ((k : Known) → I k → I (and_label k region value token))
+    → Keeps I (declare_in region value token)
 unfolding declare_in
-declare_in-lasts c region value token = bind-keeps (look-keeps (λ k. declared_in k.regions region value)) (λ held.
+declare_in-keeps region value token declares = bind-keeps (look-keeps (λ k. declared_in k.regions region value)) (λ held.
     bind-keeps (ask-keeps _ token (is_none held)) (λ _.
-    when-keeps (is_none held) (changes (λ k. and_label k region value token) (λ k i. c.declares k region value token i))))
+    when-keeps (is_none held) (changes (λ k. and_label k region value token) declares)))
 
 when_required : {G : RoutineTree → Type 0} {I : Known → Type 0} → Lasting G I → (ok : Bool) (k : Known) (name : ℕ) (d : Definition)
     → length k.words ≤ d.token → I k → I (when ok (add_definition 0 name d) k).known
@@ -124,14 +145,15 @@ when_required c false k name d behind i = i
 no_less : (n m : ℕ) → n ≤ n + m
 no_less n m = omega arith
 
-pub require-lasts : {G : RoutineTree → Type 0} {I : Known → Type 0} → Lasting G I → (name : ℕ) (r : NameRow) → Keeps I (require name r)
+pub require-lasts : {G : RoutineTree → Type 0} {I : Known → Type 0} → Lasting G I → (name : ℕ) (r : NameRow) → is_quiet (Row.Name r) ≡ true
+    → Keeps I (require name r)
 unfolding require look ◌>>=◌ change
-require-lasts c name r = record {
+require-lasts c name r quiet = record {
   of = λ k i.
       let first = length k.words in
       let d : Definition = record { def = required_def r (first + name); token = first + name; end = 0 } in
       when_required c (is_none (defined_in k.regions 0 name)) (with_row k (first + name) (Row.Name r)) name d (no_less first name)
-      (c.puts k (first + name) (Row.Name r) refl i);
+      (c.puts k (first + name) (Row.Name r) quiet i);
 }
 
 -- ---- lists of parts

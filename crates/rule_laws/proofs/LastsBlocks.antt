@@ -8,9 +8,9 @@ use Rattle.kind_checker.specs.Constants.{constant_part, constants_in, define_con
 use Rattle.denoter_checker.specs.Parts.{define_type, define_variable, types_in, variable_declaration, variables_in}
 use Rattle.decl_checker.specs.Blocks.{constants, define_block, define_constants, define_types, define_variables, parts, put_body, put_held, types, variables}
 use Rattle.decl_checker.specs.Blocks.{with_body, word_after}
-use Rattle.rule_laws.proofs.{Breaks.Each, Lasting.Lasting, Lasting.each-lasts, Lasting.put_routine-lasts, LastsConstants.constant_part-lasts}
+use Rattle.rule_laws.proofs.{Breaks.Each, Keeping.Keeps, Keeping.bind-keeps, Keeping.give-keeps, Keeping.look-keeps, LastsConstants.constant_part-lasts}
 use Rattle.rule_laws.proofs.{LastsConstants.define_constant-lasts, LastsLabels.define_labels-lasts, LastsRoutineParts.define_routines-lasts}
-use Rattle.rule_laws.proofs.Keeping.{Keeps, bind-keeps, give-keeps, look-keeps}
+use Rattle.rule_laws.proofs.Lasting.{Declaring, Lasting, each-lasts, put_routine-lasts}
 use Rattle.rule_laws.proofs.LastsParts.{define_type-lasts, define_variable-lasts, type_part-lasts, variable_declaration-lasts}
 use Rattle.rule_laws.specs.NameLaws.{block_routines}
 
@@ -59,9 +59,9 @@ unfolding put_body
 put_body-lasts kept number cells begin = bind-keeps (look-keeps (λ k. with_body (routine_at k.program number) cells begin (line_at k begin)))
     (λ r. put_held-lasts kept number r)
 
-pub define_block-lasts : {G : RoutineTree → Type 0} {I : Known → Type 0} (kept : Lasting G I) (frame : ℕ) (b : BlockTree) → Each G (block_routines b)
+pub define_block-lasts : {G : RoutineTree → Type 0} {I : Known → Type 0} (kept : Declaring G I) (frame : ℕ) (b : BlockTree) → Each G (block_routines b)
     → Keeps I (define_block frame b)
 define_block-lasts kept frame (tree.a_block labels consts kinds variable_part routines body) all =
     bind-keeps (look-keeps (λ k. frame_at k frame)) (λ here. bind-keeps (define_labels-lasts kept here labels) (λ _.
-    bind-keeps (define_constants-lasts kept here.region consts) (λ _. bind-keeps (define_types-lasts kept here.region kinds) (λ _.
-    bind-keeps (define_variables-lasts kept here.region variable_part) (λ _. define_routines-lasts kept here.region routines all)))))
+    bind-keeps (define_constants-lasts kept.kept here.region consts) (λ _. bind-keeps (define_types-lasts kept.kept here.region kinds) (λ _.
+    bind-keeps (define_variables-lasts kept.kept here.region variable_part) (λ _. define_routines-lasts kept.kept here.region routines all)))))

@@ -1,19 +1,19 @@
 -- What the steps of `Rattle.denoter_checker.specs.Denoters` leave as it was.
-use Rattle.std.proofs.Common.{◌+◌, ℕ, Bool, Option, Some, is_none, is_some, refl}
+use Rattle.std.proofs.Common.{◌+◌, ℕ, Bool, Some, is_none, is_some, refl}
 use Rattle.pas_tree.specs.{BlockTrees.RoutineTree, DenoterPlaces.first_of_denoter, declared.denoters.Tag.Tag}
 use Rattle.pas_tree.specs.DenoterTrees.{ArmTree, ArmTrees, ArrayTree, DenoterTree, DenoterTrees, FieldsTree, FixedTree, PartTree, SectionTree, SectionTrees}
 use Rattle.pas_tree.specs.DenoterTrees.{StructureTree, VariantsTree}
 use Rattle.pas_tree.specs.DenoterTrees as tree
-use Rattle.core_program.specs.{ProgramRows.size_of, declared.rows.NameRow.NameRow, declared.rows.Row.Row, declared.rows.TypeRow.TypeRow}
+use Rattle.core_program.specs.{ProgramRows.size_of, declared.rows.NameRow.NameRow, declared.rows.Row.Row}
 use Rattle.check_steps.specs.Known.{Known, frame_at}
 use Rattle.kind_checker.specs.{Sizes.capped, declared.types.Scope.Scope}
-use Rattle.denoter_checker.specs.{Denoters.variants_after, Denoters.variants_at, Denoters.variants_word, Variants.choosing_at, Variants.nothing_listed}
+use Rattle.denoter_checker.specs.{Defines.define_record, Denoters.variants_at, Denoters.variants_word, Variants.choosing_at, Variants.nothing_listed}
 use Rattle.denoter_checker.specs.Denoters.{arm_at, arm_chosen, arms_at, array_denoter, choosing_of, denoter, field_place, fields_at, fixed_at, joins}
-use Rattle.denoter_checker.specs.Denoters.{more_choices, more_sections, open_record, other_indexes, part_at, put_record, scope_inside, section, structure}
+use Rattle.denoter_checker.specs.Denoters.{more_choices, more_sections, open_record, other_indexes, part_at, scope_inside, section, structure, variants_after}
 use Rattle.denoter_checker.specs.declared.variants.{Choosing.Choosing, Listed.Listed, PartPlace.PartPlace}
-use Rattle.rule_laws.proofs.{Keeping.Keeps, Keeping.bind-keeps, Keeping.give-keeps, Keeping.look-keeps, LastsArrays.array-lasts, LastsArrays.joined-lasts}
-use Rattle.rule_laws.proofs.{LastsArrays.put_index-lasts, LastsConstants.constant-lasts, LastsDefines.define_record-lasts}
-use Rattle.rule_laws.proofs.Lasting.{Lasting, each_name-lasts, open_region-lasts, put-lasts}
+use Rattle.rule_laws.proofs.{Keeping.Keeps, Keeping.bind-keeps, Keeping.give-keeps, Keeping.look-keeps, Lasting.Lasting, Lasting.each_name-lasts}
+use Rattle.rule_laws.proofs.{Lasting.open_region-lasts, Lasting.put-lasts, LastsArrays.array-lasts, LastsArrays.joined-lasts, LastsArrays.put_index-lasts}
+use Rattle.rule_laws.proofs.{LastsConstants.constant-lasts, LastsDefines.define_record-lasts, Standing.opened_lasts, Standing.record-made}
 use Rattle.rule_laws.proofs.LastsTypes.{enumeration-lasts, named_type-lasts, ordinal-lasts, pointer_type-lasts, set_type-lasts, subrange-lasts}
 use Rattle.rule_laws.proofs.LastsVariants.{arm_choices-lasts, tag_part-lasts, variant_part-lasts}
 
@@ -26,12 +26,6 @@ pub field_place-lasts : {G : RoutineTree → Type 0} {I : Known → Type 0} (kep
 unfolding field_place
 field_place-lasts kept holder t offset token = bind-keeps (put-lasts kept token (Row.Name (NameRow.Field t offset holder)) refl)
     (λ _. bind-keeps (look-keeps (λ k. size_of k.program t)) (λ cells. give-keeps (capped (offset + cells))))
-
-pub put_record-lasts : {G : RoutineTree → Type 0} {I : Known → Type 0} (kept : Lasting G I) (packed : Bool) (word frame cells : ℕ) (variants : Option ℕ)
-    → Keeps I (put_record packed word frame cells variants)
-unfolding put_record
-put_record-lasts kept packed word frame cells variants = bind-keeps (look-keeps (λ k. (frame_at k frame).region))
-    (λ region. bind-keeps (put-lasts kept word (Row.Type (TypeRow.Record packed region cells variants)) refl) (λ _. give-keeps word))
 
 pub arm_chosen-lasts : {G : RoutineTree → Type 0} {I : Known → Type 0} (kept : Lasting G I) (c : Choosing) (l : Listed) (slot : ℕ) (arm : ArmTree)
     → Keeps I (arm_chosen c l slot arm)
@@ -68,9 +62,8 @@ mutual
       → Keeps I (structure s packed structure')
   structure-lasts kept s packed (tree.an_array a) = array_denoter-lasts kept s packed a
   structure-lasts kept s packed (tree.a_record word fields end) =
-      bind-keeps (open_record-lasts kept s.frame word) (λ frame. bind-keeps (define_record-lasts kept frame fields)
-      (λ _. bind-keeps (fields_at-lasts kept (scope_inside s frame) word 0 fields)
-      (λ cells. put_record-lasts kept packed word frame cells (variants_word fields))))
+      record-made kept s.frame word packed (variants_word fields) (λ n. define_record n fields) (λ n. fields_at (scope_inside s n) word 0 fields)
+      (λ n f. define_record-lasts (opened_lasts kept n f) n fields) (λ n f. fields_at-lasts (opened_lasts kept n f) (scope_inside s n) word 0 fields)
   structure-lasts kept s packed (tree.a_set_type word of base) = bind-keeps (denoter-lasts kept s base)
       (λ written. set_type-lasts kept packed word (first_of_denoter base) of written)
 

@@ -15,45 +15,47 @@ ordinal_types-lasts kept = bind-keeps (put-lasts kept 0 (Row.Type (Ordinal (negs
 
 pub type_names-lasts : {G : RoutineTree → Type 0} {I : Known → Type 0} (kept : Lasting G I) → Keeps I (type_names)
 unfolding type_names
-type_names-lasts kept = bind-keeps (require-lasts kept 0 (NameRow.TypeName 0)) (λ _. bind-keeps (require-lasts kept 1 (NameRow.TypeName 1)) (λ _.
-    require-lasts kept 2 (NameRow.TypeName 2)))
+type_names-lasts kept = bind-keeps (require-lasts kept 0 (NameRow.TypeName 0) refl) (λ _. bind-keeps (require-lasts kept 1 (NameRow.TypeName 1) refl) (λ _.
+    require-lasts kept 2 (NameRow.TypeName 2) refl))
 
 pub constant_names-lasts : {G : RoutineTree → Type 0} {I : Known → Type 0} (kept : Lasting G I) → Keeps I (constant_names)
 unfolding constant_names
-constant_names-lasts kept = bind-keeps (require-lasts kept 3 (NameRow.Constant 1 (pos 0))) (λ _.
-    bind-keeps (require-lasts kept 4 (NameRow.Constant 1 (pos 1))) (λ _. require-lasts kept 5 (NameRow.Constant 0 (pos 2147483647))))
+constant_names-lasts kept = bind-keeps (require-lasts kept 3 (NameRow.Constant 1 (pos 0)) refl) (λ _.
+    bind-keeps (require-lasts kept 4 (NameRow.Constant 1 (pos 1)) refl) (λ _. require-lasts kept 5 (NameRow.Constant 0 (pos 2147483647)) refl))
 
 pub arithmetic_names-lasts : {G : RoutineTree → Type 0} {I : Known → Type 0} (kept : Lasting G I) → Keeps I (arithmetic_names)
 unfolding arithmetic_names
-arithmetic_names-lasts kept = bind-keeps (require-lasts kept 6 (NameRow.Required Required.Abs)) (λ _.
-    bind-keeps (require-lasts kept 7 (NameRow.Required Required.Sqr)) (λ _. require-lasts kept 8 (NameRow.Required Required.Odd)))
+arithmetic_names-lasts kept = bind-keeps (require-lasts kept 6 (NameRow.Required Required.Abs) refl) (λ _.
+    bind-keeps (require-lasts kept 7 (NameRow.Required Required.Sqr) refl) (λ _. require-lasts kept 8 (NameRow.Required Required.Odd) refl))
 
 pub ordinal_names-lasts : {G : RoutineTree → Type 0} {I : Known → Type 0} (kept : Lasting G I) → Keeps I (ordinal_names)
 unfolding ordinal_names
-ordinal_names-lasts kept = bind-keeps (require-lasts kept 9 (NameRow.Required Required.Ord)) (λ _.
-    bind-keeps (require-lasts kept 10 (NameRow.Required Required.Chr)) (λ _. bind-keeps (require-lasts kept 11 (NameRow.Required Required.Succ)) (λ _.
-    require-lasts kept 12 (NameRow.Required Required.Pred))))
+ordinal_names-lasts kept = bind-keeps (require-lasts kept 9 (NameRow.Required Required.Ord) refl) (λ _.
+    bind-keeps (require-lasts kept 10 (NameRow.Required Required.Chr) refl) (λ _. bind-keeps (require-lasts kept 11 (NameRow.Required Required.Succ) refl) (λ _.
+    require-lasts kept 12 (NameRow.Required Required.Pred) refl)))
 
 pub reading_names-lasts : {G : RoutineTree → Type 0} {I : Known → Type 0} (kept : Lasting G I) → Keeps I (reading_names)
 unfolding reading_names
-reading_names-lasts kept = bind-keeps (require-lasts kept 13 (NameRow.Required Required.Eof)) (λ _.
-    bind-keeps (require-lasts kept 14 (NameRow.Required Required.Eoln)) (λ _. bind-keeps (require-lasts kept 15 (NameRow.Required Required.Read)) (λ _.
-    require-lasts kept 16 (NameRow.Required Required.Readln))))
+reading_names-lasts kept = bind-keeps (require-lasts kept 13 (NameRow.Required Required.Eof) refl) (λ _.
+    bind-keeps (require-lasts kept 14 (NameRow.Required Required.Eoln) refl)
+    (λ _. bind-keeps (require-lasts kept 15 (NameRow.Required Required.Read) refl) (λ _.
+    require-lasts kept 16 (NameRow.Required Required.Readln) refl)))
 
 pub writing_names-lasts : {G : RoutineTree → Type 0} {I : Known → Type 0} (kept : Lasting G I) → Keeps I (writing_names)
 unfolding writing_names
-writing_names-lasts kept = bind-keeps (require-lasts kept 17 (NameRow.Required Required.Write)) (λ _.
-    bind-keeps (require-lasts kept 18 (NameRow.Required Required.Writeln)) (λ _. require-lasts kept 19 (NameRow.Required Required.Page)))
+writing_names-lasts kept = bind-keeps (require-lasts kept 17 (NameRow.Required Required.Write) refl) (λ _.
+    bind-keeps (require-lasts kept 18 (NameRow.Required Required.Writeln) refl) (λ _. require-lasts kept 19 (NameRow.Required Required.Page) refl))
 
 pub moving_names-lasts : {G : RoutineTree → Type 0} {I : Known → Type 0} (kept : Lasting G I) → Keeps I (moving_names)
 unfolding moving_names
-moving_names-lasts kept = bind-keeps (require-lasts kept 20 (NameRow.Required Required.New)) (λ _.
-    bind-keeps (require-lasts kept 21 (NameRow.Required Required.Dispose)) (λ _. bind-keeps (require-lasts kept 22 (NameRow.Required Required.Pack)) (λ _.
-    require-lasts kept 23 (NameRow.Required Required.Unpack))))
+moving_names-lasts kept = bind-keeps (require-lasts kept 20 (NameRow.Required Required.New) refl) (λ _.
+    bind-keeps (require-lasts kept 21 (NameRow.Required Required.Dispose) refl)
+    (λ _. bind-keeps (require-lasts kept 22 (NameRow.Required Required.Pack) refl) (λ _.
+    require-lasts kept 23 (NameRow.Required Required.Unpack) refl)))
 
 pub file_names-lasts : {G : RoutineTree → Type 0} {I : Known → Type 0} (kept : Lasting G I) → Keeps I (file_names)
 unfolding file_names
-file_names-lasts kept = bind-keeps (require-lasts kept 24 (NameRow.TextFile Input)) (λ _. require-lasts kept 25 (NameRow.TextFile Output))
+file_names-lasts kept = bind-keeps (require-lasts kept 24 (NameRow.TextFile Input) refl) (λ _. require-lasts kept 25 (NameRow.TextFile Output) refl)
 
 pub routine_names-lasts : {G : RoutineTree → Type 0} {I : Known → Type 0} (kept : Lasting G I) → Keeps I (routine_names)
 unfolding routine_names

@@ -15,12 +15,12 @@ unfolding named_type
 named_type-lasts kept frame token = bind-keeps (use_at-lasts kept frame token token)
     (λ found. bind-keeps (ask-keeps _ token (is_type_name found)) (λ _. look-keeps (λ k. type_of k found token)))
 
-if_quiet : (b : Bool) (t : TypeRow) → is_quiet (if b then Row.Type t else Row.Nothing) ≡ true
-if_quiet true t = refl
-if_quiet false t = refl
+if_quiet : (b : Bool) (t : TypeRow) → is_quiet (Row.Type t) ≡ true → is_quiet (if b then Row.Type t else Row.Nothing) ≡ true
+if_quiet true t quiet = quiet
+if_quiet false t quiet = refl
 
 range_quiet : (first last : Option ConstantValue) → is_quiet (range_row first last) ≡ true
-range_quiet (Some (Ordinal g a)) (Some (Ordinal h b)) = if_quiet (nat_eq g h && int_le a b) (TypeRow.Subrange g a b)
+range_quiet (Some (Ordinal g a)) (Some (Ordinal h b)) = if_quiet (nat_eq g h && int_le a b) (TypeRow.Subrange g a b) refl
 range_quiet a b = refl
 
 pub subrange-lasts : {G : RoutineTree → Type 0} {I : Known → Type 0} (kept : Lasting G I) (first : Option ConstantValue) (dots : ℕ)

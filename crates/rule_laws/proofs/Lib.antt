@@ -27,7 +27,9 @@ pub mod LabelLaw
 pub mod LabelMarks
 pub mod LabelParts
 pub mod LabelRecords
+pub mod LabelTold
 pub mod LabelTurns
+pub mod LabelsTold
 pub mod Lasting
 pub mod LastsAccesses
 pub mod LastsArrays
@@ -54,9 +56,11 @@ pub mod NameLaw
 pub mod NameTurns
 pub mod Once
 pub mod OneName
+pub mod Outward
 pub mod PartLaw
 pub mod PartSteps
 pub mod Parts
+pub mod Regions
 pub mod ResultLaw
 pub mod ResultRecords
 pub mod ResultScopes
@@ -67,6 +71,7 @@ pub mod ResultTurns
 pub mod ResultTypes
 pub mod RowsPut
 pub mod SecondHeadings
+pub mod Standing
 pub mod StatementActuals
 pub mod StatementAssignments
 pub mod StatementCalls
@@ -86,8 +91,10 @@ pub mod Telling
 pub mod TextFields
 pub mod TextForwards
 pub mod TextHeadings
+pub mod TextLabels
 pub mod TextNames
 pub mod TextRoutines
+pub mod TextTables
 pub mod TextTokens
 pub mod TextWalk
 pub mod TokenPlaces

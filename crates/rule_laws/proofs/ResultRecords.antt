@@ -8,7 +8,7 @@ use Rattle.check_steps.specs.Steps.{◌>>=◌, ask, each, extend, give, look}
 use Rattle.decl_checker.specs.Statements.{fields_in, inside_of, one_more_with, open_fields}
 use Rattle.expression_checker.specs.{Expressions.access, Selectors.type_row, declared.typed.Typed.Typed}
 use Rattle.statement_checker.specs.{Parts.another_record, Parts.first_record, Records.inside_record, Sequences.add_element, declared.parts.Opened.Opened}
-use Rattle.rule_laws.proofs.{Every.Every, Every.Of, ExpressionExpressions.access-touches, Faces.assigning, LabelRecords.frame_last, LabelRecords.one_longer}
+use Rattle.rule_laws.proofs.{Every.Every, Every.Of, ExpressionExpressions.access-touches, Faces.assigning, Outward.frame_last, Outward.one_longer}
 use Rattle.rule_laws.proofs.{ResultTurns.IsSpot, ResultTurns.Spot, ResultTurns.Turn, ResultTurns.turn_after, ResultTypes.access_typed, ResultTypes.types_same}
 use Rattle.rule_laws.proofs.{StatementSequences.add_element-touches, StatementStatements.record_opened, Touches.Longer, Touches.longer_still}
 use Rattle.rule_laws.proofs.ResultScopes.{Leads, at_least, leads_below, leads_on}

@@ -20,7 +20,7 @@ use Rattle.decl_checker.specs.{Blocks.parts, Blocks.types, Blocks.variables, Blo
 use Rattle.decl_checker.specs.{Routines.body_in, Routines.routine, Routines.routines_in, declared.routines.Entered.Entered}
 use Rattle.code_checker.specs.CheckedPrograms.{broken, check_step}
 use Rattle.rule_laws.proofs.{Breaks.Each, Breaks.In, Breaks.contained, Breaks.in_left, InTurn.Wrong, InTurn.one_wrong, Keeping.bind-keeps, Keeping.look-keeps}
-use Rattle.rule_laws.proofs.{Lasting.Lasting, Lasting.add_routine-lasts, LastsArrays.put_index-lasts, LastsDefines.define_record-lasts}
+use Rattle.rule_laws.proofs.{Lasting.Declaring, Lasting.Lasting, Lasting.add_routine-lasts, LastsArrays.put_index-lasts, LastsDefines.define_record-lasts}
 use Rattle.rule_laws.proofs.{LastsDenoters.section-lasts, LastsParts.type_definition-lasts, LastsParts.variable_declaration-lasts}
 use Rattle.rule_laws.proofs.{LastsPrograms.define_program-lasts, LastsPrograms.open_program-lasts, LastsRoutines.enter_heading-lasts}
 use Rattle.rule_laws.proofs.{LastsRoutines.routine-lasts, LastsTypes.ordinal-lasts, NameLaw.begun, NameLaw.fields_go, NameTurns.Region, NameTurns.rule_two}
@@ -51,17 +51,25 @@ spelling k = record {
   regions = λ j token f i. record { words = i.words };
   defines = λ j region d i. record { words = i.words };
   requires = λ j name d behind i. record { words = i.words };
-  declares = λ j region value token i. record { words = i.words };
   chooses = λ j list value i. record { words = i.words };
+  records = λ j word packed region cells variants fresh i. record { words = i.words };
   waits = λ j r g none i. record { words = i.words };
   completes = λ j region first position r g e i. record { words = i.words };
+}
+
+pub spelling_all : (k : Known) → Declaring Any (Spells k)
+spelling_all k = record {
+  kept = spelling k;
+  declares = λ j region value token i. record { words = i.words };
+  labels = λ j token value level i. record { words = i.words };
+  heads = λ j name number region i. record { words = i.words };
 }
 
 pub same_names : (k j : Known) (before : List ℕ) (x : ℕ) → Spells k j → has_name j before x ≡ has_name k before x
 same_names k j before x s = ap (λ (ws : List SpelledToken). has_name (record k { words = ws }) before x) s.words
 
 mutual
-  any_routines : (b : BlockTree) → OfRoutines Any b
+  pub any_routines : (b : BlockTree) → OfRoutines Any b
   any_routines (blocks.a_block labels constants types variables routines body) = any_part routines
 
   pub any_part : (rs : RoutineTrees) → OfEach Any rs
@@ -75,7 +83,7 @@ mutual
   any_body (blocks.a_directive directive) = tt
   any_body (blocks.a_block_body b) = any_routines b
 
-any_each : (rs : List RoutineTree) → Each Any rs
+pub any_each : (rs : List RoutineTree) → Each Any rs
 any_each [] = tt
 any_each (r ∷ rs) = (tt, any_each rs)
 
@@ -268,11 +276,11 @@ mutual
   routines_give : (x : Text) (frame : ℕ) (rs part : RoutineTrees) → Gives (Spells x.k) (IsTold x) (routines_in frame rs part) (InRoutines (Tells x) part)
   routines_give x frame rs blocks.end_of_routines = gives_none
   routines_give x frame rs (blocks.more_routines r rest) = gives_both (gives_first _ (routine_gives x frame rs r))
-      (gives_then (routine-lasts (spelling x.k) frame rs r (any_part rs) (any_routine r)) (λ _. routines_give x frame rs rest))
+      (gives_then (routine-lasts (spelling_all x.k) frame rs r (any_part rs) (any_routine r)) (λ _. routines_give x frame rs rest))
 
   routine_gives : (x : Text) (frame : ℕ) (rs : RoutineTrees) (r : RoutineTree) → Gives (Spells x.k) (IsTold x) (routine frame rs r) (InRoutine (Tells x) r)
   routine_gives x frame rs (blocks.a_routine heading semicolon body last_semicolon) =
-      gives_then (enter_heading-lasts (spelling x.k) frame rs (blocks.a_routine heading semicolon body last_semicolon) (any_part rs) (any_body body))
+      gives_then (enter_heading-lasts (spelling_all x.k) frame rs (blocks.a_routine heading semicolon body last_semicolon) (any_part rs) (any_body body))
       (λ e. body_gives x e body)
 
   body_gives : (x : Text) (e : Entered) (body : BodyTree) → Gives (Spells x.k) (IsTold x) (body_in e body) (InBody (Tells x) body)
@@ -286,6 +294,6 @@ text_field_law l t =
     let c = spelling x.k in
     let gives : Gives (Spells x.k) (IsTold x) (check_step t) (OfRecordsIn (Tells x) t.block) =
     gives_first _ (gives_then (open_program-lasts c) (λ frame.
-    gives_then (define_program-lasts c frame t (any_each (block_routines t.block))) (λ _.
+    gives_then (define_program-lasts (spelling_all x.k) frame t (any_each (block_routines t.block))) (λ _.
     gives_then (add_routine-lasts c (main_row t.name)) (λ number. gives_first _ (block_gives x frame number 1 t.block))))) in
     gives.of (known_at_start l) (record { words = refl }) (λ b i. contained b (broken l t) i)

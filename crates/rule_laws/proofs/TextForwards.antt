@@ -8,7 +8,7 @@ use Rattle.pas_tree.specs.BlockTrees.{BlockTree, BodyTree, RoutineTree, RoutineT
 use Rattle.pas_tree.specs.BlockTrees as tree
 use Rattle.pas_tree.specs.HeadingTrees as headings
 use Rattle.pas_tree.specs.TreeNodes.{block_node, body_node, heading_node, routine_node, routines_node}
-use Rattle.core_program.specs.declared.rows.{PartRow.PartRow, Row.Row}
+use Rattle.core_program.specs.declared.rows.{NameRow.NameRow, PartRow.PartRow, Row.Row, TypeRow.TypeRow}
 use Rattle.check_steps.specs.Known.{Known, frame_at, name_at, row_at, with_row}
 use Rattle.check_steps.specs.Steps.{◌>>=◌, Step, ask, change, each, give, look, put, when}
 use Rattle.check_steps.specs.Words.{known_at_start, names_of, required_names, word_of}
@@ -19,14 +19,14 @@ use Rattle.decl_checker.specs.{Blocks.define_block, Routines.define_body, Routin
 use Rattle.decl_checker.specs.Programs.{define_program, main_row, program_step}
 use Rattle.code_checker.specs.CheckedPrograms.{broken, check_step}
 use Rattle.rule_laws.proofs.{Breaks.Each, Breaks.In, Breaks.contained, Breaks.in_right, Gives.Gives, Gives.gives_first, Gives.gives_then, Keeping.Closed}
-use Rattle.rule_laws.proofs.{Keeping.look-keeps, Keeping.turn-keeps, Lasting.Lasting, Lasting.add_routine-lasts, LastsFormals.define_formals_at-lasts}
-use Rattle.rule_laws.proofs.{LastsLabels.define_labels-lasts, LastsParameters.program_parameters-lasts, LastsPrograms.define_program-lasts}
-use Rattle.rule_laws.proofs.{LastsPrograms.open_program-lasts, LastsRoutines.block_each, PartLaw.each_known, PartLaw.waits_told, PartSteps.part_listed}
+use Rattle.rule_laws.proofs.{Keeping.look-keeps, Keeping.turn-keeps, Lasting.Declaring, Lasting.Lasting, Lasting.add_routine-lasts}
+use Rattle.rule_laws.proofs.{LastsFormals.define_formals_at-lasts, LastsLabels.define_labels-lasts, LastsParameters.program_parameters-lasts}
+use Rattle.rule_laws.proofs.{LastsPrograms.define_program-lasts, LastsPrograms.open_program-lasts, LastsRoutineParts.define_heading-lasts}
+use Rattle.rule_laws.proofs.{LastsRoutineParts.define_routine-lasts, LastsRoutines.block_each, PartLaw.each_known, PartLaw.waits_told, PartSteps.part_listed}
 use Rattle.rule_laws.proofs.{PartSteps.part_steps, Tables.row_beside, Tables.row_put, TextFields.IsTold, TextFields.Text, TextNames.start_sound}
 use Rattle.rule_laws.proofs.{TextNames.text_block, TextTokens.text_law, TextTokens.text_tokens, TextWalk.Enters, TextWalk.block_walk, TextWalk.entered_gives}
 use Rattle.rule_laws.proofs.LastsBlocks.{define_constants-lasts, define_types-lasts, define_variables-lasts}
-use Rattle.rule_laws.proofs.LastsRoutineParts.{define_heading-lasts, define_routine-lasts}
-use Rattle.rule_laws.proofs.TextHeadings.{IsOfText, Sound, completed_found, completion_sound, sound_lasts}
+use Rattle.rule_laws.proofs.TextHeadings.{IsOfText, Sound, completed_found, completion_sound, sound_all, sound_lasts}
 use Rattle.rule_laws.specs.{Laws.broken_at, NameLaws.block_routines, Tokens.Has, Tokens.IsDistinct}
 use Rattle.rule_laws.specs.ForwardHeadings.{are_completing, completes, has_forward, is_block, routines_in, same_kind}
 use Rattle.rule_laws.specs.TextLaws.{ForwardsAreTold, IsNeverForward, TextsTellForwards, routines_in_body}
@@ -57,8 +57,8 @@ roomy_lasts k b = record {
   regions = λ j token f s. record { words = s.words; names = s.names; room = s.room };
   defines = λ j region d s. record { words = s.words; names = s.names; room = s.room };
   requires = λ j name d behind s. record { words = s.words; names = s.names; room = s.room };
-  declares = λ j region value token s. record { words = s.words; names = s.names; room = s.room };
   chooses = λ j list value s. record { words = s.words; names = s.names; room = s.room };
+  records = λ j word packed region cells variants fresh s. put_roomy k j word (Row.Type (TypeRow.Record packed region cells variants)) s;
   waits = λ j r g none s. put_roomy k j (routine_name r) (Row.Part (PartRow.Forward (is_function (routine_heading r)) None)) s;
   completes = λ j region first position r g e s.
       let row = Row.Part (PartRow.Forward (is_function (routine_heading r)) (Some position)) in
@@ -82,12 +82,46 @@ both_last k b =
       regions = λ j token f s. record { sound = c.regions j token f s.sound; roomy = e.regions j token f s.roomy };
       defines = λ j region d s. record { sound = c.defines j region d s.sound; roomy = e.defines j region d s.roomy };
       requires = λ j name d behind s. record { sound = c.requires j name d behind s.sound; roomy = e.requires j name d behind s.roomy };
-      declares = λ j region value token s. record { sound = c.declares j region value token s.sound; roomy = e.declares j region value token s.roomy };
       chooses = λ j list value s. record { sound = c.chooses j list value s.sound; roomy = e.chooses j list value s.roomy };
+      records = λ j word packed region cells variants fresh s. record {
+        sound = c.records j word packed region cells variants (record {
+          before = fresh.before;
+          held = fresh.held.sound;
+          opened = fresh.opened;
+          there = fresh.there;
+          none = fresh.none;
+        }) s.sound;
+        roomy = e.records j word packed region cells variants (record {
+          before = fresh.before;
+          held = fresh.held.roomy;
+          opened = fresh.opened;
+          there = fresh.there;
+          none = fresh.none;
+        }) s.roomy;
+      };
       waits = λ j r g none s. record { sound = c.waits j r g none s.sound; roomy = e.waits j r g none s.roomy };
       completes = λ j region first position r g f s. record {
         sound = c.completes j region first position r g f s.sound;
         roomy = e.completes j region first position r g f s.roomy;
+      };
+    }
+
+both_all : (k : Known) (b : BlockTree) → Declaring (IsOfText k b) (Both k b)
+both_all k b =
+    let c = sound_all k b in
+    record {
+      kept = both_last k b;
+      declares = λ j region value token s. record {
+        sound = c.declares j region value token s.sound;
+        roomy = record { words = s.roomy.words; names = s.roomy.names; room = s.roomy.room };
+      };
+      labels = λ j token value level s. record {
+        sound = c.labels j token value level s.sound;
+        roomy = put_roomy k j token (Row.Name (NameRow.Label false value level 0)) s.roomy;
+      };
+      heads = λ j name number region s. record {
+        sound = c.heads j name number region s.sound;
+        roomy = put_roomy k j name (Row.Name (NameRow.Routine false number region)) s.roomy;
       };
     }
 
@@ -262,7 +296,7 @@ block_gives : (x : Text) (t : BlockTree) (frame : ℕ) (b : BlockTree) → OfRou
 block_gives x t frame (tree.a_block labels consts kinds variable_part routines body) all apart =
     let c = both_last x.k t in
     let listed = block_each (IsOfText x.k t) (tree.a_block labels consts kinds variable_part routines body) all in
-    gives_then (look-keeps (λ k. frame_at k frame)) (λ here. gives_then (define_labels-lasts c here labels) (λ _.
+    gives_then (look-keeps (λ k. frame_at k frame)) (λ here. gives_then (define_labels-lasts (both_all x.k t) here labels) (λ _.
     gives_then (define_constants-lasts c here.region consts) (λ _. gives_then (define_types-lasts c here.region kinds) (λ _.
     gives_then (define_variables-lasts c here.region variable_part) (λ _. part_gives x t here.region routines listed apart)))))
 
@@ -321,7 +355,7 @@ inside_gives x t inner h body completion all apart =
 
 enters : (x : Text) (t : BlockTree) → Enters (IsOfText x.k t) (Both x.k t) (IsTold x) (Given x t)
 enters x t = record {
-  kept = both_last x.k t;
+  kept = both_all x.k t;
   entered = λ frame rs r all. record {
     of = λ j i w apart none. (entered_gives (both_last x.k t) x.k t (λ h s. s.sound) frame rs r none
         (λ inner completion. inside_gives x t inner (routine_heading r) (routine_body r) completion all apart)).of j i w;
@@ -383,7 +417,7 @@ text_forward_law l t spelled =
     gives_then (open_program-lasts c) (λ frame. gives_first _ (gives_then (look-keeps (λ k. (frame_at k frame).region)) (λ region.
     gives_then (program_parameters-lasts c region t.parameters) (λ _. block_gives x t.block frame t.block all (block_apart t.block distinct))))) in
     let inner : Gives (Both k t.block) (IsTold x) (program_step t) (OfRoutines (Given x t.block) t.block) =
-    gives_then (open_program-lasts c) (λ frame. gives_then (define_program-lasts c frame t listed) (λ _.
+    gives_then (open_program-lasts c) (λ frame. gives_then (define_program-lasts (both_all k t.block) frame t listed) (λ _.
     gives_then (add_routine-lasts c (main_row t.name)) (λ number. gives_first _ (block_walk (enters x t.block) frame number 1 t.block all)))) in
     let told : (b : Break) → In b (check_step t k).broken → IsTold x b = λ b i. contained b (broken l t) i in (
       (gives_first _ own).of k (start_both l t.block) told,

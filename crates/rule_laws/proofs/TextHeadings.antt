@@ -1,35 +1,20 @@
 -- What the tables of a text say of headings, wherever its declarations are looked at.
 use Rattle.std.proofs.Common.{if◌then◌else◌, ◌++◌, ◌<◌, ◌∙◌, ◌∷◌, ◌≡◌, ◌≤◌, ◌⊎◌, [], ℕ, Bool, List, None, Option, Some, ap, arith, false, inl, inr, length}
-use Rattle.std.proofs.Common.{nat_eq, refl, set, subst, suc, sym, true, zero}
+use Rattle.std.proofs.Common.{nat_eq, refl, subst, sym, true}
 use Rattle.std.{proofs.lemmas.Bool.eqb-true, proofs.lemmas.Option.none-some, proofs.lemmas.Option.same_Some, specs.Map.lookup}
 use Rattle.pas_tree.specs.{HeadingPlaces.heading_name, HeadingTrees.HeadingTree}
 use Rattle.pas_tree.specs.BlockTrees.{BlockTree, BodyTree, RoutineTree, routine_body, routine_heading}
 use Rattle.pas_tree.specs.BlockTrees as tree
-use Rattle.core_program.specs.declared.rows.{PartRow.PartRow, Row.Row}
+use Rattle.core_program.specs.declared.rows.{NameRow.NameRow, PartRow.PartRow, Row.Row, TypeRow.TypeRow}
 use Rattle.check_steps.specs.Known.{Known, and_definition, and_label, and_region, name_at, row_at, with_row}
 use Rattle.check_steps.specs.Regions.{RegionRows, defined_in, fresh_region, region_at}
 use Rattle.check_steps.specs.declared.{regions.Definition.Definition, regions.Frame.Frame, words.SpelledToken.SpelledToken}
 use Rattle.denoter_checker.specs.{Formals.is_function, RoutineParts.awaiting, RoutineParts.awaits, RoutineParts.completed_by, RoutineParts.routine_name}
-use Rattle.rule_laws.proofs.{Faces.row_either, Lasting.Lasting, Lasting.is_quiet, Lasting.with_completion, Tables.lookup-last, Tables.one_or_other}
+use Rattle.rule_laws.proofs.{Faces.row_either, Regions.region_either, Regions.region_more, Tables.lookup-last, Tables.one_or_other}
+use Rattle.rule_laws.proofs.Lasting.{Declaring, Lasting, is_quiet, with_completion}
 use Rattle.rule_laws.specs.{ForwardHeadings.is_block, TextLaws.IsNeverForward}
 
 -- ---- definitions, after a change
-
-region_either : (rs : List RegionRows) (i r : ℕ) (x : RegionRows) → (region_at (set rs i x) r ≡ region_at rs r) ⊎ ((r ≡ i) × (region_at (set rs i x) r ≡ x))
-region_either [] i r x = inl refl
-region_either (y ∷ ys) zero zero x = inr (refl, refl)
-region_either (y ∷ ys) zero (suc r) x = inl refl
-region_either (y ∷ ys) (suc i) zero x = inl refl
-region_either (y ∷ ys) (suc i) (suc r) x = elim (region_either ys i r x) [
-  | inl e ↦ inl e
-  | inr p ↦ inr (ap suc p.0, p.1)
-]
-
-region_more : (rs : List RegionRows) (r : ℕ) (x : RegionRows) → (region_at (rs ++ x ∷ []) r ≡ region_at rs r) ⊎ (region_at (rs ++ x ∷ []) r ≡ x)
-region_more [] zero x = inr refl
-region_more [] (suc r) x = inl refl
-region_more (y ∷ ys) zero x = inl refl
-region_more (y ∷ ys) (suc r) x = region_more ys r x
 
 abbrev entry : RegionRows → ℕ → Option Definition
 entry rows n = lookup (nat_eq n) rows.names
@@ -205,6 +190,12 @@ complete_sound k b j region first position r e s =
 waits_row : (function : Bool) (first : ℕ) → Row.Part (PartRow.Forward function None) ≡ Row.Part (PartRow.Completing first) → ⊥
 waits_row function first e = cc
 
+no_record : (packed : Bool) (region cells : ℕ) (variants : Option ℕ) {r : PartRow} → Row.Type (TypeRow.Record packed region cells variants) ≡ Row.Part r → ⊥
+no_record packed region cells variants e = cc
+
+no_name : {n : NameRow} {r : PartRow} → Row.Name n ≡ Row.Part r → ⊥
+no_name e = cc
+
 pub sound_lasts : (k : Known) (b : BlockTree) → Lasting (IsOfText k b) (Sound k b)
 sound_lasts k b = record {
   puts = λ j m r quiet s. put_sound k b j m r (λ function block e. absurd (no_forward r function block quiet e))
@@ -235,11 +226,22 @@ sound_lasts k b = record {
     forward = s.forward;
     completing = s.completing;
   };
-  declares = λ j region value token s.
-      alike k b j (and_label j region value token) refl (λ r n d e. sym (label_defined j region value token r n) ∙ e) (λ n. refl) s;
   chooses = λ j list value s. record { words = s.words; own = s.own; forward = s.forward; completing = s.completing };
+  records = λ j word packed region cells variants fresh s. put_sound k b j word (Row.Type (TypeRow.Record packed region cells variants))
+      (λ function block e. absurd (no_record packed region cells variants e)) (λ first e. absurd (no_record packed region cells variants e)) s;
   waits = λ j r g none s. put_sound k b j (routine_name r) (Row.Part (PartRow.Forward (is_function (routine_heading r)) None))
       (λ function block e. record { spelled = g.spelled; directed = g.directed none })
       (λ first e. absurd (waits_row (is_function (routine_heading r)) first e)) s;
   completes = λ j region first position r g e s. complete_sound k b j region first position r e s;
+}
+
+pub sound_all : (k : Known) (b : BlockTree) → Declaring (IsOfText k b) (Sound k b)
+sound_all k b = record {
+  kept = sound_lasts k b;
+  declares = λ j region value token s.
+      alike k b j (and_label j region value token) refl (λ r n d e. sym (label_defined j region value token r n) ∙ e) (λ n. refl) s;
+  labels = λ j token value level s. put_sound k b j token (Row.Name (NameRow.Label false value level 0)) (λ function block e. absurd (no_name e))
+      (λ first e. absurd (no_name e)) s;
+  heads = λ j name number region s. put_sound k b j name (Row.Name (NameRow.Routine false number region)) (λ function block e. absurd (no_name e))
+      (λ first e. absurd (no_name e)) s;
 }

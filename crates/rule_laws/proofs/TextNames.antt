@@ -1,7 +1,7 @@
 -- The names of a text's blocks and formal parameters.
-use Rattle.std.proofs.Common.{◌++◌, ◌+◌, ◌<◌, ◌||◌, ◌∙◌, ◌∷◌, ◌≡◌, [], ℕ, List, None, Option, Some, ap, arith, false, inl, inr, is_some, length, length-set}
-use Rattle.std.proofs.Common.{refl, replicate, slice_get, subst, suc, sym, true, unwrap_or, zero}
-use Rattle.std.proofs.lemmas.{List.length-append, Option.none-some}
+use Rattle.std.proofs.Common.{◌++◌, ◌+◌, ◌<◌, ◌||◌, ◌∙◌, ◌∷◌, ◌≡◌, [], ℕ, List, Option, Some, ap, false, inl, inr, is_some, length, refl, replicate, slice_get}
+use Rattle.std.proofs.Common.{subst, suc, sym, true, unwrap_or, zero}
+use Rattle.std.proofs.lemmas.Option.{none-some}
 use Rattle.pas_lexer.specs.Lexed.{Lexed}
 use Rattle.pas_tree.specs.{HeadingPlaces.heading_name, HeadingTrees.HeadingTree}
 use Rattle.pas_tree.specs.BlockTrees.{BlockTree, BodyTree, ConstantPartTree, LabelPartTree, ProgramTree, RoutineTree, RoutineTrees, TypePartTree}
@@ -10,10 +10,9 @@ use Rattle.pas_tree.specs.BlockTrees as tree
 use Rattle.pas_tree.specs.HeadingTrees as headings
 use Rattle.pas_tree.specs.TreeNodes.{block_node, body_node, heading_node, routine_node, routines_node}
 use Rattle.core_program.specs.declared.rows.{PartRow.PartRow, Row.Row}
-use Rattle.check_steps.specs.{Required.open_outermost, Steps.◌>>=◌, Steps.Step, Steps.extend, Steps.look, Words.known_at_start, Words.required_names}
-use Rattle.check_steps.specs.Known.{Known, and_definition, and_region, frame_at, name_at, row_at}
-use Rattle.check_steps.specs.Regions.{defined_in, fresh_region, region_at}
-use Rattle.check_steps.specs.declared.{breaks.Break.Break, regions.Definition.Definition, regions.Frame.Frame, words.SpelledToken.SpelledToken}
+use Rattle.check_steps.specs.{Regions.defined_in, Required.open_outermost, Steps.◌>>=◌, Steps.Step, Steps.extend, Steps.look, Words.known_at_start}
+use Rattle.check_steps.specs.{Words.required_names, declared.breaks.Break.Break, declared.regions.Frame.Frame, declared.words.SpelledToken.SpelledToken}
+use Rattle.check_steps.specs.Known.{Known, and_region, frame_at, name_at, row_at}
 use Rattle.denoter_checker.specs.Formals.{define_formals_at, formals_of}
 use Rattle.denoter_checker.specs.RoutineParts.{completion_of, define_routines, routine_name}
 use Rattle.decl_checker.specs.{Blocks.define_block, Blocks.define_constants, Blocks.define_types, Blocks.define_variables, Labels.define_labels}
@@ -21,79 +20,19 @@ use Rattle.decl_checker.specs.{Parameters.program_parameters, Programs.define_pr
 use Rattle.decl_checker.specs.Routines.{define_body, define_completion, define_inside, enter_at, enter_heading, first_heading, one_deeper, open_routine}
 use Rattle.code_checker.specs.CheckedPrograms.{broken, check_step}
 use Rattle.rule_laws.proofs.{Every.Every, Every.Of, Gives.Gives, Gives.gives_first, Gives.gives_then, InTurn.Goes, InTurn.Wrong, InTurn.one_wrong}
-use Rattle.rule_laws.proofs.{InTurn.wrong_parts, Keeping.Keeps, LabelParts.labels_told, Lasting.Lasting, Lasting.add_routine-lasts}
-use Rattle.rule_laws.proofs.{LastsFormals.define_formals_at-lasts, LastsParameters.program_parameters-lasts, LastsRoutines.after_completion}
-use Rattle.rule_laws.proofs.{LastsRoutines.block_each, NameTurns.Region, NameTurns.Turn, NameTurns.rule_two, TextHeadings.IsOfText, TextHeadings.Sound}
-use Rattle.rule_laws.proofs.{TextHeadings.sound_lasts, TextTokens.text_tokens, TextWalk.Enters, TextWalk.block_walk, TextWalk.never_completes}
+use Rattle.rule_laws.proofs.{InTurn.wrong_parts, Keeping.Keeps, LabelParts.labels_told, Lasting.add_routine-lasts, LastsFormals.define_formals_at-lasts}
+use Rattle.rule_laws.proofs.{LastsParameters.program_parameters-lasts, LastsPrograms.define_program-lasts, LastsPrograms.open_program-lasts}
+use Rattle.rule_laws.proofs.{LastsRoutines.after_completion, LastsRoutines.block_each, NameTurns.Region, NameTurns.Turn, NameTurns.rule_two, Standing.Stands}
+use Rattle.rule_laws.proofs.{Standing.opened, Standing.standing, Standing.stands_at, TextRoutines.heads_back, TextRoutines.labels_keep, TextRoutines.no_split}
+use Rattle.rule_laws.proofs.{TextTokens.text_tokens, TextWalk.Enters, TextWalk.block_walk, TextWalk.never_completes}
 use Rattle.rule_laws.proofs.Breaks.{Each, In, contained, in_either, in_left, in_right}
-use Rattle.rule_laws.proofs.LastsPrograms.{define_program-lasts, open_program-lasts}
 use Rattle.rule_laws.proofs.NameLaw.{begun, constant_part_goes, held_formals_go, type_part_goes, variable_part_goes}
 use Rattle.rule_laws.proofs.TextFields.{Any, IsTold, Text, or_true, spelling}
-use Rattle.rule_laws.proofs.TextRoutines.{heads_back, labels_keep, no_split}
+use Rattle.rule_laws.proofs.TextHeadings.{IsOfText, Sound, sound_all, sound_lasts}
 use Rattle.rule_laws.specs.{ForwardHeadings.is_block, Laws.broken_at, NameLaws.block_labels, NameLaws.block_routines, TextLaws.names_of_routine}
 use Rattle.rule_laws.specs.{TextLaws.routine_names, TextParts.OfBody, TextParts.OfEach, TextParts.OfRoutine, TextParts.OfRoutines}
 use Rattle.rule_laws.specs.RegionNames.{block_names, constants_of, heading_names, types_of, variables_of}
 use Rattle.rule_laws.specs.TextLaws.{IsNeverForward, RegionIsTold, TextsTellNames, has_label, has_name, headings_in_body, labels_in_body, names_in_body}
-
--- ---- a frame that stays, with a region that is there
-
-record Stands (n : ℕ) (f : Frame) (j : Known) : Type 0 where
-  there : slice_get j.frames n ≡ Some f
-  below : f.region < length j.regions
-
-got_still : {X : Type 0} (xs ys : List X) (n : ℕ) (x : X) → slice_get xs n ≡ Some x → slice_get (xs ++ ys) n ≡ Some x
-got_still [] ys n x e = absurd (let never : None ≡ Some x = e in cc)
-got_still (y ∷ xs) ys zero x e = e
-got_still (y ∷ xs) ys (suc n) x e = got_still xs ys n x e
-
-got_end : {X : Type 0} (xs : List X) (x : X) → slice_get (xs ++ x ∷ []) (length xs) ≡ Some x
-got_end [] x = refl
-got_end (y ∷ xs) x = got_end xs x
-
-standing : (n : ℕ) (f : Frame) → Lasting Any (Stands n f)
-standing n f = record {
-  puts = λ j m r quiet s. record { there = s.there; below = s.below };
-  stays = λ j m s. record { there = s.there; below = s.below };
-  bodies = λ j m r s. record { there = s.there; below = s.below };
-  routines = λ j r s. record { there = s.there; below = s.below };
-  frames = λ j g s. record { there = got_still j.frames (g ∷ []) n f s.there; below = s.below };
-  regions = λ j token g s. record {
-    there = got_still j.frames (g ∷ []) n f s.there;
-    below =
-        let b = s.below in
-        let more = length-append j.regions (fresh_region token (length j.frames) ∷ []) in
-        omega (arith, b, more);
-  };
-  defines = λ j region d s. defined j region (name_at j d.token) d s;
-  requires = λ j name d behind s. defined j 0 name d s;
-  declares = λ j region value token s.
-      let rows = region_at j.regions region in
-      let same = length-set j.regions region (record rows { labels = rows.labels ++ (value, token) ∷ [] }) in
-      record { there = s.there; below = (let b = s.below in omega (arith, b, same)) };
-  chooses = λ j list value s. record { there = s.there; below = s.below };
-  waits = λ j r g none s. record { there = s.there; below = s.below };
-  completes = λ j region first position r g e s. record { there = s.there; below = s.below };
-}
-  where
-    defined : (j : Known) (region name : ℕ) (d : Definition) → Stands n f j → Stands n f (and_definition j region name d)
-    defined j region name d s =
-        let rows = region_at j.regions region in
-        let same = length-set j.regions region (record rows { names = rows.names ++ (name, d) ∷ [] }) in
-        record { there = s.there; below = (let b = s.below in omega (arith, b, same)) }
-
-abbrev no_frame : Frame
-no_frame = record { region = 0; outer = None; level = 0; withs = 0 }
-
-stands_at : (n : ℕ) (f : Frame) (j : Known) → Stands n f j → frame_at j n ≡ f
-stands_at n f j s = ap (λ (o : Option Frame). unwrap_or o no_frame) s.there
-
-opened : (k : Known) (token : ℕ) (f : Frame) → f.region ≡ length k.regions → Stands (length k.frames) f (and_region k token f)
-opened k token f e = record {
-  there = got_end k.frames f;
-  below =
-      let more = length-append k.regions (fresh_region token (length k.frames) ∷ []) in
-      omega (arith, e, more);
-}
 
 -- ---- a name that is defined again is told
 
@@ -218,7 +157,7 @@ inside_told k j frame f r completion before name after words s same second =
     elim (wrong_parts (rule_two p) [] (heading_names (routine_heading r)) (names_in_body (routine_body r)) w) [
       | inl one ↦ in_left b d.broken (e.broken ++ rest.broken) (ends.back one)
       | inr other ↦ (
-          let then = (define_formals_at-lasts (standing frame f) frame (routine_heading r)).of j s in
+          let then = (define_formals_at-lasts (standing {G = Any} frame f) frame (routine_heading r)).of j s in
           let still = ap (λ (g : Frame). g.region) (sym (stands_at frame f d.known then)) in
           in_right b d.broken (e.broken ++ rest.broken) (in_left b e.broken rest.broken
           (body_back j frame f.region name (routine_body r) (heading_names (routine_heading r)) d.known still ends.turn other)))
@@ -233,7 +172,7 @@ inside_labels k j frame f r completion before label after words s same second =
     let d = define_formals_at frame (routine_heading r) j in
     let e = define_body frame (routine_body r) d.known in
     let rest = define_completion frame completion e.known in
-    let then = (define_formals_at-lasts (standing frame f) frame (routine_heading r)).of j s in
+    let then = (define_formals_at-lasts (standing {G = Any} frame f) frame (routine_heading r)).of j s in
     let spelled = (define_formals_at-lasts (spelling k) frame (routine_heading r)).of j (record { words = words }) in
     in_right b d.broken (e.broken ++ rest.broken) (in_left b e.broken rest.broken
     (body_labels k d.known frame f (routine_body r) before label after spelled.words then same second))
@@ -266,7 +205,7 @@ inside_headings k t j frame f r completion before name after sound s all same no
     let ends = formals_end j frame f.region name (routine_heading r) j (ap (λ (g : Frame). g.region) (sym at)) (begun j f.region name s.below) in
     let e = define_body frame (routine_body r) d.known in
     let rest = define_completion frame completion e.known in
-    let then = (define_formals_at-lasts (standing frame f) frame (routine_heading r)).of j s in
+    let then = (define_formals_at-lasts (standing {G = Any} frame f) frame (routine_heading r)).of j s in
     let still = ap (λ (g : Frame). g.region) (sym (stands_at frame f d.known then)) in
     let sound_then = (define_formals_at-lasts (sound_lasts k t) frame (routine_heading r)).of j sound in
     in_right b d.broken (e.broken ++ rest.broken) (in_left b e.broken rest.broken
@@ -324,7 +263,7 @@ enter_gives x t frame rs r all = record {
 }
 
 enters : (x : Text) (t : BlockTree) → Enters (IsOfText x.k t) (Sound x.k t) (IsTold x) (Regions x t)
-enters x t = record { kept = sound_lasts x.k t; entered = λ frame rs r all. enter_gives x t frame rs r all }
+enters x t = record { kept = sound_all x.k t; entered = λ frame rs r all. enter_gives x t frame rs r all }
 
 -- ---- the procedures and functions of a text
 
@@ -380,7 +319,7 @@ program_names x frame f t j sound s all w =
     let d = program_parameters region t.parameters j in
     let i = d.known in
     let e = define_block frame t.block i in
-    let then = (program_parameters-lasts (standing frame f) region t.parameters).of j s in
+    let then = (program_parameters-lasts (standing {G = Any} frame f) region t.parameters).of j s in
     let at = ap (λ (g : Frame). g.region) (sym (stands_at frame f i then)) in
     let still = (program_parameters-lasts (sound_lasts x.k t.block) region t.parameters).of j sound in
     record {
@@ -454,7 +393,7 @@ text_name_law l t text =
     } in
     let inner : Gives (Sound k t.block) (IsTold x) (program_step t) (OfRoutines (Regions x t.block) t.block) =
     gives_then (open_program-lasts c) (λ frame.
-    gives_then (define_program-lasts c frame t list) (λ _.
+    gives_then (define_program-lasts (sound_all k t.block) frame t list) (λ _.
     gives_then (add_routine-lasts c (main_row t.name)) (λ number. gives_first _ (block_walk (enters x t.block) frame number 1 t.block all)))) in
     let told : (b : Break) → In b (check_step t k).broken → IsTold x b = λ b i. contained b (broken l t) i in
     ((gives_first _ own).of k start told, (gives_first _ inner).of k start told)

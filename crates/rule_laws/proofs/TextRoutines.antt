@@ -22,7 +22,7 @@ use Rattle.rule_laws.proofs.LastsBlocks.{define_constants-lasts, define_types-la
 use Rattle.rule_laws.proofs.LastsRoutineParts.{completed, define_routine-lasts}
 use Rattle.rule_laws.proofs.NameLaw.{begun, constant_part_goes, label_turn, type_part_goes, variable_part_goes}
 use Rattle.rule_laws.proofs.NameTurns.{Region, Turn, define_goes, named, named_more, rule_two}
-use Rattle.rule_laws.proofs.TextHeadings.{IsOfText, Sound, completion_sound, sound_lasts, spelled_as}
+use Rattle.rule_laws.proofs.TextHeadings.{IsOfText, Sound, completion_sound, sound_all, sound_lasts, spelled_as}
 use Rattle.rule_laws.specs.{ForwardHeadings.routines_in, Laws.broken_at, NameLaws.block_routines, RegionNames.block_names, RegionNames.constants_of}
 use Rattle.rule_laws.specs.{RegionNames.types_of, RegionNames.variables_of, TextLaws.IsNeverForward, TextLaws.has_name, TextLaws.routine_names}
 
@@ -271,7 +271,7 @@ parts_told k t p here e labels consts kinds variable_part routines body done bef
     let ts = types_of kinds in
     let vs = variables_of variable_part in
     let b = tree.a_block labels consts kinds variable_part routines body in
-    after_kept (labels_keep p done here e labels) (define_labels-lasts c here labels) (λ _.
+    after_kept (labels_keep p done here e labels) (define_labels-lasts (sound_all k t) here labels) (λ _.
     after_goes cs (constant_part_goes p consts) (define_constants-lasts c p.region consts) (λ _.
     after_goes ts (type_part_goes p kinds) (define_types-lasts c p.region kinds) (λ _.
     after_goes vs (variable_part_goes p variable_part) (define_variables-lasts c p.region variable_part) (λ _.

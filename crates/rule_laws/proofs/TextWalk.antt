@@ -8,7 +8,7 @@ use Rattle.check_steps.specs.{Known.Known, Known.name_at, Known.row_at, Steps.�
 use Rattle.denoter_checker.specs.RoutineParts.{completion_of, routine_name}
 use Rattle.decl_checker.specs.Routines.{block, body_in, define_inside, enter_at, enter_heading, first_heading, first_name, routine, routines_in}
 use Rattle.decl_checker.specs.declared.routines.Entered.{Entered}
-use Rattle.rule_laws.proofs.{Keeping.look-keeps, Lasting.Lasting, LastsBlocks.parts-lasts, LastsBlocks.put_body-lasts, TextHeadings.Sound}
+use Rattle.rule_laws.proofs.{Keeping.look-keeps, Lasting.Declaring, Lasting.Lasting, LastsBlocks.parts-lasts, LastsBlocks.put_body-lasts, TextHeadings.Sound}
 use Rattle.rule_laws.proofs.Gives.{Gives, gives_both, gives_first, gives_none, gives_then}
 use Rattle.rule_laws.proofs.LastsRoutines.{enter_heading-lasts, open_routine-lasts, routine-lasts}
 use Rattle.rule_laws.specs.{TextLaws.IsNeverForward, TextParts.OfBody, TextParts.OfEach, TextParts.OfRoutine, TextParts.OfRoutines}
@@ -17,15 +17,15 @@ use Rattle.rule_laws.specs.{TextLaws.IsNeverForward, TextParts.OfBody, TextParts
 
 -- This is so of a procedure or function where it is entered.
 pub record Enters (G : RoutineTree → Type 0) (I : Known → Type 0) (Told : Break → Type 0) (P : RoutineTree → Type 0) : Type 0 where
-  pub kept : Lasting G I
+  pub kept : Declaring G I
   pub entered : (frame : ℕ) (rs : RoutineTrees) (r : RoutineTree) → OfBody G (routine_body r) → Gives I Told (enter_heading frame rs r) (P r)
 
 mutual
   pub block_walk : {G : RoutineTree → Type 0} {I : Known → Type 0} {Told : Break → Type 0} {P : RoutineTree → Type 0} (w : Enters G I Told P)
       (frame number place : ℕ) (b : BlockTree) → OfRoutines G b → Gives I Told (block frame number place b) (OfRoutines P b)
   block_walk w frame number place (tree.a_block labels constants types variables routines body) all =
-      gives_then (parts-lasts w.kept frame place (tree.a_block labels constants types variables routines body)) (λ end.
-      gives_then (put_body-lasts w.kept number end (compound_word body)) (λ _. gives_first _ (part_walk w frame routines routines all all)))
+      gives_then (parts-lasts w.kept.kept frame place (tree.a_block labels constants types variables routines body)) (λ end.
+      gives_then (put_body-lasts w.kept.kept number end (compound_word body)) (λ _. gives_first _ (part_walk w frame routines routines all all)))
 
   part_walk : {G : RoutineTree → Type 0} {I : Known → Type 0} {Told : Break → Type 0} {P : RoutineTree → Type 0} (w : Enters G I Told P)
       (frame : ℕ) (rs part : RoutineTrees) → OfEach G rs → OfEach G part → Gives I Told (routines_in frame rs part) (OfEach P part)

@@ -9,7 +9,7 @@ use Rattle.check_steps.specs.Known.{Known, and_choice, is_chosen, row_at, same_c
 use Rattle.check_steps.specs.Steps.{◌>>=◌, Step, add_chosen, ask, change, each, early, enter_block, extend, give, hold, late, look, open_frame, put, release}
 use Rattle.check_steps.specs.declared.breaks.{Break.Break, Broken.Broken, Broken.TheVariants.Early, Broken.TheVariants.Late, Broken.TheVariants.TooBig}
 use Rattle.rule_laws.proofs.{Breaks.Each, Breaks.both, Every.Every, Every.Of}
-use Rattle.rule_laws.proofs.Faces.{Shown, Shows, face, loose, row_either, said}
+use Rattle.rule_laws.proofs.Faces.{Shown, Shows, face, fine_in, loose, row_either, said, unsaid_fine}
 
 -- ---- where rules are broken
 
@@ -44,6 +44,7 @@ pub record Same (Q : ℕ → Type 0) (strict : Shown) (k j : Known) : Type 0 whe
   pub rows : (n : ℕ) → IsBeside Q k n → face strict (row_at j n) ≡ face strict (row_at k n)
   pub sayings : (n : ℕ) → Says Q k j n
   pub chosen : (list : ℕ) → (Of Q list → ⊥) → (v : ℤ) → is_chosen j list v ≡ is_chosen k list v
+  pub spent : (n level : ℕ) → fine_in level (row_at k n) ≡ false → fine_in level (row_at j n) ≡ false
 
 pub record Touches (Q : ℕ → Type 0) (strict : Shown) {A : Type 0} (m : Step A) : Type 0 where
   pub same : (k : Known) → Same Q strict k (m k).known
@@ -73,6 +74,7 @@ same_in k = record {
   rows = λ n h. refl;
   sayings = λ n. inr refl;
   chosen = λ list h v. refl;
+  spent = λ n level e. e;
 }
 
 beside_after : {Q : ℕ → Type 0} {strict : Shown} (k j : Known) → Same Q strict k j → (n : ℕ) → IsBeside Q k n → IsBeside Q j n
@@ -101,6 +103,7 @@ same_then k j i a b = record {
   rows = λ n h. b.rows n (beside_after k j a n h) ∙ a.rows n h;
   sayings = λ n. said_then k j i n a.words (a.sayings n) (b.sayings n);
   chosen = λ list h v. b.chosen list h v ∙ a.chosen list h v;
+  spent = λ n level e. b.spent n level (a.spent n level e);
 }
 
 -- ---- rows put
@@ -125,6 +128,13 @@ changed_said k m n r same = elim (row_either k m n r) [
   | inr p ↦ inr (ap said p.1 ∙ same ∙ ap (λ x. said (row_at k x)) (sym p.0))
 ]
 
+put_spent : (k : Known) (m n level : ℕ) (r : Row) → (n ≡ m → fine_in level (row_at k n) ≡ false → fine_in level r ≡ false)
+    → fine_in level (row_at k n) ≡ false → fine_in level (row_at (with_row k m r) n) ≡ false
+put_spent k m n level r new e = elim (row_either k m n r) [
+  | inl old ↦ ap (fine_in level) old ∙ e
+  | inr p ↦ ap (fine_in level) p.1 ∙ new p.0 e
+]
+
 same_put : {Q : ℕ → Type 0} {strict : Shown} (k : Known) (m : ℕ) (r : Row) → Of Q m → said r ≡ Row.Nothing → Same Q strict k (with_row k m r)
 same_put {Q = Q} {strict = strict} k m r here none = record {
   words = refl;
@@ -137,6 +147,7 @@ same_put {Q = Q} {strict = strict} k m r here none = record {
   rows = λ n h. put_face strict k m n r (λ e. absurd (h.none (subst (Of Q) (sym e) here)));
   sayings = λ n. put_said k m n r (inl here) none;
   chosen = λ list h v. refl;
+  spent = λ n level e. put_spent k m n level r (λ _ x. unsaid_fine level r none) e;
 }
 
 -- the last token's row
@@ -152,6 +163,7 @@ same_end {Q = Q} {strict = strict} k r none = let m = length k.words - 1 in reco
   rows = λ n h. put_face strict k m n r (λ e. absurd (h.before_end e));
   sayings = λ n. put_said k m n r (inr refl) none;
   chosen = λ list h v. refl;
+  spent = λ n level e. put_spent k m n level r (λ _ x. unsaid_fine level r none) e;
 }
 
 pub same_changed : {Q : ℕ → Type 0} {strict : Shown} (k : Known) (m : ℕ) (g : Row → Row) → Shows strict g → Same Q strict k (with_row k m (g (row_at k m)))
@@ -166,6 +178,7 @@ same_changed {Q = Q} {strict = strict} k m g s = let r = g (row_at k m) in recor
   rows = λ n h. put_face strict k m n r (λ e. s.looks (row_at k m) ∙ ap (λ x. face strict (row_at k x)) (sym e));
   sayings = λ n. changed_said k m n r (s.says (row_at k m));
   chosen = λ list h v. refl;
+  spent = λ n level e. put_spent k m n level r (λ at x. s.spends level (row_at k m) (ap (λ i. fine_in level (row_at k i)) (sym at) ∙ x)) e;
 }
 
 -- ---- lists of values that choose
@@ -210,6 +223,7 @@ same_choices {Q = Q} k list v here = record {
   rows = λ n h. refl;
   sayings = λ n. inr refl;
   chosen = λ l h w. other_chosen k list l v w (λ e. h (subst (Of Q) (sym e) here));
+  spent = λ n level e. e;
 }
 
 -- ---- steps
@@ -285,6 +299,7 @@ open_frame-touches f = record {
     rows = λ n h. refl;
     sayings = λ n. inr refl;
     chosen = λ list h v. refl;
+    spent = λ n level e. e;
   };
   told = λ k. tt;
 }
@@ -311,6 +326,7 @@ unseen {strict = strict} k j words program regions frames choices = record {
   rows = λ n h. ap (λ p. face strict (row_in p n)) program;
   sayings = λ n. inr (ap (λ p. said (row_in p n)) program);
   chosen = λ list h v. ap (λ (cs : List (ℕ × ℤ)). list_any (same_choice (list, v)) cs) choices;
+  spent = λ n level e. ap (λ p. fine_in level (row_in p n)) program ∙ e;
 }
 
 pub hold-touches : {Q : ℕ → Type 0} {strict : Shown} (variable : ℕ) → Touches Q strict (hold variable)

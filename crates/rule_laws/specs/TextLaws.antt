@@ -1,20 +1,20 @@
--- What a whole text breaks of rules 2 and 8; and its tokens.
+-- What a whole text breaks of rules 2, 8 and 15; and its tokens.
 use Rattle.std.specs.Prelude.{◌++◌, ◌∷◌, ◌≡◌, ◌⊎◌, [], ℕ, Bool, Contains, List, false, map, nat_eq, true}
 use Rattle.std.specs.List.{list_any}
 use Rattle.pas_lexer.specs.{Lexed.Lexed, declared.kinds.Token.Token}
 use Rattle.grammar.specs.Nodes.{spell}
-use Rattle.pas_tree.specs.BlockTrees.{BlockTree, BodyTree, ProgramTree, RoutineTree, routine_body, routine_heading}
+use Rattle.pas_tree.specs.{BlockTrees.routine_heading, TreeNodes.tree_node}
+use Rattle.pas_tree.specs.BlockTrees.{BlockTree, BodyTree, ProgramTree, RoutineTree, RoutineTrees, routine_body}
 use Rattle.pas_tree.specs.BlockTrees as tree
-use Rattle.pas_tree.specs.TreeNodes.{tree_node}
 use Rattle.pas_parser.specs.Formed.{items_of}
 use Rattle.check_steps.specs.{Words.known_at_start, declared.breaks.Break.Break}
 use Rattle.check_steps.specs.Known.{Known, label_at, name_at}
 use Rattle.denoter_checker.specs.{RoutineParts.routine_name, declared.defines.Wanted.Wanted}
 use Rattle.code_checker.specs.CheckedPrograms.{broken}
-use Rattle.rule_laws.specs.{Laws.broken_at, TextParts.OfRecordsIn, TextParts.OfRoutines, Tokens.IsDistinct}
+use Rattle.rule_laws.specs.{BlockLabels.compound_labels, CaseLaws.late_at, Laws.broken_at, NameLaws.block_labels}
+use Rattle.rule_laws.specs.{NameLaws.block_routines, TextParts.OfRecordsIn, TextParts.OfRoutines, Tokens.IsDistinct}
 use Rattle.rule_laws.specs.ForwardHeadings.{are_completing, has_forward, is_block}
-use Rattle.rule_laws.specs.NameLaws.{block_labels, block_routines}
-use Rattle.rule_laws.specs.RegionNames.{block_names, field_names, heading_names}
+use Rattle.rule_laws.specs.RegionNames.{block_names, field_names, heading_names, labels_of}
 
 -- No token stands twice in a tree that spells the tokens of a source, nor in any part of it.
 abbrev pub TokensDiffer : Type 0
@@ -115,3 +115,52 @@ TextsTellForwards = (l : Lexed) (t : ProgramTree) → spell (tree_node t) ≡ it
     ForwardsAreTold k (broken l t) (block_routines b)
     × OfRoutines (λ r. IsNeverForward k b (name_at k (routine_name r))
     → ForwardsAreTold k (broken l t) (routines_in_body (routine_body r))) b
+
+-- ---- labels of statements (6.8.1)
+
+-- the labels in front of the statements of a block
+abbrev pub statement_labels : BlockTree → List ℕ
+statement_labels (tree.a_block labels constants types variables routines body) = compound_labels body
+
+abbrev pub statement_labels_in : BodyTree → List ℕ
+statement_labels_in (tree.a_directive directive) = []
+statement_labels_in (tree.a_block_body b) = statement_labels b
+
+-- Of these labels each breaks rule 15 that has the value of one before it.
+abbrev pub MarksAreTold : Known → List Break → List ℕ → Type 0
+MarksAreTold k bs labels = (before : List ℕ) (label : ℕ) (after : List ℕ) → labels ≡ before ++ label ∷ after
+    → has_label k before label ≡ true → Contains bs (late_at 15 label)
+
+-- So it is with those of the program's block, and of the block of each procedure and function.
+abbrev pub TextsTellMarks : Type 0
+TextsTellMarks = (l : Lexed) (t : ProgramTree) → let k = known_at_start l in
+    MarksAreTold k (broken l t) (statement_labels t.block)
+    × OfRoutines (λ r. MarksAreTold k (broken l t) (statement_labels_in (routine_body r))) t.block
+
+abbrev mutual
+  -- the labels of the label parts of a block, and of the procedures and functions in it
+  pub all_labels : BlockTree → List ℕ
+  all_labels (tree.a_block labels constants types variables routines body) =
+      labels_of labels ++ labels_in_routines routines
+
+  pub labels_in_routines : RoutineTrees → List ℕ
+  labels_in_routines tree.end_of_routines = []
+  labels_in_routines (tree.more_routines r rest) = labels_in_routine r ++ labels_in_routines rest
+
+  pub labels_in_routine : RoutineTree → List ℕ
+  labels_in_routine (tree.a_routine heading semicolon body last_semicolon) = all_labels_in body
+
+  pub all_labels_in : BodyTree → List ℕ
+  all_labels_in (tree.a_directive directive) = []
+  all_labels_in (tree.a_block_body b) = all_labels b
+
+-- Of these labels each breaks rule 15 whose value none of some labels has.
+abbrev pub UndeclaredAreTold : Known → List Break → (declared labels : List ℕ) → Type 0
+UndeclaredAreTold k bs declared labels = (before : List ℕ) (label : ℕ) (after : List ℕ)
+    → labels ≡ before ++ label ∷ after → has_label k declared label ≡ false → Contains bs (late_at 15 label)
+
+-- So it is with those in front of statements, and the labels of all label parts of the text.
+abbrev pub TextsTellUndeclared : Type 0
+TextsTellUndeclared = (l : Lexed) (t : ProgramTree) → let k = known_at_start l in let all = all_labels t.block in
+    UndeclaredAreTold k (broken l t) all (statement_labels t.block)
+    × OfRoutines (λ r. UndeclaredAreTold k (broken l t) all (statement_labels_in (routine_body r))) t.block

@@ -5,7 +5,8 @@ ghost use Rattle.rule_laws.specs.CaseLaws.{CasesTellEqualConstants, VariantsTell
 ghost use Rattle.rule_laws.specs.NameLaws.{BlocksTellNames, HeadingsTellFormals, LabelPartsTellLabels};
 ghost use Rattle.rule_laws.specs.NameLaws.{PartsTellSecondHeadings, ProgramsTellParameters, RecordsTellFields};
 ghost use Rattle.rule_laws.specs.ResultLaws.{FunctionsTellAssignments};
-ghost use Rattle.rule_laws.specs.TextLaws.{TextsTellFields, TextsTellForwards, TextsTellNames, TokensDiffer};
+ghost use Rattle.rule_laws.specs.TextLaws.{TextsTellFields, TextsTellForwards, TextsTellMarks, TextsTellNames};
+ghost use Rattle.rule_laws.specs.TextLaws.{TextsTellUndeclared, TokensDiffer};
 
 /// No token stands twice in the tree of a text.
 pub fn tokens_of_a_text_differ()
@@ -67,6 +68,17 @@ pub fn names_of_a_text_differ()
 /// of the block of a procedure or function, but for one that has the name of a forward heading.
 pub fn forward_headings_of_a_text_have_blocks()
     ensures { TextsTellForwards }
+{}
+
+/// In a text, of the labels in front of the statements of the program's block, and of the block of each procedure and
+/// function, each breaks rule 15 whose value one before it has.
+pub fn labels_of_statements_differ()
+    ensures { TextsTellMarks }
+{}
+
+/// So each breaks rule 15 whose value no label part of the text has.
+pub fn labels_of_statements_are_declared()
+    ensures { TextsTellUndeclared }
 {}
 
 /// So of the formal parameters of a heading.

@@ -10,7 +10,7 @@ returns-then-not-can_answer c d k =
     let routine = c.in-Some.routine in
     let places = c.in_ok-places.places.items in
     let found = c.in_ok-found.found in
-    let by = sym c.in_ok-routine.ensures ∙ c.in-Some.is in
+    let by = sym c.in_ok-routine.ensures.found ∙ c.in-Some.is in
     let are = subst (λ ms. ArePlaces ms places) (c.deref.ensures.value ∙ c.in_ok-matches.ensures) c.in_ok-places.ensures in
     let test = sym (ap (λ ps. worked_within ps c.args.row.now.args found && has_room reference routine) c.deref-2.ensures.value)
     ∙ sym c.can_answer.ensures in
@@ -23,7 +23,7 @@ returns c d k =
     let routine = c.in-Some.routine in
     let places = c.in_ok-places.places.items in
     let found = c.in_ok-found.found in
-    let by = sym c.in_ok-routine.ensures ∙ c.in-Some.is in
+    let by = sym c.in_ok-routine.ensures.found ∙ c.in-Some.is in
     let way = sym c.returned_or_faulted.ensures ∙ c.if-not-returned_or_faulted.false in
     let are = subst (λ ms. ArePlaces ms places) (c.deref.ensures.value ∙ c.in_ok-matches.ensures) c.in_ok-places.ensures in
     let test = sym (ap (λ ps. worked_within ps c.args.row.now.args found && has_room reference routine) c.deref-2.ensures.value)

@@ -1,0 +1,9 @@
+pub mod ActionsKeep
+pub mod ActionsMiss
+pub mod HeapMadeFirst
+pub mod PartsJump
+pub mod PartsKeep
+pub mod PartsMiss
+pub mod RunsJump
+pub mod RunsKeep
+pub mod RunsMiss

@@ -1,0 +1,3 @@
+pub mod HeapLaws
+pub mod JumpLaws
+pub mod PointerLaws
