@@ -5,6 +5,8 @@ import { RANK } from './engine.js';
 import { Looking } from './look_view.js';
 import { lastOnSeveral } from './session.js';
 
+const WAIT_MS = 100;
+
 export class Answers {
   // `onTurn` is called once an answer has shown what comes next.
   constructor(desk, { onTurn }) {
@@ -24,9 +26,14 @@ export class Answers {
     return this.turn((dialog) => dialog.say(line));
   }
 
-  // Says a line by something that is gone then; the keys go on from the next card.
+  // Says a line by something that is gone then.
   async sayAndGoOn(line) {
     await this.say(line);
+    this.goOn();
+  }
+
+  // The keys go on from the next card, where what had the focus is gone.
+  goOn() {
     const { activeElement } = document;
     if (activeElement === document.body || activeElement.closest('[hidden]') !== null) byId('card').querySelector('h2')?.focus({ preventScroll: true });
   }
@@ -36,18 +43,60 @@ export class Answers {
     return this.sayAndGoOn(`slice ${call} ${name}`);
   }
 
+  // Takes a right program, which answers from now on where it is asked, unless it is none. It waits for a line that is being answered.
+  async takeRight(name, file) {
+    const { desk } = this;
+    const right = { name, file };
+    while (desk.dialog.isBusy) await new Promise((done) => { setTimeout(done, WAIT_MS); });
+    if (desk.isEdited) {
+      desk.tell('Run the program again first, and then choose the right one.');
+      return;
+    }
+    let isTaken = false;
+    await this.turn(async (dialog) => { isTaken = await dialog.sayBy(right, []); });
+    if (!isTaken) return;
+    desk.right = right;
+    byId('rightBox').open = false;
+    byId('rightText').value = '';
+    desk.render();
+    byId('rightBox').querySelector('summary').focus();
+  }
+
+  putRightAway() {
+    this.desk.right = null;
+    this.desk.render();
+    byId('openRight').focus();
+  }
+
+  // Lets the right program judge a call. Where there is none yet, one can be chosen.
+  async askRight(call) {
+    const { desk } = this;
+    if (desk.right === null) this.showRight();
+    else if (call >= 0 && !desk.isForAll) {
+      await this.turn((dialog) => dialog.sayBy(desk.right, [`refer ${call}`]));
+      this.goOn();
+    }
+  }
+
+  showRight() {
+    if (byId('rightBox').hidden) return;
+    byId('rightBox').open = true;
+    byId('openRight').focus();
+  }
+
   // Takes back the answer of this number, with all its entries.
   takeBack(number) {
     return this.turn((dialog) => dialog.takeBack(number));
   }
 
-  // An answer to the question: `right`, `wrong`, `unknown`, `trust`, or `back`.
+  // An answer to the question: `right`, `wrong`, `unknown`, `trust`, `refer`, or `back`.
   answer(word) {
     const { desk } = this;
     const { dialog } = desk;
     const onSeveral = lastOnSeveral(dialog.entries);
     if (word === 'back') return onSeveral === null ? this.say('back') : this.takeBack(onSeveral);
     const call = dialog.questionCall;
+    if (word === 'refer') return this.askRight(call);
     if (call < 0) return undefined;
     if (word === 'trust') return this.say(`trust #${dialog.tree.routine[call]}`);
     return desk.isForAll ? this.sayAndGoOn(`shared ${word} ${call}`) : this.say(`${word} ${call}`);

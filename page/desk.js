@@ -20,6 +20,8 @@ export class Desk {
     // The program in the editor, which may have been changed since it ran, and its input.
     this.program = { name: 'untitled.pas', file: fileOfText(''), input: fileOfText(''), example: null };
     this.chosen = -1;
+    // The right program, which can be asked: its `name` and its `file`, or null. It stays for the next program.
+    this.right = null;
     // Whether an answer to the question is for all calls that were asked the same.
     this.isForAll = false;
     // A session that the browser kept and that can be gone on with.

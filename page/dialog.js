@@ -3,14 +3,15 @@
 import { accusedOf, isAlone, markBy, suspectsOf } from './call_table.js';
 import { cardOf, stateOf } from './card.js';
 import { RANK } from './engine.js';
-import { callsIn, entriesOf, isOnSeveral, keep, lastOnSeveral, linesBack, setAside } from './session.js';
+import { answersIn, entriesOf, isNews, isOnSeveral, keep, lastOnSeveral, lineOfNextRight, linesBack, rightFiles, rightOf, setAside, toldIn } from './session.js';
 
-// No variable has this name, and no call this number; the replies tell whether the command knows the lines `state`, `carry`, `slice`
-// and `alike`.
+// No variable has this name, and no call this number; the replies tell whether the command knows the lines `state`, `carry`, `slice`,
+// `alike` and `refer`.
 const PROBES = [{ kind: 'state', call: 0, name: '.' }, { kind: 'carry', call: 999_999_999, onto: 0 }, { kind: 'slice', call: 999_999_999, name: '.' },
-  { kind: 'alike', call: 999_999_999 }];
+  { kind: 'alike', call: 999_999_999 }, { kind: 'refer', call: 999_999_999 }];
 const isKnown = (answer) => answer.kind === 'refused' && answer.text !== 'not understood';
-const TAKEN = /^(entry \d+|entries \d+ to \d+|back \d+|taken back \d+|noted \d+)$/;
+const TAKEN = /^(entry \d+|entries \d+ to \d+|back \d+|taken back \d+|noted \d+|reference right-\d+\.pas)$/;
+const UNREAD = /^(reference refused: |not fetched )/;
 const SAVED = 'page.session';
 // An answer that made more entries than these, and was the last one, is forgotten where it is taken back: each line for an entry
 // would be said anew in each turn.
@@ -35,6 +36,8 @@ export class Dialog {
     this.suspects = [];
     this.problem = null;
     this.note = '';
+    // What was to be a right program and is none, or null.
+    this.unread = null;
     this.isBusy = false;
     this.isKept = true;
     // Whether there was an answer a turn ago.
@@ -43,6 +46,7 @@ export class Dialog {
     this.knowsCarry = false;
     this.knowsSlice = false;
     this.knowsAlike = false;
+    this.knowsRefer = false;
     this.cost = { time: 0, memory: 0 };
     this.cards = new Map();
     this.traces = new Map();
@@ -63,7 +67,7 @@ export class Dialog {
 
   // Whether there is anything that a session on a corrected program could use.
   get hasAnswers() {
-    return this.shown !== null && (this.session.lines.length > 0 || this.session.saved !== null);
+    return this.shown !== null && (answersIn(this.session.lines).length > 0 || this.session.saved !== null);
   }
 
   get questionCall() {
@@ -76,34 +80,49 @@ export class Dialog {
     if (this.session !== null && this.session.lines.length > 0) setAside();
     this.clear();
     this.session = session;
-    const came = await this.turn(session.lines, [{ kind: 'tree' }, ...PROBES], session.lines.some(isOnSeveral));
+    const came = await this.turn(session.lines, [{ kind: 'tree' }, ...PROBES], session.lines.some(isNews));
     if (this.session !== session) return;
     if (!this.failed(came)) {
-      const [tree, state, carry, slice, alike] = came.answers;
+      const [tree, state, carry, slice, alike, refer] = came.answers;
       this.tree = tree.kind === 'tree' ? tree.tree : null;
       this.knowsState = isKnown(state);
       this.knowsCarry = isKnown(carry);
       this.knowsSlice = isKnown(slice);
       this.knowsAlike = isKnown(alike);
+      this.knowsRefer = isKnown(refer);
       this.took(came);
     }
     this.onChange();
   }
 
-  // Says a line, or several at once, and keeps them unless the command could not answer.
-  async say(said) {
+  // Says a line, or several at once, and keeps them unless the command could not answer. `right` is the right program that they read.
+  async say(said, right = null) {
     if (this.isBusy || this.shown === null) return;
     const { session } = this;
     const lines = [said].flat();
-    const came = await this.turn([...session.lines, ...lines], [], lines.some(isOnSeveral));
+    const came = await this.turn([...session.lines, ...lines], [], lines.some(isNews));
     if (this.session !== session) return;
     if (!this.failed(came)) {
       const refused = lines.map((line, at) => came.replies[session.lines.length + at] ?? '').find((reply) => !TAKEN.test(reply));
       if (refused === undefined) session.lines = session.lines.concat(lines);
       this.note = refused ?? '';
+      this.unread = UNREAD.test(this.note) ? right : null;
       if (refused === undefined) this.took(came);
     }
     this.onChange();
+  }
+
+  // Says lines by which a right program answers; it is read first where another one answers so far, or none. Whether they were taken.
+  async sayBy(right, lines) {
+    const { session } = this;
+    if (this.isBusy || this.shown === null) return false;
+    const { rights, lines: before } = session;
+    const reads = right === rightOf(session) ? [] : [lineOfNextRight(session)];
+    if (reads.length > 0) session.rights = [...rights, right];
+    await this.say([...reads, ...lines], right);
+    const isTaken = session.lines !== before;
+    if (!isTaken) session.rights = rights;
+    return isTaken;
   }
 
   // Takes back the answer of this number, with all its entries.
@@ -135,7 +154,7 @@ export class Dialog {
 
   turnOf(lines, asks, save = null) {
     const { source, input, budget, saved } = this.session;
-    return { source: source.bytes, input: input.bytes, budget, session: saved, lines, asks, save };
+    return { source: source.bytes, input: input.bytes, budget, session: saved, files: rightFiles(this.session), lines, asks, save };
   }
 
   failed(came) {
@@ -149,7 +168,7 @@ export class Dialog {
   took(came) {
     this.shown = came;
     this.cost = { time: came.time, memory: came.memory };
-    if (came.saved) this.session.calls = callsIn(came.saved);
+    if (came.saved) this.session.told = toldIn(came.saved);
     this.entries = entriesOf(this.session, came.replies, came.isRepliesOnly);
     // A variable may be called like a word for something else.
     const isChanged = ({ call, output }) => this.cards.get(call)?.left.some(({ name }) => name === output) ?? false;
@@ -157,8 +176,9 @@ export class Dialog {
     if (this.tree !== null) markBy(this.tree, this.entries);
     this.accused = this.tree === null ? -1 : accusedOf(this.tree);
     this.suspects = this.tree === null ? [] : suspectsOf(this.tree);
-    if (this.session.lines.length > 0 || this.isBegun) this.isKept = keep(this.session);
-    this.isBegun = this.session.lines.length > 0;
+    const hasAnswers = answersIn(this.session.lines).length > 0;
+    if (hasAnswers || this.isBegun) this.isKept = keep(this.session);
+    this.isBegun = hasAnswers;
     const { card } = came.report ?? {};
     if (card) this.cards.set(came.report.call, cardOf(card));
     if (came.program !== '') this.cards.set(0, cardOf(came.program));

@@ -2,7 +2,7 @@
 import { button, fold, make, plural } from './dom.js';
 import { nameOf } from './call_table.js';
 import { answerOf } from './session.js';
-import { OUTPUT_SAID, SAID_OF, sharedSaid } from './words.js';
+import { OUTPUT_SAID, REFERRED, SAID_OF, sharedSaid } from './words.js';
 
 // The entry that each session begins with: something is wrong, or nobody would ask.
 export const isGiven = (entry) => entry.number === 1 && entry.kind === 'wrong' && entry.call === 0;
@@ -50,7 +50,7 @@ function entryView(entry, others, tree, context) {
   const what = isTrust ? name : `${name}, call ${entry.call}`;
   const takeBack = { onclick: () => context.takeBack(entry.number), 'aria-label': `Take back: ${what} ${SAID_OF[entry.kind]}` };
   return make(`li${entry.standing ? '' : '.gone'}`, { value: entry.number },
-    make(`span.sign.${isTrust ? 'trusted' : entry.kind}`, { 'aria-hidden': 'true' }), about, ` ${SAID_OF[entry.kind]}`, entry.output === undefined ? null : [': ', wrongView(entry)], isGiven(entry) && entry.standing ? ', to begin with' : '',
+    make(`span.sign.${isTrust ? 'trusted' : entry.kind}`, { 'aria-hidden': 'true' }), about, ` ${SAID_OF[entry.kind]}${entry.isReferred ? REFERRED : ''}`, entry.output === undefined ? null : [': ', wrongView(entry)], isGiven(entry) && entry.standing ? ', to begin with' : '',
     entry.standing ? button('.small', takeBack, 'take back') : make('span.quiet', ' taken back'), othersView(entry, others, tree, context), noteView(entry, context));
 }
 

@@ -22,8 +22,18 @@ export async function openModule(base64) {
   return WebAssembly.compile(await new Response(stream).arrayBuffer());
 }
 
+// The names and the bytes of further files, one after the other, and how many bytes each has.
+function putFiles(files, memory, roomFor, put) {
+  const pieces = files.flatMap(({ name, bytes }) => [utf8Bytes(name), bytes]);
+  const sizes = roomFor(WORD * (pieces.length + 1));
+  new BigUint64Array(memory.buffer, Number(sizes), pieces.length).set(pieces.map(({ length }) => BigInt(length)));
+  const whole = new Uint8Array(pieces.reduce((sum, { length }) => sum + length, 0));
+  pieces.reduce((at, piece) => (whole.set(piece, at), at + piece.length), 0);
+  return [sizes, BigInt(files.length), ...put(whole)];
+}
+
 // One turn of an instance, with that much room for the screen.
-function once({ memory, room: roomAt, pasask_turn: turn }, { source, input, budget, session, text }, room) {
+function once({ memory, room: roomAt, pasask_turn: turn }, { source, input, budget, session, files = [], text }, room) {
   const roomFor = (size) => {
     const at = roomAt(BigInt(size));
     if (at === 0n) throw new RangeError('out of memory');
@@ -36,11 +46,11 @@ function once({ memory, room: roomAt, pasask_turn: turn }, { source, input, budg
   };
   const given = [source, input, utf8Bytes(budget)].flatMap(put);
   const loaded = [session === null ? 0 : 1, ...put(session ?? new Uint8Array())];
-  const noFiles = [roomFor(16), 0n, ...put(new Uint8Array())];
+  const further = putFiles(files, memory, roomFor, put);
   const lines = put(utf8Bytes(text));
   const savedRoom = SAVES.test(text) ? SESSION_ROOM : 0;
   const [screen, saved, came] = [roomFor(room), roomFor(savedRoom + 1), roomFor(8 * CAME_WORDS)];
-  turn(...given, ...loaded, ...noFiles, ...lines, screen, BigInt(room), saved, BigInt(savedRoom), came);
+  turn(...given, ...loaded, ...further, ...lines, screen, BigInt(room), saved, BigInt(savedRoom), came);
   // Views are made after the call: those from before are dead once the memory grew.
   const [status, shown, isSaved, stored] = Array.from(new BigUint64Array(memory.buffer, Number(came), CAME_WORDS), Number);
   const bytesAt = (at, size) => new Uint8Array(memory.buffer, Number(at), size).slice();

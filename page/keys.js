@@ -1,4 +1,5 @@
 // What each button and key of the page does.
+import { fileOfBytes, fileOfText } from './bytes.js';
 import { byId, later } from './dom.js';
 import { bytesOfFile, onDrop } from './files.js';
 import { helpView } from './welcome_view.js';
@@ -18,7 +19,7 @@ function keysOf(desk, answers) {
   const goTo = (pane, id) => () => { desk.showPane(pane); byId(id).focus(); };
   const answer = (word) => () => answers.answer(word);
   return {
-    r: answer('right'), w: answer('wrong'), d: answer('unknown'), t: answer('trust'), b: answer('back'), a: () => answers.switchForAll(),
+    r: answer('right'), w: answer('wrong'), d: answer('unknown'), t: answer('trust'), b: answer('back'), p: answer('refer'), a: () => answers.switchForAll(),
     '/': goTo('calls', 'query'), c: goTo('calls', 'tree'), q: goTo('question', 'middle'), s: goTo('source', 'source'), '?': () => openHelp(desk),
   };
 }
@@ -53,6 +54,21 @@ function connectFiles(programs) {
   onDrop((files) => programs.openFiles(files));
 }
 
+// A right program comes from a file or from the clipboard.
+function connectRight(answers) {
+  whenPressed(byId('openRight'), () => byId('rightFile').click());
+  whenPressed(byId('putAway'), () => answers.putRightAway());
+  whenPressed(byId('takeRight'), () => answers.takeRight('the text that you pasted', fileOfText(byId('rightText').value)));
+  byId('rightFile').addEventListener('change', async () => {
+    const [file] = byId('rightFile').files;
+    if (file === undefined) return;
+    const bytes = await bytesOfFile(file);
+    // The same file can be chosen once more, after it was mended.
+    byId('rightFile').value = '';
+    answers.takeRight(file.name, fileOfBytes(bytes));
+  });
+}
+
 export function connect(desk, { programs, answers, finder, print }) {
   const buttons = {
     open: () => byId('file').click(), load: () => byId('sessionFile').click(), save: () => programs.saveSession(), print,
@@ -71,4 +87,5 @@ export function connect(desk, { programs, answers, finder, print }) {
   const keys = keysOf(desk, answers);
   document.addEventListener('keydown', (event) => pressed(event, keys, programs));
   connectFiles(programs);
+  connectRight(answers);
 }

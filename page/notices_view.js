@@ -2,8 +2,8 @@
 import { nameOf } from './call_table.js';
 import { button, make, withCode } from './dom.js';
 import { wrongView } from './history_view.js';
-import { isShared, leavesOut, leftOutBy, sharedWith } from './session.js';
-import { SAID_OF, leftOutSaid, replySaid, sharedSaid, statusSaid } from './words.js';
+import { answersIn, isReferred, isShared, leavesOut, leftOutBy, readsRight, rightOf, sharedWith } from './session.js';
+import { REFERRED, SAID_OF, leftOutSaid, replySaid, sharedSaid, statusSaid } from './words.js';
 
 const CONTEXT_CHARACTERS = 60;
 
@@ -12,13 +12,24 @@ export function notice(kind, ...said) {
   return make(`div.notice${kind}`, { role: kind === '.bad' ? 'alert' : 'status' }, make('p', said));
 }
 
+// A line of a text, and a caret under the place.
+function placeView({ line, column }, text) {
+  const shown = text.split('\n')[line - 1] ?? '';
+  const start = Math.max(0, column - CONTEXT_CHARACTERS);
+  return make('pre', `${shown.slice(start)}\n${shown.slice(start, column).replace(/[^\t]/g, ' ')}^`);
+}
+
 // The sentence, the line, and a caret under the place.
 function refusedNotice(refusal, source, { showLine }) {
-  const line = source.text.split('\n')[refusal.line - 1] ?? '';
-  const start = Math.max(0, refusal.column - CONTEXT_CHARACTERS);
   const view = notice('.bad', make('strong', withCode(refusal.said)));
-  view.append(make('p', button('.link', { onclick: () => showLine(refusal.line) }, `Line ${refusal.line}`), ':'),
-    make('pre', `${line.slice(start)}\n${line.slice(start, refusal.column).replace(/[^\t]/g, ' ')}^`));
+  view.append(make('p', button('.link', { onclick: () => showLine(refusal.line) }, `Line ${refusal.line}`), ':'), placeView(refusal, source.text));
+  return view;
+}
+
+// The same of a text that was to be a right program.
+function rightRefusedNotice(refusal, { name, file }) {
+  const view = notice('.bad', make('strong', `This is no right program: ${name}. `), withCode(refusal.said));
+  view.append(make('p', `Line ${refusal.line}:`), placeView(refusal, file.text));
   return view;
 }
 
@@ -33,10 +44,10 @@ function problemNotice({ problem, session }, refusal, acts) {
 }
 
 function staleNotice(session, { putBack }) {
-  const isOffered = session.lines.length > 0 || session.saved !== null;
+  const hasAnswers = answersIn(session.lines).length > 0;
   const view = notice('', 'You changed the program, its input or the steps. Run it again, and questions begin anew',
-    isOffered ? '; where one reads as it did, your answer is offered again.' : '.');
-  if (session.lines.length > 0) view.append(make('p', button('', { onclick: putBack }, 'Put back what the answers are about')));
+    hasAnswers || session.saved !== null ? '; where one reads as it did, your answer is offered again.' : '.');
+  if (hasAnswers) view.append(make('p', button('', { onclick: putBack }, 'Put back what the answers are about')));
   return view;
 }
 
@@ -58,17 +69,30 @@ function sharedNotice({ session, entries, tree }, { takeBack }) {
     button('.small', { onclick: () => takeBack(number) }, 'Take this back'));
 }
 
-// `isStale`: the editor holds another text than the session.
+// What the right program said of a call, if it was asked last; or that there is one now; or null.
+function referredNotice({ session, entries, tree }, { takeBack }) {
+  const line = session.lines.at(-1) ?? '';
+  if (readsRight(line)) return notice('', make('strong', rightOf(session).name), ' can answer for you now: press \u201cAsk the right program\u201d below a question.');
+  if (tree === null || !isReferred(line)) return null;
+  const { number, call, kind } = entries.at(-1);
+  return notice('', `Call ${call} of `, make('code', nameOf(tree, call)), ` ${SAID_OF[kind]}${REFERRED}. `, button('.small', { onclick: () => takeBack(number) }, 'Take this back'));
+}
+
+// `isStale`: the editor holds another text than the session. `refusal`: where and why the program is refused, or the right program.
 export function noticesOf(dialog, isStale, refusal, acts) {
   const { problem, note, session, isBusy } = dialog;
   const notices = [];
   if (isBusy) notices.push(make('p.working', { role: 'status' }, 'Running\u2026'));
-  else if (problem !== null && !(isStale && problem.kind === 'refused')) notices.push(problemNotice(dialog, refusal, acts));
+  else if (problem !== null && !(isStale && problem.kind === 'refused')) notices.push(problemNotice(dialog, refusal.own, acts));
   if (dialog.shown !== null && dialog.shown.isRepliesOnly && session.lines.length === 0) {
     notices.push(notice('', 'These answers were given on another text of the program. Where a question reads as it did, its answer is offered.'));
   }
-  if (note !== '') notices.push(notice('', replySaid(note)));
-  if (!isBusy && dialog.shown !== null) notices.push(...[leftOutNotice(dialog, acts), sharedNotice(dialog, acts)].filter((it) => it !== null));
+  if (refusal.right !== null) notices.push(rightRefusedNotice(refusal.right, dialog.unread));
+  else if (note !== '') notices.push(notice('', replySaid(note)));
+  if (!isBusy && dialog.shown !== null) {
+    const referred = note === '' ? referredNotice(dialog, acts) : null;
+    notices.push(...[leftOutNotice(dialog, acts), sharedNotice(dialog, acts), referred].filter((it) => it !== null));
+  }
   if (isStale && dialog.shown !== null) notices.push(staleNotice(session, acts));
   if (!dialog.isKept) notices.push(notice('', 'This browser cannot keep your answers: save them before you close the page.'));
   return notices;

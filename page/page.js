@@ -28,6 +28,8 @@ const context = {
   say: (line) => answers.say(line),
   takeBack: (number) => answers.takeBack(number),
   findAlike: () => answers.findAlike(),
+  askRight: (call) => answers.askRight(call),
+  get hasRight() { return desk.right !== null && desk.dialog.knowsRefer; },
   close: () => answers.choose(-1),
   showLine: (line) => { desk.showPane('source'); desk.source.show(line); },
   lineText: (line) => desk.source.lineText(line),

@@ -7,7 +7,8 @@ import { noticesOf } from './notices_view.js';
 import { outputView } from './output_view.js';
 import { detailView, hintView, progressOf, questionView, resultView, routineOf, whereView } from './question_view.js';
 import { refusalOf } from './refusal.js';
-import { keptBefore } from './session.js';
+import { paintRight } from './right_view.js';
+import { answersIn, keptBefore } from './session.js';
 import { lineOfCall } from './trace.js';
 import { offerView, storyView, waitingView, welcomeView } from './welcome_view.js';
 import { KEPT_SAID, counted, endOf, forAllSaid } from './words.js';
@@ -49,13 +50,19 @@ export class Painter {
     const close = () => { desk.offer = null; this.paint(); };
     const showLine = (line) => { desk.showPane('source'); desk.source.focus(line); };
     byId('notices').replaceChildren(...(kept === null ? [] : [offerView(kept, { goOn: () => acts.goOn(kept), close })]),
-      ...noticesOf(desk.dialog, isStale, this.refusalShown(), { putBack: acts.putBack, takeBack: acts.takeBack, showLine }));
+      ...noticesOf(desk.dialog, isStale, { own: this.refusalShown(), right: this.rightRefused() }, { putBack: acts.putBack, takeBack: acts.takeBack, showLine }));
   }
 
   // Where and why the program of this session is refused, or null.
   refusalShown() {
     const { problem, session } = this.desk.dialog;
     return problem !== null && problem.kind === 'refused' ? refusalOf(this.desk.packed.sentences, session.source, problem.text, session.name) : null;
+  }
+
+  // Where and why what was to be a right program is refused, or null.
+  rightRefused() {
+    const { unread, note } = this.desk.dialog;
+    return unread === null ? null : refusalOf(this.desk.packed.sentences, unread.file, note.replace(/^reference /, ''), unread.name);
   }
 
   // ---- the middle
@@ -105,7 +112,7 @@ export class Painter {
     const { dialog } = this.desk;
     if (dialog.entries === this.shownEntries) return;
     this.shownEntries = dialog.entries;
-    const before = dialog.session.lines.length === 0 ? keptBefore() : null;
+    const before = answersIn(dialog.session.lines).length === 0 ? keptBefore() : null;
     byId('history').replaceChildren(historyView(dialog.entries, dialog.tree, context),
       ...(before === null ? [] : [make('p.quiet', button('.link', { onclick: () => acts.goOn(before) }, `Back to the answers on ${before.name}`))]));
   }
@@ -165,6 +172,7 @@ export class Painter {
     trust.title = `All calls of ${trusted} count as right`;
     trust.replaceChildren(make('u', 'T'), `rust ${trusted}`);
     this.paintForAll(isAsk && dialog.canShare ? dialog.others : 0);
+    paintRight(this.desk, { isShown: dialog.knowsRefer && dialog.report !== null, isOpen: !dialog.isBusy && !isStale });
   }
 
   // The box to tick where other calls were asked the same.

@@ -48,11 +48,12 @@ export class Programs {
     return newSession(name, editedFile(file, this.desk.source.text), editedFile(input, byId('input').value), byId('budget').value.trim(), saved);
   }
 
-  async run(saved = null, lines = []) {
+  async run(saved = null, { lines, rights } = { lines: [], rights: [] }) {
     const { desk } = this;
     if (desk.dialog.isBusy) return;
     const session = this.sessionOfPage(saved);
     session.lines = lines;
+    session.rights = rights;
     desk.chosen = -1;
     desk.offer = null;
     byId('query').value = '';
@@ -112,7 +113,8 @@ export class Programs {
     byId('budget').value = kept.budget;
     const file = fileOfBytes(kept.source);
     this.set(kept.name, file, fileOfBytes(kept.input), this.desk.examples.find((example) => example.source === file.text) ?? null);
-    await this.run(kept.saved, kept.lines);
+    this.desk.right = kept.rights.at(-1) ?? this.desk.right;
+    await this.run(kept.saved, kept);
   }
 
   // `context` is what cards need, see cards of questions.

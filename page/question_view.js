@@ -91,7 +91,15 @@ export function questionView(dialog, outline, context) {
     cardParts(card, context.cardContext(card.call)));
 }
 
-export const resultView = (dialog, context) => verdictView(dialog.report, dialog.cards.get(dialog.report.call), dialog.leftOut, context);
+// Who gave the answer that counts for a call.
+function judgeOf(call, entries) {
+  const last = entries.filter((entry) => entry.standing && entry.call === call).at(-1);
+  return last?.isReferred ? 'the right program' : 'you';
+}
+
+export function resultView({ report, cards, entries, leftOut }, context) {
+  return verdictView(report, { card: cards.get(report.call), judge: judgeOf(report.call, entries) }, leftOut, context);
+}
 
 // A call that was chosen in the tree.
 export function detailView(call, dialog, outline, context) {
@@ -105,6 +113,7 @@ export function detailView(call, dialog, outline, context) {
     commentView(routineOf(dialog, outline, call)),
     cardParts(card, context.cardContext(call)),
     make('section.part', make('h3', 'What its body did'), trace === undefined ? make('p.quiet', '\u2026') : traceView(trace, context)),
-    make('section.part', make('h3', 'Judge this call'), make('div.answerRow', answer('right', 'Right'), answer('wrong', 'Wrong'), answer('unknown', 'Don\u2019t know'))));
+    make('section.part', make('h3', 'Judge this call'), make('div.answerRow', answer('right', 'Right'), answer('wrong', 'Wrong'), answer('unknown', 'Don\u2019t know'),
+      context.hasRight ? button('.small', { onclick: () => context.askRight(call) }, 'Ask the right program') : null)));
 }
 

@@ -4,7 +4,7 @@ import { make } from './dom.js';
 import { nameOf } from './call_table.js';
 import { wrongView } from './history_view.js';
 import { answerOf, leftOutBy, sharedWith } from './session.js';
-import { SAID_OF, leftOutSaid, sharedSaid } from './words.js';
+import { REFERRED, SAID_OF, leftOutSaid, sharedSaid } from './words.js';
 import { verdictView } from './verdict_view.js';
 
 const MOST_CARDS = 200;
@@ -37,7 +37,7 @@ function entryView(entry, dialog, context) {
   const isTrust = entry.kind === 'trust';
   const name = isTrust ? dialog.tree.names[entry.routine] : nameOf(dialog.tree, entry.call);
   const card = isTrust ? undefined : dialog.cards.get(entry.call);
-  return make('section.entry', make('h3', `${entry.number}. `, make('code', name), isTrust ? '' : `, call ${entry.call},`, ` ${SAID_OF[entry.kind]}`, entry.output === undefined ? null : [': ', wrongView(entry)], sharedView(entry, dialog)),
+  return make('section.entry', make('h3', `${entry.number}. `, make('code', name), isTrust ? '' : `, call ${entry.call},`, ` ${SAID_OF[entry.kind]}${entry.isReferred ? REFERRED : ''}`, entry.output === undefined ? null : [': ', wrongView(entry)], sharedView(entry, dialog)),
     entry.output === undefined ? null : leftOutView(entry, dialog),
     entry.note === undefined ? null : make('p.noted', entry.note),
     card === undefined ? null : cardParts(card, context.cardContext(entry.call)));
@@ -48,7 +48,7 @@ export function reportView(dialog, context) {
   return [make('h1', `${session.name}: a session with pasask`),
     make('p', new Date().toLocaleDateString('en', { dateStyle: 'long' })),
     make('h2', 'The answers'), answersIn(dialog).map((entry) => entryView(entry, dialog, context)),
-    dialog.report.kind === 'ask' ? make('p', 'Not all questions are answered yet.') : [make('h2', 'The verdict'), verdictView(dialog.report, undefined, dialog.leftOut, context)],
+    dialog.report.kind === 'ask' ? make('p', 'Not all questions are answered yet.') : [make('h2', 'The verdict'), verdictView(dialog.report, {}, dialog.leftOut, context)],
     make('h2', 'The program'), listing(session.source.text),
     session.input.text === '' ? null : [make('h2', 'Its input'), make('pre', session.input.text)]];
 }

@@ -130,12 +130,14 @@ export class TreeView {
     make('span.number', String(call)));
   }
 
+  // Where a row was made anew between press and release, the click is on what is around it.
   clicked(event) {
-    const row = event.target.closest('.row');
+    const it = event.target.closest('.row') === null ? document.elementFromPoint(event.clientX, event.clientY) : event.target;
+    const row = it?.closest('.row') ?? null;
     if (row === null) return;
     const call = Number(row.dataset.call);
     this.cursor = this.rows.indexOf(call);
-    if (event.target.closest('.twist') !== null && this.tree.last[call] > call) this.setOpen(call, this.open[call] === 0);
+    if (it.closest('.twist') !== null && this.tree.last[call] > call) this.setOpen(call, this.open[call] === 0);
     else this.onChoose(call);
   }
 

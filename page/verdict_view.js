@@ -15,7 +15,7 @@ function callsSaid({ trace }, leftOut) {
   return trace.calls.some((call) => leftOut.has(call)) ? 'although each call that it made is right, or had no part in what was wrong' : 'although each call that it made is right';
 }
 
-function foundView(report, card, leftOut, context) {
+function foundView(report, { card, judge }, leftOut, context) {
   return make('article.card.verdict', { id: 'verdict', 'data-name': report.name },
     make('p.eyebrow', 'Found'),
     make('h2', { tabindex: -1 }, 'The mistake is in the body of ', make('code', report.name)),
@@ -23,7 +23,7 @@ function foundView(report, card, leftOut, context) {
       + `So look at these lines of ${report.name}, one by one: which of them did the wrong thing, or which one is missing? `
       + 'Then mend the program, and run it again.'),
     traceView(report.trace, context), printed(report),
-    card === undefined ? null : make('section.part.judged', make('h3', `Call ${report.call}, as you judged it`), cardParts(card, { ...context.cardContext(report.call), sayWrong: null })));
+    card === undefined ? null : make('section.part.judged', make('h3', `Call ${report.call}, as ${judge} judged it`), cardParts(card, { ...context.cardContext(report.call), sayWrong: null })));
 }
 
 const SAID = {
@@ -41,9 +41,9 @@ const SAID = {
   }),
 };
 
-// `card` is that of the call that was found, and `leftOut` the calls that were left out.
-export function verdictView(report, card, leftOut, context) {
-  if (report.kind === 'found') return foundView(report, card, leftOut, context);
+// `judged` has the `card` of the call that was found and who was its `judge`, and `leftOut` the calls that were left out.
+export function verdictView(report, judged, leftOut, context) {
+  if (report.kind === 'found') return foundView(report, judged, leftOut, context);
   const { title, text } = SAID[report.kind](report);
   return make(`article.card.verdict${report.kind === 'nothing' ? '.calm' : ''}`, { id: 'verdict', 'data-name': report.name ?? '' },
     make('p.eyebrow', report.kind === 'narrowed' ? 'Narrowed down' : 'The end'),

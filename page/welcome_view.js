@@ -1,5 +1,6 @@
 // What the page shows before a program runs.
 import { button, make, plural, withCode } from './dom.js';
+import { answersIn } from './session.js';
 
 // The first example is the way in; a program of one's own comes after it.
 export function welcomeView(examples, { open, pick }) {
@@ -26,13 +27,13 @@ export function storyView(example, isOpen) {
 
 // The offer of the last session, whose answers the browser kept.
 export function offerView(kept, { goOn, close }) {
-  return make('div.notice', { role: 'status' }, make('p', `Your answers on ${kept.name} are still here: ${plural(kept.lines.length, 'answer')}.`),
+  return make('div.notice', { role: 'status' }, make('p', `Your answers on ${kept.name} are still here: ${plural(answersIn(kept.lines).length, 'answer')}.`),
     make('p', button('.main', { onclick: goOn }, 'Go on with them'), ' ', button('', { onclick: close }, 'Not now')));
 }
 
 const KEYS = [
   ['R', 'right: the call did what it should'], ['W', 'wrong: it did not'], ['D', 'don\u2019t know: ask about others'], ['T', 'trust this routine: all its calls are right'],
-  ['A', 'the answer is for all calls that were asked the same'], ['B', 'take back the last answer'], ['/', 'find a call'], ['C', 'go to the calls; arrows move, Enter opens'], ['Q', 'go to the question'], ['S', 'go to the program; Escape leaves it'],
+  ['A', 'the answer is for all calls that were asked the same'], ['P', 'ask the right program, or choose one'], ['B', 'take back the last answer'], ['/', 'find a call'], ['C', 'go to the calls; arrows move, Enter opens'], ['Q', 'go to the question'], ['S', 'go to the program; Escape leaves it'],
   ['Ctrl+Enter', 'run the program'],
 ];
 
@@ -53,6 +54,8 @@ export function helpView(isProved, close) {
     make('p', 'Of all that a call left, you may see that one value is wrong. Press \u201cwrong\u201d beside it: the call counts as wrong, and the calls below it that had no part in that value are left out, so that less is asked. '
       + 'Press it only beside what is there and wrong. Where something is missing, press Wrong below the card: the call that forgot it had no part in what is there, and would be left out.'),
     make('p', 'Where a routine was called several times on the same values, the question says so. Tick the box beside the answers, and your answer is for all these calls.'),
+    make('p', 'If you have a program that does it right, choose it below the answers. It is then asked about a call by one press: its routine of the same name is run on what this call was given and found, '
+      + 'and the call is right if it did the same. Where it has no such routine, or the call worked on something that only this program has, it says so, and you judge the call yourself. Whether that program is right, nobody checks.'),
     make('h3', 'Keys'),
     make('table.keys', make('tbody', KEYS.map(([key, said]) => make('tr', make('th', { scope: 'row' }, make('kbd', key)), make('td', said))))),
     trustedView(isProved),

@@ -76,7 +76,10 @@ export const forAllSaid = (count) => (count === 1 ? 'Also for the other call tha
 export const sharedSaid = (count) => (count === 1 ? 'also for 1 other call that was asked the same' : `also for ${counted(count)} other calls that were asked the same`);
 
 export const KEPT_SAID = { right: 'Right', wrong: 'Wrong', unknown: 'Don\u2019t know' };
-export const SAID_OF = { right: 'is right', wrong: 'is wrong', unknown: 'could not be judged', trust: 'is trusted' };
+export const SAID_OF = { right: 'is right', wrong: 'is wrong', unknown: 'could not be judged', trust: 'is trusted', judged: 'is judged' };
+
+// What follows that where the right program said it.
+export const REFERRED = ', says the right program';
 
 // The buttons and keys of answers.
 export const ANSWER_OF = { right: { word: 'Right', key: 'R' }, wrong: { word: 'Wrong', key: 'W' } };
@@ -122,6 +125,10 @@ export function statusSaid(status, screen) {
 }
 
 const REPLIES = [
+  [/^no reference for call/, 'The right program cannot answer for this call: it has no routine of this name with these parameters in its outermost block, or the call did not keep to variables that both programs have. Judge it yourself.'],
+  [/^reference gave no answer/, 'The right program did not come to an end here: it ran out of steps, or its calls were nested too deep. Judge this call yourself.'],
+  [/^not fetched/, 'This text is too long: a right program may have 1,048,576 bytes.'],
+  [/^reference refused/, 'This is no program that can be run.'],
   [/^no question/, 'No call is asked about any more.'],
   [/^no call/, 'There is no such call.'],
   [/^no cell/, 'There is no variable of this name, neither before the call nor after it. Names are written as the card has them.'],

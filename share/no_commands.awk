@@ -5,10 +5,10 @@
 
 $0 == "" { next }
 
-/^(right|wrong|unknown|back)( [0-9]+)?$/ { found = 1; exit }
+/^(right|wrong|unknown|back|refer)( [0-9]+)?$/ { found = 1; exit }
 /^shared (right|wrong|unknown)( [0-9]+)?$/ { found = 1; exit }
 /^(show|trace|alike|shared back) [0-9]+$/ { found = 1; exit }
-/^(trust|save) [^ ]+$/ { found = 1; exit }
+/^(trust|save|reference) [^ ]+$/ { found = 1; exit }
 /^(same|tree|quit)$/ { found = 1; exit }
 /^(note|slice|state) [0-9]+ / { found = 1; exit }
 /^carry [0-9]+ [0-9]+$/ { found = 1; exit }

@@ -5,7 +5,7 @@ import { alikeKnown } from '../alike_view.js';
 import { fileOfText, utf8Bytes } from '../bytes.js';
 import { isAlone, markBy, suspectsOf, treeOf } from '../call_table.js';
 import { Dialog } from '../dialog.js';
-import { answerOf, callsIn, entriesOf, isOnSeveral, lastOnSeveral, linesBack, newSession, sharedWith } from '../session.js';
+import { answerOf, entriesOf, isOnSeveral, lastOnSeveral, linesBack, newSession, sharedWith, toldIn } from '../session.js';
 import { consoleOf, digest } from '../transcript.js';
 import { forAllSaid, judgedSaid, othersSaid, sharedSaid } from '../words.js';
 
@@ -14,7 +14,7 @@ globalThis.localStorage = { getItem: () => null, setItem() {}, removeItem() {} }
 // Calls 1, 2 and 4 of `a` are asked the same, 3 is not; `b` is called once.
 const TREE = '0 z #0 wrong\n1 in 0 a #1 unjudged\n2 in 0 a #1 unjudged\n3 in 0 a #1 unjudged\n4 in 0 a #1 unjudged\n5 in 0 b #2 unjudged\n';
 const savedWith = (...calls) => utf8Bytes(JSON.stringify({ entries: [0, ...calls].map((call) => ({ call, kind: 'right', standing: true })) }));
-const session = (calls, ...lines) => ({ ...newSession('z.pas', fileOfText(''), fileOfText('')), lines, calls: callsIn(savedWith(...calls)) });
+const session = (calls, ...lines) => ({ ...newSession('z.pas', fileOfText(''), fileOfText('')), lines, told: toldIn(savedWith(...calls)) });
 const shown = (entries) => entries.slice(1).map(({ number, kind, call, sharedWith: own, standing }) => [number, kind, call, own, standing]);
 
 test('what the command says of them', () => {
@@ -85,7 +85,7 @@ function played(knows, alike = ALIKE) {
 
 async function begun(knows, alike, ...lines) {
   const it = played(knows, alike);
-  await it.dialog.run({ ...session([], ...lines), calls: [] });
+  await it.dialog.run({ ...session([], ...lines), told: [] });
   return it;
 }
 

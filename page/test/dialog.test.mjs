@@ -54,9 +54,9 @@ const session = () => newSession('change.pas', fileOfText('program change; ..'),
 test('a run asks for the tree at once, and an answer for nothing besides', async () => {
   const { dialog, engine, turns } = played();
   await dialog.run(session());
-  assert.deepEqual(turns[0].asks.map((ask) => ask.kind), ['tree', 'state', 'carry', 'slice', 'alike']);
+  assert.deepEqual(turns[0].asks.map((ask) => ask.kind), ['tree', 'state', 'carry', 'slice', 'alike', 'refer']);
   assert.equal(dialog.questionCall, 1);
-  assert.deepEqual([dialog.knowsState, dialog.knowsCarry, dialog.knowsSlice, dialog.knowsAlike], [false, false, false, false]);
+  assert.deepEqual([dialog.knowsState, dialog.knowsCarry, dialog.knowsSlice, dialog.knowsAlike, dialog.knowsRefer], [false, false, false, false, false]);
   dialog.thinkAhead();
   assert.deepEqual(engine.ahead, ['right 1', 'wrong 1']);
   await dialog.say('wrong 1');

@@ -66,6 +66,23 @@ test('each turn finds what the first one found, in the same instance', () => {
   assert.equal(made, 1);
 });
 
+test('further files go in one after the other, with the sizes of their names and of themselves', () => {
+  const instances = opened();
+  let given = null;
+  const { exports } = instances;
+  const turn = exports.pasask_turn;
+  exports.pasask_turn = (...words) => {
+    const numbers = (at, count) => Array.from(new BigUint64Array(exports.memory.buffer, Number(at), count), Number);
+    const [sizes, count, files, length] = words.slice(9);
+    given = [numbers(sizes, 2 * Number(count)), new TextDecoder().decode(new Uint8Array(exports.memory.buffer, Number(files), Number(length)))];
+    turn(...words);
+  };
+  instances.turn(asked('none'));
+  assert.deepEqual(given, [[], '']);
+  instances.turn({ ...asked('two'), files: [{ name: 'a.pas', bytes: utf8Bytes('begin') }, { name: '\u00e9', bytes: utf8Bytes('') }] });
+  assert.deepEqual(given, [[5, 5, 2, 0], 'a.pasbegin\u00e9']);
+});
+
 test('where there was no memory for an instance, the turn tries again, and tells', () => {
   globalThis.WebAssembly = { Instance: class { constructor() { throw new RangeError('no memory'); } } };
   const instances = opened();

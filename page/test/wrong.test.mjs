@@ -6,7 +6,7 @@ import { markBy, suspectsOf, treeOf } from '../call_table.js';
 import { cardOf, wordsOf } from '../card.js';
 import { offerOf } from '../compare.js';
 import { Dialog } from '../dialog.js';
-import { callsIn, entriesOf, lastOnSeveral, leftOutBy, linesBack, newSession } from '../session.js';
+import { entriesOf, lastOnSeveral, leftOutBy, linesBack, newSession, toldIn } from '../session.js';
 import { digest } from '../transcript.js';
 import { leftOutSaid, replySaid } from '../words.js';
 
@@ -43,7 +43,7 @@ test('variables made by new are told from those that were there', () => {
 const TREE = '0 g #0 wrong\n1 in 0 m #4 unjudged\n2 in 1 a #1 unjudged\n3 in 1 b #2 unjudged\n4 in 1 c #3 unjudged\n';
 const SAVED = utf8Bytes('{"entries":[{"call":0,"kind":"wrong","standing":true},{"call":1,"kind":"wrong","standing":true},{"call":3,"kind":"right","standing":true},{"kind":"trust","routine":1,"standing":true}]}');
 
-const session = (...lines) => ({ ...newSession('g.pas', fileOfText(''), fileOfText('')), lines, calls: callsIn(SAVED) });
+const session = (...lines) => ({ ...newSession('g.pas', fileOfText(''), fileOfText('')), lines, told: toldIn(SAVED) });
 const ENTRIES = ['entries 2 to 3', 'entry 4'];
 const LINES = ['slice 1 x', 'trust #1'];
 
@@ -57,12 +57,12 @@ test('an answer has an entry, and each call that it left out another one', () =>
 });
 
 test('where the calls are not known, the entries are there all the same', () => {
-  const entries = entriesOf({ ...session(...LINES), calls: [] }, ENTRIES);
+  const entries = entriesOf({ ...session(...LINES), told: [] }, ENTRIES);
   assert.deepEqual(entries.map(({ number, call }) => [number, call]), [[1, 0], [2, 1], [3, undefined], [4, undefined]]);
   const tree = treeOf(utf8Bytes(TREE));
   markBy(tree, entries);
   assert.deepEqual([...tree.mark], [2, 2, 4, 0, 0]);
-  assert.deepEqual([callsIn(utf8Bytes('no json')), callsIn(SAVED)], [[undefined], [undefined, 0, 1, 3, undefined]]);
+  assert.deepEqual([toldIn(utf8Bytes('no json')), toldIn(SAVED)], [[{}], [{}, ...[0, 1, 3].map((call) => ({ kind: call === 3 ? 'right' : 'wrong', call })), { kind: 'trust', call: undefined }]]);
 });
 
 test('it is taken back with what it left out, and that alone as well', () => {
@@ -110,7 +110,7 @@ function played(knows) {
 
 const begun = async (knows, ...lines) => {
   const it = played(knows);
-  await it.dialog.run({ ...session(...lines), calls: [] });
+  await it.dialog.run({ ...session(...lines), told: [] });
   return it;
 };
 

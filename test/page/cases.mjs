@@ -4,8 +4,8 @@ import { readFileSync } from 'node:fs';
 import { join } from 'node:path';
 
 const ESCAPES = { n: '\n', r: '\r', t: '\t', '.': '' };
-// What the consoles of sources and runs say.
-const LINES = 'tree\ntrace 0\nwrong 1\nunknown\nright\nback\nslice 1 result\nslice 1 gives\nslice 1 takes\nslice 1 makes\nslice 1 way\nslice 0 gives\nalike 1\nshared unknown\nshared right 1\nshared back 1\nquit\n';
+// What the consoles of sources and runs say. The source is its own right program.
+const LINES = 'tree\ntrace 0\nwrong 1\nunknown\nright\nback\nslice 1 result\nslice 1 gives\nslice 1 takes\nslice 1 makes\nslice 1 way\nslice 0 gives\nalike 1\nshared unknown\nshared right 1\nshared back 1\nreference program.pas\nrefer 1\nrefer\nquit\n';
 
 // Bytes are held as text of one character each, as the files are read.
 const bytesOf = (text) => Buffer.from(text, 'latin1');

@@ -113,6 +113,35 @@ begin fill; take; make; tell; work := n; a[3] := n div a[3] end;
 begin a[3] := 0; n := work end.
 `;
 
+// A hand-in, whose `a` should add 2, and which sorts a list of its own; a right program has both routines that count.
+const HAND_IN = `program p;
+type link = ^item; item = record next: link end;
+var x: integer; l: link;
+procedure a;
+begin x := x + 1 end;
+procedure b;
+begin a; a end;
+procedure list;
+begin new(l); l^.next := nil end;
+begin x := 1; b; list end.
+`;
+
+const RIGHT = `program r;
+var x: integer;
+procedure a;
+begin x := x + 2 end;
+procedure b;
+begin x := x + 4 end;
+begin end.
+`;
+
+const NO_PROGRAM = `program r;
+var x: integer;
+procedure a;
+begin x := true end;
+begin end.
+`;
+
 const FILLING = `program filling(output);
 var a: array [1..60000] of integer;
 procedure fill;
@@ -480,7 +509,7 @@ export const TESTS = {
     await t.page.until('document.querySelector("#question .alike li")?.checkVisibility()');
     t.equal('it names the call', await seen(t, '#question .alike li'), ['a call 2']);
     await t.page.click('#forAll');
-    t.equal('each answer says for how many', await t.page.value('[...document.querySelectorAll("#answers [data-say]")].map((it) => it.getAttribute("aria-label"))'),
+    t.equal('each answer says for how many', await t.page.value('[...document.querySelectorAll("#answers [data-say]:not([hidden])")].map((it) => it.getAttribute("aria-label"))'),
       ['Right, for all 2 calls', 'Wrong, for all 2 calls', 'Don\u2019t know, for all 2 calls', 'Trust a']);
     t.equal('and what was opened stays open', await seen(t, '#question .alike li'), ['a call 2']);
     await t.picture('9-alike-ticked');
@@ -564,6 +593,120 @@ export const TESTS = {
     await t.page.click('.notice button.small');
     await calm(t, 2);
     t.equal('which the notice takes back', [await signs(), await box()], [['\u2717', '\u00b7', '\u00b7', '\u00b7'], [false, 'Also for the other call that was asked the same']]);
+  },
+
+  async 'a right program'(t) {
+    const ask = () => t.page.value('(() => { const it = document.querySelector("#answers [data-say=refer]"); return it.checkVisibility() ? it.getAttribute("aria-disabled") : null; })()');
+    const name = () => t.page.value('document.querySelector("#rightName").textContent');
+    const answers = () => seen(t, '.history > li');
+    const opens = () => t.page.value('document.querySelector("#rightBox").open');
+    const focused = () => t.page.value('document.activeElement.id || document.activeElement.dataset.say || document.activeElement.tagName');
+    await t.fresh();
+    t.equal('before a program runs there is none to choose', await t.page.value('document.querySelector("#rightBox").checkVisibility()'), false);
+    await ran(t, 'pupil.pas', HAND_IN);
+    t.equal('then it can be chosen, and is not asked before', [await asked(t), await opens(), await ask(), await name()], ['b', false, null, '']);
+    await t.page.press('p');
+    t.equal('a key goes there', [await opens(), await focused()], [true, 'openRight']);
+    await t.picture('9-right-none');
+    await accessible(t, 'no right program yet');
+
+    await t.page.choose('#rightFile', 'wrong.pas', NO_PROGRAM);
+    await t.page.until(`${isCalm} && document.querySelector(".notice.bad") !== null`);
+    t.holds('what is no program is refused in words, with its place', /^This is no right program: wrong\.pas\. .*Line 4: ?begin x := true end; ?\^$/.test((await seen(t, '.notice.bad'))[0] ?? ''));
+    t.equal('and does not answer', [await name(), await ask()], ['', null]);
+    await t.picture('9-right-refused');
+    await accessible(t, 'a right program that is refused');
+    await t.page.choose('#rightFile', 'long.pas', ' '.repeat(1_048_577));
+    await t.page.until(`${isCalm} && /too long/.test(document.querySelector("#notices").textContent)`);
+    t.equal('nor one that is too long', [await name(), await t.page.value('document.body.dataset.turns')], ['', '0']);
+
+    await t.page.choose('#rightFile', 'right.pas', RIGHT);
+    await calm(t, 1);
+    t.equal('a right one can be asked', [await name(), await ask(), await opens(), await seen(t, '.notice')],
+      ['right.pas', 'false', false, ['right.pas can answer for you now: press \u201cAsk the right program\u201d below a question.']]);
+    t.equal('the question is the same, and there is no answer yet', [await asked(t), (await answers()).length, await focused()], ['b', 1, 'SUMMARY']);
+    await t.picture('9-right');
+    await accessible(t, 'a right program');
+    await t.page.click(button('refer'));
+    await calm(t, 2);
+    t.equal('it judges the call', await seen(t, '.notice'), ['Call 1 of b is wrong, says the right program. Take this back']);
+    t.holds('which stands among the answers', /^b call 1 is wrong, says the right program ?take back/.test((await answers())[1]));
+    t.equal('and the next question is there', await asked(t), 'a');
+    const { bytes } = await t.download('#save');
+    t.equal('its answer is saved like one of yours', JSON.parse(bytes).entries.map((it) => `${it.kind} ${it.call}`), ['wrong 0', 'wrong 1']);
+    await t.page.click(button('refer'));
+    await calm(t, 3);
+    t.equal('it is asked once more', [await verdict(t), (await seen(t, '.notice'))[0]], ['a', 'Call 2 of a is wrong, says the right program. Take this back']);
+    t.holds('the keys go on from the verdict', await t.page.value('document.activeElement.matches("#card h2")'));
+    t.equal('which says who judged', (await seen(t, '#verdict .judged h3'))[0], 'Call 2, as the right program judged it');
+    const raw = await t.page.value('document.querySelector("#raw").textContent');
+    const native = await t.native({ source: HAND_IN, files: { 'right-1.pas': RIGHT }, console: 'reference right-1.pas\nrefer 1\nrefer 2\nsave page.session\nquit\n' });
+    if (native !== null) t.holds('as the native program prints it', raw === native.screen.toString('latin1').replace(/saved .*\n$/, ''));
+    await t.picture('9-right-verdict');
+    await accessible(t, 'a verdict by a right program');
+
+    await t.reload();
+    t.holds('it is offered to go on, with the answers alone counted', /2 answers/.test(await notices(t)));
+    await t.page.click('#notices button.main');
+    await calm(t, 3);
+    t.equal('after a reload as before', [await verdict(t), await name(), (await answers()).filter((it) => /says the right program/.test(it)).length], ['a', 'right.pas', 2]);
+    await t.page.press('b');
+    await calm(t, 4);
+    await t.page.press('b');
+    await calm(t, 5);
+    t.equal('both are taken back', [await asked(t), await t.page.value('document.querySelectorAll(".history > li.gone").length')], ['b', 2]);
+    await t.page.press('p');
+    await calm(t, 6);
+    t.equal('a key asks it, too', [await asked(t), (await seen(t, '.notice'))[0]], ['a', 'Call 1 of b is wrong, says the right program. Take this back']);
+    await t.page.click('.notice button.small');
+    await calm(t, 7);
+    await t.page.value('document.querySelector("#tree").focus()');
+    await t.page.click('#tree .row[data-call="4"]');
+    await t.page.until('document.querySelector("#detail .answerRow") !== null');
+    await t.page.click('#detail .answerRow button:last-child');
+    await t.page.until(`${isCalm} && /Judge it yourself/.test(document.querySelector("#notices").textContent)`);
+    t.equal('where it has no such routine it says so, and nothing is answered', [await t.page.value('document.body.dataset.turns'), await asked(t)], ['7', 'b']);
+    await t.picture('9-right-unfit');
+
+    await ran(t, 'other.pas', HAND_IN.replace('x + 1', 'x + 2'));
+    t.equal('it stays for the next program', [await asked(t), await name(), await ask(), (await answers()).length], ['b', 'right.pas', 'false', 1]);
+    await t.page.press('q');
+    await tabTo(t, '#answers [data-say="refer"]');
+    await t.page.press('Enter');
+    await calm(t, 2);
+    t.equal('and judges that, by keys alone', [(await seen(t, '.notice'))[0], await asked(t)], ['Call 1 of b is right, says the right program. Take this back', 'list']);
+    await tabTo(t, '#rightBox summary');
+    await t.page.press('Enter');
+    await tabTo(t, '#rightText');
+    await t.page.value(`(() => { const field = document.querySelector('#rightText'); field.value = ${JSON.stringify(RIGHT.replace('x + 4', 'x + 5'))}; })()`);
+    await tabTo(t, '#takeRight');
+    await t.page.press('Enter');
+    await calm(t, 3);
+    t.equal('a text that is pasted takes its place', await name(), 'the text that you pasted');
+    await t.page.click('#tree .row[data-call="1"]');
+    await t.page.until('document.querySelector("#detail .answerRow") !== null');
+    await t.page.click('#detail .answerRow button:last-child');
+    await calm(t, 4);
+    t.equal('and says something else of the same call', [(await seen(t, '.notice'))[0], await asked(t)], ['Call 1 of b is wrong, says the right program. Take this back', 'a']);
+    await t.page.value('window.print = () => { window.printed = true; }');
+    await t.page.click('#print');
+    await t.page.until('window.printed === true');
+    t.equal('on paper it is said, too', await t.page.value('[...document.querySelectorAll("#report .entry > h3")].map((it) => it.textContent)'),
+      ['1. p, call 0, is wrong', '2. b, call 1, is right, says the right program', '3. b, call 1, is wrong, says the right program']);
+    await t.page.value('(() => { const field = document.querySelector("#source"); field.value += "{ }"; field.dispatchEvent(new Event("input", { bubbles: true })); })()');
+    await t.page.until('document.querySelector("#openRight").getAttribute("aria-disabled") === "true"');
+    await t.page.choose('#rightFile', 'right.pas', RIGHT);
+    await t.page.until('/Run the program again first/.test(document.querySelector("#notices").textContent)');
+    t.equal('beside a program that was edited it waits', [await name(), await ask()], ['the text that you pasted', 'true']);
+    await t.page.click('.notice button:not(.small)');
+    await t.page.until('document.querySelector("#openRight").getAttribute("aria-disabled") === "false"');
+    await t.page.click('#rightBox summary');
+    await t.page.click('#putAway');
+    t.equal('it is put away', [await name(), await ask(), await focused()], ['', null, 'openRight']);
+    await t.page.resize(PHONE);
+    await t.picture('9-right-phone');
+    await accessible(t, 'a right program on a phone');
+    await t.page.resize(DESK);
   },
 
   async 'one wrong value'(t) {
@@ -867,6 +1010,12 @@ export const TESTS = {
     t.equal('the lines of its body', await t.page.text('#detail .trace li code'), ['begin square := n * n + n div 3 end;']);
     await t.picture('12-tree');
     await accessible(t, 'a chosen call');
+    // So it comes where the row was made anew between press and release.
+    await t.page.value(`(() => {
+      const row = document.querySelector('#tree .row[data-call="4"]'), { left, top } = row.getBoundingClientRect();
+      row.parentElement.dispatchEvent(new MouseEvent('click', { bubbles: true, clientX: left + 80, clientY: top + 8 }));
+    })()`);
+    await t.page.until('document.querySelector("#detail article")?.dataset.call === "4"');
     await t.page.click('#detail button.wrong');
     await calm(t, 1);
     t.equal('an answer from the tree', await verdict(t), 'square');

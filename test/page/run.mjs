@@ -126,12 +126,14 @@ class Test {
     return this.page.value('window.given');
   }
 
-  // What the native program shows and saves for a source and lines of the console, or null where there is none.
-  async native({ source, console: lines }) {
+  // What the native program shows and saves for a source, further files by their names and lines of the console, or null where there
+  // is none.
+  async native({ source, files = {}, console: lines }) {
     if (this.program === undefined) return null;
     const place = mkdtempSync(join(tmpdir(), 'page-native-'));
     writeFileSync(join(place, 'program.pas'), source);
     writeFileSync(join(place, 'program.input'), '');
+    for (const [name, bytes] of Object.entries(files)) writeFileSync(join(place, name), bytes);
     const { stdout } = spawnSync(this.program, ['program.pas', '--input', 'program.input', '--budget=1000000'], { cwd: place, input: lines, maxBuffer: 1 << 28 });
     const saved = join(place, 'page.session');
     const came = { screen: stdout, saved: existsSync(saved) ? readFileSync(saved) : null };

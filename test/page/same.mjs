@@ -7,8 +7,8 @@
 // With N only each N-th of the cases, by their order in the index, and all the large and deep ones.
 //
 // A worker for each processor takes one case after the other: it runs the native program, and the module as the page does, in an
-// instance that begins each turn as it began the first. Cases with further files, or with lines that no page sends, get an instance
-// of their own. The module is compiled once. The large ones, which take gigabytes, are left to one worker.
+// instance that begins each turn as it began the first. Cases with lines that no page sends get an instance of their own. The module
+// is compiled once. The large ones, which take gigabytes, are left to one worker.
 import { spawnSync } from 'node:child_process';
 import { existsSync, mkdtempSync, readFileSync, rmSync, writeFileSync } from 'node:fs';
 import { availableParallelism, tmpdir } from 'node:os';
@@ -25,7 +25,7 @@ const DATA = fileURLToPath(new URL('../../crates/worked_cases/data', import.meta
 const MOST_AT_ONCE = 8, SAVED = 'page.session';
 // An instance that took more serves no further case.
 const MOST_KEPT = 1 << 29;
-const LARGE_LINES = 'tree\nwrong 1\nback\ntrace 0\nslice 1 way\nslice 0 gives\nalike 1\nshared right 1\nshared back 1\nsave page.session\nquit\n';
+const LARGE_LINES = 'tree\nwrong 1\nback\ntrace 0\nslice 1 way\nslice 0 gives\nalike 1\nshared right 1\nshared back 1\nreference program.pas\nrefer 1\nsave page.session\nquit\n';
 
 // The native program with the case's files, under the names that the module has for them.
 function native(program, given) {
@@ -62,9 +62,10 @@ function textOf(lines) {
 function inModule(module, given) {
   try {
     const text = textOf(given.console);
-    if (text === null || Object.keys(given.files).length > 0) return turn(module, given);
+    if (text === null) return turn(module, given);
     instances ??= new Instances(module);
-    const came = instances.turn({ ...given, text, isLong: false, printed: 0 });
+    const files = Object.entries(given.files).map(([name, bytes]) => ({ name, bytes }));
+    const came = instances.turn({ ...given, files, text, isLong: false, printed: 0 });
     if (came.memory > MOST_KEPT) instances = null;
     return came;
   } catch (error) {

@@ -2,6 +2,7 @@
 use Rattle.std.proofs.Common.{if◌then◌else◌, ◌++◌, ◌+◌, ◌-◌, ◌==◌, ◌∙◌, ◌∷◌, ◌≡◌, ◌⊎◌, [], ℕ, Bool, Err, List, None, Ok, Option, Result, Some, ap, false, fold}
 use Rattle.std.proofs.Common.{inl, inr, length, nat_le, nat_lt, option_map, refl, slice_get, slice_set, subst, suc, sym, true, zero}
 use Rattle.std.specs.List.{filter_map}
+use Rattle.core_program.specs.ProgramRows.{ProgramRows}
 use Rattle.answer_book.specs.Answers.{judge_answer, take_back_answer, take_back_last_answer, trust_answer}
 use Rattle.answer_book.specs.Entries.{entries_with, entries_without, entry_at, is_standing, is_standing_entry, said_by, standing_answers, with_taken_back}
 use Rattle.answer_book.specs.declared.entries.{BookFault.BookFault, Entry.Entry, Judgement.Judgement}
@@ -14,18 +15,20 @@ use Rattle.optimal_query.specs.Accepted.{CommandAct, Made, acts_giving, and_then
 use Rattle.optimal_query.specs.Standing.{Command, Judge, TakeBack, TakeBackLast, Trust, after_command, if_accepted, search_taken_back}
 use Rattle.optimal_query.specs.declared.state.SearchState.TheVariants.{Ask, Found, Narrowed, NothingWrong, Unclear}
 use Rattle.answer_reuse.specs.{Classes.class_of, Shared.judged_each, Shared.standing_alike}
-use Rattle.dialog_replies.specs.{Instructions.instruction_of, Said.KeptReplies, Said.Said, Said.kept_on}
+use Rattle.dialog_replies.specs.{Instructions.instruction_of, Replies.trust_outcome, Replies.trusts_named, Replies.with_classes, Said.Held, Said.KeptReplies}
+use Rattle.dialog_replies.specs.{Said.Said, Said.kept_on, Slices.all_answer, Slices.entries_with_all, Slices.slice_answers}
 use Rattle.dialog_replies.specs.Replies.{LineOutcome, adds, adds_all, alike_text, command_outcome, if_compared, is_made, judges_as_kept, judges_asked}
-use Rattle.dialog_replies.specs.Replies.{judges_class, judges_class_asked, judges_same, outcome, replied, says_all, slices_by, slices_output, takes_back}
-use Rattle.dialog_replies.specs.Replies.{takes_back_class, takes_back_last, takes_each_back, tells_alike, trust_outcome, trusts_named, with_classes}
-use Rattle.dialog_replies.specs.Slices.{all_answer, entries_with_all, slice_answers}
+use Rattle.dialog_replies.specs.Replies.{judges_class, judges_class_asked, judges_same, outcome, refers_asked, refers_by, refers_if, refers_to, replied}
+use Rattle.dialog_replies.specs.Replies.{says_all, slices_by, slices_output, takes_back, takes_back_class, takes_back_last, takes_each_back, tells_alike}
 use Rattle.dialog_replies.specs.Subject.{Subject, book_of, calls_recorded, routine_named, state_after}
-use Rattle.dialog_replies.specs.declared.{instructions.DialogCommand.DialogCommand, instructions.Instruction.Instruction, slices.SliceOf.SliceOf}
+use Rattle.dialog_replies.specs.declared.{references.Referred.Referred, slices.SliceOf.SliceOf}
+use Rattle.dialog_replies.specs.declared.instructions.{DialogCommand.DialogCommand, Instruction.Instruction}
 use Rattle.dialog_replies.specs.declared.slices.SliceOf.TheVariants as slices
-use Rattle.ask_session.specs.{Dialog.is_too_long, Dialog.said_after_line, Turned.said_through}
-use Rattle.ask_session.specs.LineActs.{EntriesFollowLines, act_by, acts_after_instruction, acts_after_line, acts_after_lines, acts_by_classes, acts_by_slice}
-use Rattle.ask_session.specs.LineActs.{acts_if_room, acts_judging_alike, acts_judging_asked, acts_making, acts_of_slice, acts_on_alike, acts_taking_back}
-use Rattle.ask_session.specs.LineActs.{acts_taking_back_alike, judgement_kept, judgement_on}
+use Rattle.ask_session.specs.{LineActs.judgement_referred, LineActs.known_after_line, LineActs.refer_command, Turned.held_through}
+use Rattle.ask_session.specs.Dialog.{Granted, errand_in, granted_after_line, held_after_line, is_too_long, next_granted}
+use Rattle.ask_session.specs.LineActs.{EntriesFollowLines, Known, act_by, acts_after_instruction, acts_after_line, acts_after_lines, acts_by_classes}
+use Rattle.ask_session.specs.LineActs.{acts_by_slice, acts_if_room, acts_judging_alike, acts_judging_asked, acts_making, acts_of_slice, acts_on_alike}
+use Rattle.ask_session.specs.LineActs.{acts_taking_back, acts_taking_back_alike, judgement_asked, judgement_by, judgement_kept, judgement_on}
 
 -- the answers that stand, by the acts
 pub said_after : {acts : List CommandAct} {entries : List Entry} → Follow acts entries → standing_answers entries ≡ standing_after acts
@@ -237,52 +240,99 @@ module _ (s : Subject) where
         (takes_each_back s said (standing_alike said.entries classes call)).said.entries) before.entries_are
         (taken_or_none (standing_alike said.entries classes call)))
 
-    by_dialog : (c : DialogCommand) → Follow (acts_after_instruction s said.replies acts (Instruction.Command c)) (command_outcome s said c).said.entries
+    -- ---- a right program is asked
+
+    referred_by : (call : ℕ) (answer : Referred) → FollowBy (judgement_by call answer) (refers_by s said call answer).said.entries
+    referred_by call (Referred.Judged judgement) = judged judgement call
+    referred_by call Referred.Unfit = before
+    referred_by call Referred.NoAnswer = before
+
+    if_there : (b : Bool) (some : Option Command) (x y : LineOutcome) → FollowBy some x.said.entries → Follow acts y.said.entries
+        → FollowBy (if b then some else None) (if b then x else y).said.entries
+    if_there true some x y f g = f
+    if_there false some x y f g = g
+
+    referred_to : (reference : ProgramRows) (call : ℕ) → FollowBy (judgement_referred s reference call) (refers_to s said reference call).said.entries
+    referred_to reference call =
+        if_there (nat_lt call (calls_recorded s)) (judgement_by call (s.refer reference call)) _ _ (referred_by call (s.refer reference call)) before
+
+    referred_asked : (reference : ProgramRows) (state : SearchState)
+        → FollowBy (judgement_asked s reference state) (refers_asked s said reference state).said.entries
+    referred_asked reference (Ask call weight suspects left) = referred_to reference call
+    referred_asked reference (Found call) = before
+    referred_asked reference (Narrowed call) = before
+    referred_asked reference NothingWrong = before
+    referred_asked reference Unclear = before
+
+    referred : (reference : Option ProgramRows) (call : Option ℕ)
+        → FollowBy (refer_command s reference call (state_in s.tree (standing_after acts))) (refers_if s said reference call).said.entries
+    referred None call = before
+    referred (Some reference) (Some call) = referred_to reference call
+    referred (Some reference) None =
+        subst (λ (answers : List What). FollowBy (judgement_asked s reference (state_in s.tree answers))
+        (refers_asked s said reference (state_after s said.entries)).said.entries) (said_after before)
+        (referred_asked reference (state_after s said.entries))
+
+    -- ---- each instruction
+
+    -- what is known where this is held
+    abbrev known_with : Option ProgramRows → Known
+    known_with reference = record { kept = said.replies; reference = reference }
+
+    by_dialog : (reference : Option ProgramRows) (c : DialogCommand)
+        → Follow (acts_after_instruction s (known_with reference) acts (Instruction.Command c)) (command_outcome s said c).said.entries
     unfolding command_outcome
-    by_dialog DialogCommand.Nothing = before
-    by_dialog (DialogCommand.Judge judgement None) =
+    by_dialog reference DialogCommand.Nothing = before
+    by_dialog reference (DialogCommand.Judge judgement None) =
         subst (λ (answers : List What). FollowBy (judgement_on judgement (state_in s.tree answers))
         (judges_asked s said judgement (state_after s said.entries)).said.entries) (said_after before)
         (judged_asked judgement (state_after s said.entries))
-    by_dialog (DialogCommand.Judge judgement (Some call)) = judged judgement call
-    by_dialog DialogCommand.Same =
+    by_dialog reference (DialogCommand.Judge judgement (Some call)) = judged judgement call
+    by_dialog reference DialogCommand.Same =
         subst (λ (answers : List What). FollowBy (judgement_kept s said.replies (state_in s.tree answers))
         (judges_same s said (state_after s said.entries)).said.entries) (said_after before) (judged_same (state_after s said.entries))
-    by_dialog (DialogCommand.TrustNamed name) = trusted_named name (routine_named s name)
-    by_dialog (DialogCommand.Trust routine) = trusted routine
-    by_dialog (DialogCommand.TakeBack None) =
+    by_dialog reference (DialogCommand.TrustNamed name) = trusted_named name (routine_named s name)
+    by_dialog reference (DialogCommand.Trust routine) = trusted routine
+    by_dialog reference (DialogCommand.TakeBack None) =
         subst (λ (now : List Entry). FollowBy (Some TakeBackLast) now) (takes_last_as said (take_back_last_answer (book_of s said.entries)))
         (by_command TakeBackLast)
-    by_dialog (DialogCommand.TakeBack (Some number)) =
+    by_dialog reference (DialogCommand.TakeBack (Some number)) =
         subst (λ (now : List Entry). FollowBy (Some (TakeBack number)) now) (takes_as said number (take_back_answer (book_of s said.entries) number))
         (by_command (TakeBack number))
-    by_dialog (DialogCommand.Note entry note) = either (is_made said entry) _ _ before before
-    by_dialog (DialogCommand.Show call) = before
-    by_dialog (DialogCommand.State call name) = before
-    by_dialog (DialogCommand.Trace call) = before
-    by_dialog (DialogCommand.Slice call name) = sliced call name
-    by_dialog (DialogCommand.Alike call) = told_alike call
-    by_dialog (DialogCommand.JudgeAlike judgement None) =
+    by_dialog reference (DialogCommand.Note entry note) = either (is_made said entry) _ _ before before
+    by_dialog reference (DialogCommand.Show call) = before
+    by_dialog reference (DialogCommand.State call name) = before
+    by_dialog reference (DialogCommand.Trace call) = before
+    by_dialog reference (DialogCommand.Slice call name) = sliced call name
+    by_dialog reference (DialogCommand.Alike call) = told_alike call
+    by_dialog reference (DialogCommand.JudgeAlike judgement None) =
         subst (λ (answers : List What). Follow (acts_judging_asked s acts judgement (state_in s.tree answers))
         (judges_class_asked s said judgement (state_after s said.entries)).said.entries) (said_after before)
         (judged_alike_asked judgement (state_after s said.entries))
-    by_dialog (DialogCommand.JudgeAlike judgement (Some call)) = judged_alike judgement call
-    by_dialog (DialogCommand.TakeBackAlike call) = taken_alike call
-    by_dialog (DialogCommand.Carry call onto) = before
-    by_dialog DialogCommand.Tree = before
-    by_dialog DialogCommand.Other = before
+    by_dialog reference (DialogCommand.JudgeAlike judgement (Some call)) = judged_alike judgement call
+    by_dialog reference (DialogCommand.TakeBackAlike call) = taken_alike call
+    by_dialog reference (DialogCommand.Carry call onto) = before
+    by_dialog reference DialogCommand.Tree = before
+    by_dialog reference DialogCommand.Other = before
 
-    pub by_instruction : (i : Instruction) → Follow (acts_after_instruction s said.replies acts i) (outcome s said i).said.entries
-    by_instruction (Instruction.Command command) = by_dialog command
-    by_instruction (Instruction.Save file) = before
-    by_instruction Instruction.Quit = before
+    pub by_instruction : (reference : Option ProgramRows) (i : Instruction)
+        → Follow (acts_after_instruction s (known_with reference) acts i) (outcome s (record { said = said; reference = reference }) i).said.entries
+    by_instruction reference (Instruction.Command command) = by_dialog reference command
+    by_instruction reference (Instruction.Refer call) = referred reference call
+    by_instruction reference (Instruction.Save file) = before
+    by_instruction reference (Instruction.Reference file) = before
+    by_instruction reference Instruction.Quit = before
 
   -- ---- one line, and those after it
 
-  by_line : (acts : List CommandAct) (said : Said) (i : Instruction) (long : Bool) → Follow acts said.entries
-      → Follow (if long then acts else acts_after_instruction s said.replies acts i) (if long then said else (outcome s said i).said).entries
-  by_line acts said i true before = before
-  by_line acts said i false before = by_instruction acts said before i
+  -- what is known where this is held
+  abbrev known_by : Held → Known
+  known_by held = record { kept = held.said.replies; reference = held.reference }
+
+  by_line : (acts : List CommandAct) (held : Held) (i : Instruction) (long : Bool) → Follow acts held.said.entries
+      → Follow (if long then acts else acts_after_instruction s (known_by held) acts i) (if long then held.said else (outcome s held i).said).entries
+  by_line acts held i true before = before
+  by_line acts held i false before = by_instruction acts held.said before held.reference i
 
   -- the replies that are kept stay as they are
   adds_keeps : (said : Said) (what : What) (answer : Result ℕ BookFault) → (adds s said what answer).said.replies ≡ said.replies
@@ -384,21 +434,54 @@ module _ (s : Subject) where
   command_keeps said DialogCommand.Tree = refl
   command_keeps said DialogCommand.Other = refl
 
-  line_keeps : (said : Said) (i : Instruction) (long : Bool) → (if long then said else (outcome s said i).said).replies ≡ said.replies
-  line_keeps said i true = refl
-  line_keeps said (Instruction.Command command) false = command_keeps said command
-  line_keeps said (Instruction.Save file) false = refl
-  line_keeps said Instruction.Quit false = refl
+  refer_keeps : (said : Said) (call : ℕ) (answer : Referred) → (refers_by s said call answer).said.replies ≡ said.replies
+  refer_keeps said call (Referred.Judged judgement) = adds_keeps said (Judged call judgement) (judge_answer (book_of s said.entries) call)
+  refer_keeps said call Referred.Unfit = refl
+  refer_keeps said call Referred.NoAnswer = refl
 
-  follow_lines : (kept : KeptReplies) (acts : List CommandAct) (said : Said) (lines : List (List ℕ)) → said.replies ≡ kept → Follow acts said.entries
-      → Follow (acts_after_lines s kept acts lines) (said_through s said lines).entries
-  follow_lines kept acts said [] same before = before
-  follow_lines kept acts said (line ∷ lines) same before =
-      follow_lines kept (acts_after_line s kept acts line) (said_after_line s said line) lines
-      (line_keeps said (instruction_of line) (is_too_long line) ∙ same)
-      (subst (λ (replies : KeptReplies). Follow (acts_after_line s replies acts line) (said_after_line s said line).entries) same
-      (by_line acts said (instruction_of line) (is_too_long line) before))
+  refer_to_keeps : (said : Said) (reference : ProgramRows) (call : ℕ) → (refers_to s said reference call).said.replies ≡ said.replies
+  refer_to_keeps said reference call =
+      either_keeps said (nat_lt call (calls_recorded s)) _ _ (refer_keeps said call (s.refer reference call)) refl
+
+  refer_asked_keeps : (said : Said) (reference : ProgramRows) (state : SearchState) → (refers_asked s said reference state).said.replies ≡ said.replies
+  refer_asked_keeps said reference (Ask call weight suspects left) = refer_to_keeps said reference call
+  refer_asked_keeps said reference (Found call) = refl
+  refer_asked_keeps said reference (Narrowed call) = refl
+  refer_asked_keeps said reference NothingWrong = refl
+  refer_asked_keeps said reference Unclear = refl
+
+  refers_keeps : (said : Said) (reference : Option ProgramRows) (call : Option ℕ) → (refers_if s said reference call).said.replies ≡ said.replies
+  refers_keeps said None call = refl
+  refers_keeps said (Some reference) (Some call) = refer_to_keeps said reference call
+  refers_keeps said (Some reference) None = refer_asked_keeps said reference (state_after s said.entries)
+
+  line_keeps : (held : Held) (i : Instruction) (long : Bool) → (if long then held.said else (outcome s held i).said).replies ≡ held.said.replies
+  line_keeps held i true = refl
+  line_keeps held (Instruction.Command command) false = command_keeps held.said command
+  line_keeps held (Instruction.Refer call) false = refers_keeps held.said held.reference call
+  line_keeps held (Instruction.Save file) false = refl
+  line_keeps held (Instruction.Reference file) false = refl
+  line_keeps held Instruction.Quit false = refl
+
+  -- what is known after a line is known where that is held
+  known_next : (held : Held) (g : Granted) (line : List ℕ) → known_by (held_after_line s held g line) ≡ known_after_line (known_by held) g line
+  known_next held g line =
+      ap (λ (replies : KeptReplies). record {
+        kept = replies;
+        reference = (known_after_line (known_by held) g line).reference;
+      }) (line_keeps held (instruction_of line) (is_too_long line))
+
+  follow_lines : (acts : List CommandAct) (held : Held) (granted : List Granted) (lines : List (List ℕ)) → Follow acts held.said.entries
+      → Follow (acts_after_lines s (known_by held) acts granted lines) (held_through s held granted lines).said.entries
+  follow_lines acts held granted [] before = before
+  follow_lines acts held granted (line ∷ lines) before =
+      let after : Held = held_after_line s held (next_granted granted) line in
+      let later : List Granted = granted_after_line (errand_in line) granted in
+      subst (λ (known : Known). Follow (acts_after_lines s known (acts_after_line s (known_by held) acts line) later lines)
+      (held_through s after later lines).said.entries) (known_next held (next_granted granted) line)
+      (follow_lines (acts_after_line s (known_by held) acts line) after later lines
+      (by_line acts held (instruction_of line) (is_too_long line) before))
 
 pub entries_follow : (s : Subject) → EntriesFollowLines s
-entries_follow s first lines =
-    (follow_lines s first.replies (acts_giving first.entries) first lines refl (follow_given first.entries)).entries_are
+entries_follow s first granted lines =
+    (follow_lines s (acts_giving first.said.entries) first granted lines (follow_given first.said.entries)).entries_are

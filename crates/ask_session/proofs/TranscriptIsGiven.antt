@@ -6,14 +6,14 @@ use Rattle.std.specs.Io.KnownBytes.{IsAtEnd}
 use Rattle.edge_ports.proofs.{HandedLinesAreHeard.heard_longer, PiecesAddUp.gave_prefix_before, PiecesAddUp.gave_prefix_whole, SameBytesCome.told_still}
 use Rattle.edge_ports.specs.{Counts.Counted, Files.FileMap, Limits.console_bytes, Told.GaveAll, Told.GavePrefix}
 use Rattle.edge_ports.specs.Lines.{lines_heard, lines_of, whole_lines}
-use Rattle.dialog_replies.specs.{Fit.misfit, Lines.misfit_line, Replies.opening_of, Start.said_at_start, Subject.Subject}
-use Rattle.dialog_replies.specs.declared.{misfits.Misfit.Misfit, start.Start.Start}
-use Rattle.ask_session.proofs.RepliesInOrder.{Stored, asked_ended, asked_front, ended_append, files_longer, replies_ended, replies_front}
-use Rattle.ask_session.specs.{Outside.Outside, Saves.AreAnswered, Saves.FilesAfter, Saves.Save, Saves.saves_in, Went.Went, declared.dialog.Ending.Ending}
+use Rattle.dialog_replies.specs.{Fit.misfit, Lines.misfit_line, Replies.opening_of, Subject.Subject, declared.misfits.Misfit.Misfit, declared.start.Start.Start}
+use Rattle.ask_session.proofs.RepliesInOrder.{Given, asked_ended, asked_front, ended_append, files_longer, replies_ended, replies_front}
+use Rattle.ask_session.specs.{Outside.Outside, Went.Went, declared.dialog.Ending.Ending}
 use Rattle.ask_session.specs.Console.{EndsInTime, FirstAnswered, GaveOf, GoesOn, NotRisen}
-use Rattle.ask_session.specs.Dialog.{all_printed, ends_among, line_replies, printed_if_fits, transcript}
+use Rattle.ask_session.specs.Dialog.{Granted, all_printed, ends_among, held_at_start, line_replies, printed_if_fits, transcript}
 use Rattle.ask_session.specs.Heard.{EndedBy, GaveBy, Heard, IsHeard, RefusedBy, is_console, is_screen, lines_in}
 use Rattle.ask_session.specs.Reached.{AnswersFirst, Reached, Telling, telling}
+use Rattle.ask_session.specs.Wishes.{AreAnswered, FilesAfter, Reads, Wish, wishes_in}
 
 -- how a session ended, and the counts of its console and its screen before and after it
 pub record Closed (e : Ending) (console console' screen screen' : ℕ) : Type 0 where
@@ -38,53 +38,55 @@ none_is_some {m} none some = is_none (subst IsSome none some)
     is_none : IsSome {T = Misfit} None → ⊥
     is_none e = let x : ⊥ = cc in x
 
-answered_few : (e : Ending) (saves : List Bool) (asked : List Save) → AreAnswered e saves asked → length saves ≤ length asked
-answered_few Ending.Done saves asked a = omega (arith, a)
-answered_few Ending.Console saves asked a = omega (arith, a)
-answered_few Ending.Spent saves asked a = omega (arith, a)
-answered_few Ending.Refused saves asked a = omega (arith, a)
-answered_few Ending.Screen saves asked a = a
-answered_few Ending.Memory saves asked a = a
+answered_few : (e : Ending) (granted : List Granted) (wishes : List Wish) → AreAnswered e granted wishes → length granted ≤ length wishes
+answered_few Ending.Done granted wishes a = omega (arith, a)
+answered_few Ending.Console granted wishes a = omega (arith, a)
+answered_few Ending.Spent granted wishes a = omega (arith, a)
+answered_few Ending.Refused granted wishes a = omega (arith, a)
+answered_few Ending.Screen granted wishes a = a
+answered_few Ending.Memory granted wishes a = a
 
 -- ---- how far a dialog came, of more lines
 
-answers_more : (t : Telling) (ls ms : List (List ℕ)) (count : ℕ) (saves : List Bool) → count ≤ length ls → AnswersFirst t ls count saves
-    → AnswersFirst t (ls ++ ms) count saves
-answers_more t ls ms count saves within (inl e) =
-    inl (e ∙ ap (λ (some : List (List ℕ)). length (t.asked some)) (sym (take-append-le count ls ms within)))
-answers_more t ls ms count saves within (inr (less, e)) =
+answers_more : (t : Telling) (ls ms : List (List ℕ)) (count : ℕ) (granted : List Granted) → count ≤ length ls → AnswersFirst t ls count granted
+    → AnswersFirst t (ls ++ ms) count granted
+answers_more t ls ms count granted within (inl e) =
+    inl (e ∙ ap (λ (some : List (List ℕ)). length (t.asked granted some)) (sym (take-append-le count ls ms within)))
+answers_more t ls ms count granted within (inr (less, e)) =
     let next : count + 1 ≤ length ls = omega (arith, less) in
     let longer : count < length (ls ++ ms) = omega (arith, less, length-append ls ms) in
-    inr (longer, e ∙ ap (λ (some : List (List ℕ)). length (t.asked some)) (sym (take-append-le (count + 1) ls ms next)))
+    inr (longer, e ∙ ap (λ (some : List (List ℕ)). length (t.asked granted some)) (sym (take-append-le (count + 1) ls ms next)))
 
-reached_more : {saves : List Bool} {given given' : Option (List ℕ)} (t : Telling) (ls ms all : List (List ℕ)) → all ≡ ls ++ ms
-    → Reached t ls saves given given' → Reached t all saves given given'
-reached_more {saves} {given} {given'} t ls ms all e r =
-    let longer : Reached t (ls ++ ms) saves given given' = record {
+reached_more : {granted : List Granted} {given given' : Option (List ℕ)} (t : Telling) (ls ms all : List (List ℕ)) → all ≡ ls ++ ms
+    → Reached t ls granted given given' → Reached t all granted given given'
+reached_more {granted} {given} {given'} t ls ms all e r =
+    let longer : Reached t (ls ++ ms) granted given given' = record {
       count = r.count;
       within = omega (arith, r.within, length-append ls ms);
-      answered = answers_more t ls ms r.count saves r.within r.answered;
-      gave = subst (λ (some : List (List ℕ)). GavePrefix given given' (t.text saves some)) (sym (take-append-le r.count ls ms r.within)) r.gave;
+      answered = answers_more t ls ms r.count granted r.within r.answered;
+      gave = subst (λ (some : List (List ℕ)). GavePrefix given given' (t.text granted some)) (sym (take-append-le r.count ls ms r.within)) r.gave;
     } in
-    subst (λ (lines : List (List ℕ)). Reached t lines saves given given') (sym e) longer
+    subst (λ (lines : List (List ℕ)). Reached t lines granted given given') (sym e) longer
 
 module _ (s : Subject) (start : Start) where
-  abbrev printed_of : List Bool → List (List ℕ) → List ℕ
-  printed_of saves lines = opening_of s start ++ line_replies s (said_at_start start) saves lines
+  abbrev printed_of : List Granted → List (List ℕ) → List ℕ
+  printed_of granted lines = opening_of s start ++ line_replies s (held_at_start start) granted lines
 
   -- what is said of the first lines is the first part of what is said
-  printed_front : (saves : List Bool) (ls ms : List (List ℕ)) → (back : List ℕ) × (all_printed s start saves (ls ++ ms) ≡ all_printed s start saves ls ++ back)
-  printed_front saves ls ms =
-      let r = replies_front s (said_at_start start) saves ls ms in
-      said_longer (misfit s start) (printed_of saves ls) (printed_of saves (ls ++ ms)) r.0
+  printed_front : (granted : List Granted) (ls ms : List (List ℕ))
+      → (back : List ℕ) × (all_printed s start granted (ls ++ ms) ≡ all_printed s start granted ls ++ back)
+  printed_front granted ls ms =
+      let r = replies_front s (held_at_start start) granted ls ms in
+      said_longer (misfit s start) (printed_of granted ls) (printed_of granted (ls ++ ms)) r.0
       (ap (λ (text : List ℕ). opening_of s start ++ text) r.1
-      ∙ sym (append_assoc (opening_of s start) (line_replies s (said_at_start start) saves ls) r.0))
+      ∙ sym (append_assoc (opening_of s start) (line_replies s (held_at_start start) granted ls) r.0))
 
   -- and all of it, where one of them ends the session
-  printed_ended : (saves : List Bool) (ls ms : List (List ℕ)) → ends_among ls ≡ true → all_printed s start saves (ls ++ ms) ≡ all_printed s start saves ls
-  printed_ended saves ls ms e =
+  printed_ended : (granted : List Granted) (ls ms : List (List ℕ)) → ends_among ls ≡ true
+      → all_printed s start granted (ls ++ ms) ≡ all_printed s start granted ls
+  printed_ended granted ls ms e =
       ap (λ (text : List ℕ). printed_if_fits (misfit s start) (opening_of s start ++ text))
-      (replies_ended s (said_at_start start) saves ls ms e)
+      (replies_ended s (held_at_start start) granted ls ms e)
 
   module _ (left left' : Option (List ℕ)) (bytes : List ℕ) (told : left ≡ Some bytes) where
     -- the bytes heard are the first of those told
@@ -108,83 +110,86 @@ module _ (s : Subject) (start : Start) where
         let l = heard_longer true x.bytes k.0 in
         (l.0, ap lines_of k.2 ∙ l.1 ∙ ap (λ (b : Bool). lines_heard b x.bytes ++ l.0) (sym e))
 
-    -- where the dialog is done, what is said and saved of them is that of all lines
+    -- where the dialog is done, what is said of them and what they ask for is that of all lines
     record AsAll (x : Heard) : Type 0 where
-      text : (saves : List Bool) → transcript s start saves bytes ≡ all_printed s start saves (lines_in x)
-      asked : saves_in s start (lines_of bytes) ≡ saves_in s start (lines_in x)
+      text : (granted : List Granted) → transcript s start granted bytes ≡ all_printed s start granted (lines_in x)
+      asked : (granted : List Granted) → wishes_in s start granted (lines_of bytes) ≡ wishes_in s start granted (lines_in x)
 
     as_all : (x : Heard) → IsHeard left left' x → EndedBy Ending.Done x → AsAll x
     as_all x h (inl ended) =
         let same : lines_of bytes ≡ lines_in x = ap lines_of (none_after x h ended) ∙ sym (ap (λ (b : Bool). lines_heard b x.bytes) ended) in
-        record { text = λ saves. ap (all_printed s start saves) same; asked = ap (saves_in s start) same }
+        record { text = λ granted. ap (all_printed s start granted) same; asked = λ granted. ap (wishes_in s start granted) same }
     as_all x h (inr quit) =
         let lines = first_lines x h x.ended refl in
         record {
-          text = λ saves. ap (all_printed s start saves) lines.1 ∙ printed_ended saves (lines_in x) lines.0 quit;
-          asked = ap (saves_in s start) lines.1 ∙ asked_ended s start (said_at_start start) (lines_in x) lines.0 quit;
+          text = λ granted. ap (all_printed s start granted) lines.1 ∙ printed_ended granted (lines_in x) lines.0 quit;
+          asked = λ granted. ap (wishes_in s start granted) lines.1 ∙ asked_ended s start (held_at_start start) granted (lines_in x) lines.0 quit;
         }
 
-    -- ---- what was given and saved
+    -- ---- what the screen got, and what was given
 
-    more_asked : (x : Heard) → IsHeard left left' x → (rest : List Save) × (saves_in s start (lines_of bytes) ≡ saves_in s start (lines_in x) ++ rest)
-    more_asked x h =
+    more_asked : (granted : List Granted) (x : Heard) → IsHeard left left' x
+        → (rest : List Wish) × (wishes_in s start granted (lines_of bytes) ≡ wishes_in s start granted (lines_in x) ++ rest)
+    more_asked granted x h =
         let lines = first_lines x h x.ended refl in
-        let more = asked_front s start (said_at_start start) (lines_in x) lines.0 in
-        (more.0, ap (saves_in s start) lines.1 ∙ more.1)
+        let more = asked_front s start (held_at_start start) granted (lines_in x) lines.0 in
+        (more.0, ap (wishes_in s start granted) lines.1 ∙ more.1)
 
-    files_told : {before after : Option FileMap} (saves : List Bool) (x : Heard) → IsHeard left left' x → length saves ≤ length (saves_in s start (lines_in x))
-        → Stored saves (saves_in s start (lines_in x)) before after → Stored saves (saves_in s start (lines_of bytes)) before after
-    files_told {before} {after} saves x h few stored =
-        let more = more_asked x h in
-        subst (λ (asked : List Save). Stored saves asked before after) (sym more.1) (files_longer more.0 few stored)
+    files_told : {before after : Option FileMap} (granted : List Granted) (x : Heard) → IsHeard left left' x
+        → length granted ≤ length (wishes_in s start granted (lines_in x))
+        → Given granted (wishes_in s start granted (lines_in x)) before after → Given granted (wishes_in s start granted (lines_of bytes)) before after
+    files_told {before} {after} granted x h few stored =
+        let more = more_asked granted x h in
+        subst (λ (wishes : List Wish). Given granted wishes before after) (sym more.1) (files_longer more.0 few stored)
 
-    first_few : (saves : List Bool) (x : Heard) → IsHeard left left' x → length saves ≤ length (saves_in s start (lines_in x))
-        → length saves ≤ length (saves_in s start (lines_of bytes))
-    first_few saves x h few =
-        let more = more_asked x h in omega (arith, few, ap length more.1, length-append (saves_in s start (lines_in x)) more.0)
+    first_few : (granted : List Granted) (x : Heard) → IsHeard left left' x → length granted ≤ length (wishes_in s start granted (lines_in x))
+        → length granted ≤ length (wishes_in s start granted (lines_of bytes))
+    first_few granted x h few =
+        let more = more_asked granted x h in omega (arith, few, ap length more.1, length-append (wishes_in s start granted (lines_in x)) more.0)
 
-    pub first_answered : (e : Ending) (saves : List Bool) (x : Heard) → IsHeard left left' x → EndedBy e x × AreAnswered e saves (saves_in s start (lines_in x))
-        → FirstAnswered e saves (saves_in s start (lines_of bytes))
-    first_answered Ending.Done saves x h a = a.1 ∙ ap length (sym (as_all x h a.0).asked)
-    first_answered Ending.Console saves x h a = first_few saves x h (answered_few Ending.Console saves (saves_in s start (lines_in x)) a.1)
-    first_answered Ending.Spent saves x h a = first_few saves x h (answered_few Ending.Spent saves (saves_in s start (lines_in x)) a.1)
-    first_answered Ending.Refused saves x h a = first_few saves x h (answered_few Ending.Refused saves (saves_in s start (lines_in x)) a.1)
-    first_answered Ending.Screen saves x h a = first_few saves x h a.1
-    first_answered Ending.Memory saves x h a = first_few saves x h a.1
+    pub first_answered : (e : Ending) (granted : List Granted) (x : Heard) → IsHeard left left' x
+        → EndedBy e x × AreAnswered e granted (wishes_in s start granted (lines_in x))
+        → FirstAnswered e granted (wishes_in s start granted (lines_of bytes))
+    first_answered Ending.Done granted x h a = a.1 ∙ ap length (sym ((as_all x h a.0).asked granted))
+    first_answered Ending.Console granted x h a = first_few granted x h (answered_few Ending.Console granted (wishes_in s start granted (lines_in x)) a.1)
+    first_answered Ending.Spent granted x h a = first_few granted x h (answered_few Ending.Spent granted (wishes_in s start granted (lines_in x)) a.1)
+    first_answered Ending.Refused granted x h a = first_few granted x h (answered_few Ending.Refused granted (wishes_in s start granted (lines_in x)) a.1)
+    first_answered Ending.Screen granted x h a = first_few granted x h a.1
+    first_answered Ending.Memory granted x h a = first_few granted x h a.1
 
-    module _ (given given' : Option (List ℕ)) (saves : List Bool) (x : Heard) (h : IsHeard left left' x) where
-      part_of : GavePrefix given given' (all_printed s start saves (lines_in x)) → GavePrefix given given' (transcript s start saves bytes)
+    module _ (given given' : Option (List ℕ)) (granted : List Granted) (x : Heard) (h : IsHeard left left' x) where
+      part_of : GavePrefix given given' (all_printed s start granted (lines_in x)) → GavePrefix given given' (transcript s start granted bytes)
       part_of g =
           let lines = first_lines x h x.ended refl in
-          let r = printed_front saves (lines_in x) lines.0 in
-          subst (λ (text : List ℕ). GavePrefix given given' text) (sym (ap (all_printed s start saves) lines.1 ∙ r.1))
-          (gave_prefix_before given given' (all_printed s start saves (lines_in x)) r.0 g)
+          let r = printed_front granted (lines_in x) lines.0 in
+          subst (λ (text : List ℕ). GavePrefix given given' text) (sym (ap (all_printed s start granted) lines.1 ∙ r.1))
+          (gave_prefix_before given given' (all_printed s start granted (lines_in x)) r.0 g)
 
-      whole_part : GaveAll given given' (all_printed s start saves (lines_in x)) → GavePrefix given given' (transcript s start saves bytes)
-      whole_part g = part_of (gave_prefix_whole given given' (all_printed s start saves (lines_in x)) g)
+      whole_part : GaveAll given given' (all_printed s start granted (lines_in x)) → GavePrefix given given' (transcript s start granted bytes)
+      whole_part g = part_of (gave_prefix_whole given given' (all_printed s start granted (lines_in x)) g)
 
-      pub transcript_given : (e : Ending) → GaveBy e given given' (all_printed s start saves (lines_in x)) → EndedBy e x → RefusedBy e (misfit s start)
-          → GaveOf e given given' (transcript s start saves bytes)
-      transcript_given Ending.Done g w r = subst (λ (text : List ℕ). GaveAll given given' text) (sym ((as_all x h w).text saves)) g
+      pub transcript_given : (e : Ending) → GaveBy e given given' (all_printed s start granted (lines_in x)) → EndedBy e x → RefusedBy e (misfit s start)
+          → GaveOf e given given' (transcript s start granted bytes)
+      transcript_given Ending.Done g w r = subst (λ (text : List ℕ). GaveAll given given' text) (sym ((as_all x h w).text granted)) g
       transcript_given Ending.Console g w r = whole_part g
       transcript_given Ending.Screen g w r = part_of g
       transcript_given Ending.Spent g w r = whole_part g
       transcript_given Ending.Memory g w r = part_of g
       transcript_given Ending.Refused g w r = subst (λ (text : List ℕ). GaveAll given given' text)
-          (printed_refused (misfit s start) (printed_of saves (lines_of bytes)) (printed_of saves (lines_in x)) r) g
+          (printed_refused (misfit s start) (printed_of granted (lines_of bytes)) (printed_of granted (lines_in x)) r) g
 
     -- what the contract says where the console tells its bytes
-    pub told_so : (before after : Outside) (e : Ending) (w : Went s start before e after) → IsHeard left left' w.heard
-        → FirstAnswered e w.saves (saves_in s start (lines_of bytes))
-        × GaveOf e before.streams.given after.streams.given (transcript s start w.saves bytes)
-        × FilesAfter w.saves (saves_in s start (lines_of bytes)) before.files after.files
-        × Reached (telling s start) (lines_of bytes) w.saves before.streams.given after.streams.given
-    told_so before after e w h =
+    pub told_so : (reads : Reads) (before after : Outside) (e : Ending) (w : Went reads s start before e after) → IsHeard left left' w.heard
+        → FirstAnswered e w.granted (wishes_in s start w.granted (lines_of bytes))
+        × GaveOf e before.streams.given after.streams.given (transcript s start w.granted bytes)
+        × FilesAfter w.granted (wishes_in s start w.granted (lines_of bytes)) before.files after.files
+        × Reached (telling s start) (lines_of bytes) w.granted before.streams.given after.streams.given
+    told_so reads before after e w h =
         let lines = first_lines w.heard h w.heard.ended refl in
-        let stored : Stored w.saves (saves_in s start (lines_in w.heard)) before.files after.files = record { files_are = w.files } in (
-          first_answered e w.saves w.heard h (w.ended, w.answered),
-          transcript_given before.streams.given after.streams.given w.saves w.heard h e w.gave w.ended w.refused,
-          (files_told w.saves w.heard h (answered_few e w.saves (saves_in s start (lines_in w.heard)) w.answered) stored).files_are,
+        let given : Given w.granted (wishes_in s start w.granted (lines_in w.heard)) before.files after.files = record { files_are = w.files } in (
+          first_answered e w.granted w.heard h (w.ended, w.answered),
+          transcript_given before.streams.given after.streams.given w.granted w.heard h e w.gave w.ended w.refused,
+          (files_told w.granted w.heard h (answered_few e w.granted (wishes_in s start w.granted (lines_in w.heard)) w.answered) given).files_are,
           reached_more (telling s start) (lines_in w.heard) lines.0 (lines_of bytes) lines.1 w.reached,
         )
 

@@ -1,7 +1,7 @@
 -- What may be known of a console before the dialog begins, and what the screen gets then.
-use Rattle.std.specs.Prelude.{◌<◌, ◌≡◌, ◌≤◌, ◌⊎◌, ℕ, Bool, IsTrue, List, Option, false, length, take}
+use Rattle.std.specs.Prelude.{◌<◌, ◌≡◌, ◌≤◌, ◌⊎◌, ℕ, IsTrue, List, Option, false, length, take}
 use Rattle.edge_ports.specs.{Counts.Rose, Limits.console_bytes, Lines.whole_lines, Told.GaveAll, Told.GavePrefix}
-use Rattle.ask_session.specs.{Dialog.ends_among, Saves.Save, declared.dialog.Ending.Ending}
+use Rattle.ask_session.specs.{Dialog.Granted, Dialog.ends_among, Wishes.Wish, declared.dialog.Ending.Ending}
 
 -- a count did not rise, and does not stand at its last value
 abbrev pub NotRisen : ℕ → ℕ → Type 0
@@ -24,11 +24,11 @@ GaveOf Ending.Spent given given' text = GavePrefix given given' text
 GaveOf Ending.Refused given given' text = GaveAll given given' text
 GaveOf Ending.Memory given given' text = GavePrefix given given' text
 
--- each of these saves got its answer where the dialog is done, and else the first ones did
-abbrev pub FirstAnswered : Ending → (saves : List Bool) → List Save → Type 0
-FirstAnswered Ending.Done saves asked = length saves ≡ length asked
-FirstAnswered Ending.Console saves asked = length saves ≤ length asked
-FirstAnswered Ending.Screen saves asked = length saves ≤ length asked
-FirstAnswered Ending.Spent saves asked = length saves ≤ length asked
-FirstAnswered Ending.Refused saves asked = length saves ≤ length asked
-FirstAnswered Ending.Memory saves asked = length saves ≤ length asked
+-- each of these wishes was answered where the dialog is done, and else the first ones were
+abbrev pub FirstAnswered : Ending → (granted : List Granted) → List Wish → Type 0
+FirstAnswered Ending.Done granted wishes = length granted ≡ length wishes
+FirstAnswered Ending.Console granted wishes = length granted ≤ length wishes
+FirstAnswered Ending.Screen granted wishes = length granted ≤ length wishes
+FirstAnswered Ending.Spent granted wishes = length granted ≤ length wishes
+FirstAnswered Ending.Refused granted wishes = length granted ≤ length wishes
+FirstAnswered Ending.Memory granted wishes = length granted ≤ length wishes

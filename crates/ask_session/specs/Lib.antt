@@ -1,5 +1,6 @@
+pub mod Desks
 pub mod Dialog
-pub mod Saves
+pub mod Wishes
 pub mod Heard
 pub mod Reached
 pub mod Outside

@@ -1,22 +1,24 @@
 //! The dialog on the console.
-ghost use Rattle.std.specs.Prelude.{◌<◌, ◌∷◌, ◌≡◌, ◌≤◌, [], Err, IfErr, IfOk, IsTrue, OnErr, OnOk, codes, false};
-ghost use Rattle.std.specs.{Prelude.length, Io.KnownBytes.IsAtEnd};
+ghost use Rattle.std.specs.Prelude.{◌++◌, ◌<◌, ◌∷◌, ◌≡◌, ◌≤◌, [], Err, IfErr, IfOk, IsTrue, OnErr, OnOk, codes, false};
+ghost use Rattle.std.specs.{Prelude.length, Prelude.option_map, Io.KnownBytes.IsAtEnd};
 ghost use Rattle.edge_ports.specs.{Limits.line_bytes, Lines.Moves, Told.GaveAll, Told.GavePrefix, Turns.IsConsistent};
 ghost use Rattle.edge_ports.specs.Counts.{Counted, counts_stored};
 ghost use Rattle.edge_ports.specs.declared.ports.StoreFault.TheVariants as store;
 ghost use Rattle.dialog_replies.specs.{Kept.IsDialogOf, Kept.said_in_dialog, Prepared.IsReply, Prepared.text_of_reply};
-ghost use Rattle.dialog_replies.specs.{Start.said_at_start, Start.saved_text, Subject.Subject, Subject.calls_recorded};
+ghost use Rattle.dialog_replies.specs.{References.reading_by, Start.saved_text, Subject.calls_recorded};
 ghost use Rattle.dialog_replies.specs.declared.start.Start.{Start as StartValue};
-ghost use Rattle.ask_session.specs.{Dialog.save_reply, Heard.is_console, Heard.is_screen};
-ghost use Rattle.ask_session.specs.Saves.{FileAfter, counts_saved};
-ghost use Rattle.ask_session.specs.Turned.{AnswersLine, LineAt, NextReply, ReplyGiven, SaveGoes, Talked};
+ghost use Rattle.ask_session.specs.{Desks.held_on, Heard.is_console, Heard.is_screen};
+ghost use Rattle.ask_session.specs.Dialog.{Stored, ToFetch, ToStore, held_at_start, save_reply};
+ghost use Rattle.ask_session.specs.Turned.{AnswersLine, ErrandGoes, LineAt, NextReply, ReplyGiven, Talked};
 ghost use Rattle.ask_session.specs.Turned.{console_failed, reply_of_text, screen_failed, with_text};
+ghost use Rattle.ask_session.specs.Wishes.{FetchFile, FileAfter, IsReadFrom, StoreFile, counts_granted};
 
+use crate::desk::Desk;
 use dialog_replies::{
-    Debugged, Dialog, FileName, Instruction, Reply, Start, answer, instruction_in, print_reply,
-    session_text_of,
+    Debugged, Dialog, FileName, Instruction, REFERENCE_BYTES, Reading, Reply, Start, answer,
+    instruction_in, print_reply, refer, session_text_of,
 };
-use edge_ports::{Bytes, Keeper, LineFault, Lines, Printer, Source, StoreFault, Turn};
+use edge_ports::{Bytes, FetchFault, Keeper, LineFault, Lines, Printer, Source, StoreFault, Turn};
 use std::alloc::{AllocError, AllocFailed, Global};
 
 /// How a dialog ended.
@@ -67,7 +69,8 @@ fn store_text<K: Keeper>(
 ) -> Result<bool, Ending>
     ensures file { IfOk result (λ stored. FileAfter stored (record { file = name.now; text = text.now })
         (K.files keeper.old) (K.files keeper.new)) }
-    ensures counts { IfOk result (λ stored. K.counts keeper.new ≡ counts_saved (stored ∷ []) (K.counts keeper.old)) }
+    ensures counts { IfOk result (λ stored. K.counts keeper.new
+        ≡ counts_granted (Stored stored ∷ []) (K.counts keeper.old)) }
     ensures memory { IfErr result (λ e. e ≡ Ending.Memory) }
     ensures same_files { OnErr result (K.files keeper.new ≡ K.files keeper.old) }
     ensures one_store { OnErr result (K.counts keeper.new ≡ counts_stored (Err store.Memory) (K.counts keeper.old)) }
@@ -79,17 +82,28 @@ fn store_text<K: Keeper>(
     }
 }
 
+/// Begin, the name of a file, and the end of the line.
+fn file_line(alloc: Global, begin: &[u8], file: &FileName<'_>) -> Result<Bytes, Ending>
+    ensures text { IfOk result (λ bytes. bytes ≡ begin.now ++ file.now ++ codes "\n") }
+    ensures memory { IfErr result (λ e. e ≡ Ending.Memory) }
+{
+    let mut bytes = Bytes::new(alloc);
+    bytes.append(begin)?;
+    bytes.append(file.as_str().as_bytes())?;
+    bytes.append(b"\n")?;
+    Ok(bytes)
+}
+
 /// The reply to a line that asks to save, by whether its file was stored.
 fn save_reply(alloc: Global, stored: bool, file: &FileName<'_>) -> Result<Bytes, Ending>
     ensures text { IfOk result (λ bytes. bytes ≡ save_reply stored file.now) }
     ensures memory { IfErr result (λ e. e ≡ Ending.Memory) }
 {
-    let before: &[u8] = if stored { b"saved " } else { b"not saved " };
-    let mut bytes = Bytes::new(alloc);
-    bytes.append(before)?;
-    bytes.append(file.as_str().as_bytes())?;
-    bytes.append(b"\n")?;
-    Ok(bytes)
+    if stored {
+        file_line(alloc, b"saved ", file)
+    } else {
+        file_line(alloc, b"not saved ", file)
+    }
 }
 
 /// Saves the session of the moment in this file, and answers the reply.
@@ -98,24 +112,106 @@ fn save<D: Debugged, K: Keeper>(
     run: &D,
     start: &Start,
     keeper: &mut K,
-    dialog: &mut Dialog,
+    desk: &mut Desk<'_, D::Reference>,
     file: &FileName<'_>,
 ) -> Result<Bytes, Ending>
-    requires dialog { IsDialogOf (D.subject run.now) dialog.old }
-    ensures goes { SaveGoes
-        (record { file = file.now; text = saved_text (D.subject run.now) start.now (said_in_dialog dialog.old) })
-        (record { said = said_in_dialog dialog.old; files = K.files keeper.old; counts = K.counts keeper.old })
+    requires dialog { IsDialogOf (D.subject run.now) desk.old.dialog }
+    ensures goes { ErrandGoes (D.reads run.now) (ToStore file.now)
+        (StoreFile (record {
+          file = file.now;
+          text = saved_text (D.subject run.now) start.now (said_in_dialog desk.old.dialog);
+        }))
+        (record {
+          held = held_on (D.tables run.now) desk.old;
+          files = K.files keeper.old;
+          counts = K.counts keeper.old;
+        })
         result
-        (record { said = said_in_dialog dialog.new; files = K.files keeper.new; counts = K.counts keeper.new }) }
-    ensures said { said_in_dialog dialog.new ≡ said_in_dialog dialog.old }
-    ensures dialog { IsDialogOf (D.subject run.now) dialog.new }
+        (record {
+          held = held_on (D.tables run.now) desk.new;
+          files = K.files keeper.new;
+          counts = K.counts keeper.new;
+        }) }
+    ensures dialog { IsDialogOf (D.subject run.now) desk.new.dialog }
 {
-    let Ok(text) = session_text_of(alloc, run, start, dialog) else {
+    let Ok(text) = session_text_of(alloc, run, start, &mut desk.dialog) else {
         return Err(Ending::Memory);
     };
     match store_text(alloc, keeper, file.as_str(), text.as_slice()) {
         Ok(stored) => save_reply(alloc, stored, file),
         Err(ending) => Err(ending),
+    }
+}
+
+/// Fetches the file of this name, and answers what its bytes are read as; none where no file was fetched.
+fn fetch_reading<D: Debugged, K: Keeper>(
+    alloc: Global,
+    run: &D,
+    keeper: &mut K,
+    name: &str,
+) -> Result<Option<Reading<D::Reference>>, Ending>
+    ensures read { IfOk result (λ reading. IsReadFrom (D.reads run.now) name.now
+        (record { files = K.files keeper.old; counts = K.counts keeper.old })
+        (option_map (reading_by (D.tables run.now)) reading)
+        (record { files = K.files keeper.new; counts = K.counts keeper.new })) }
+    ensures memory { IfErr result (λ e. e ≡ Ending.Memory) }
+    ensures same_files { OnErr result (K.files keeper.new ≡ K.files keeper.old) }
+    ensures same_counts { OnErr result (K.counts keeper.new ≡ K.counts keeper.old) }
+{
+    match keeper.fetch(alloc, name, REFERENCE_BYTES) {
+        Ok(bytes) => match run.read_reference(alloc, bytes.as_slice()) {
+            Ok(reading) => Ok(Some(reading)),
+            Err(_) => Err(Ending::Memory),
+        },
+        Err(FetchFault::Absent) => Ok(None),
+        Err(FetchFault::TooLong(_)) => Ok(None),
+        Err(FetchFault::Failed) => Ok(None),
+        Err(FetchFault::Memory) => Err(Ending::Memory),
+    }
+}
+
+/// The line on a file that is no right program.
+fn refused_line(alloc: Global, why: &[u8]) -> Result<Bytes, Ending>
+    ensures text { IfOk result (λ bytes. bytes ≡ codes "reference refused: " ++ why.now ++ codes "\n") }
+    ensures memory { IfErr result (λ e. e ≡ Ending.Memory) }
+{
+    let mut bytes = Bytes::new(alloc);
+    bytes.append(b"reference refused: ")?;
+    bytes.append(why)?;
+    bytes.append(b"\n")?;
+    Ok(bytes)
+}
+
+/// Reads a right program from this file, and answers the reply. Where it is one, it answers from now on.
+fn read_reference<D: Debugged, K: Keeper>(
+    alloc: Global,
+    run: &D,
+    keeper: &mut K,
+    desk: &mut Desk<'_, D::Reference>,
+    file: &FileName<'_>,
+) -> Result<Bytes, Ending>
+    requires dialog { IsDialogOf (D.subject run.now) desk.old.dialog }
+    ensures goes { ErrandGoes (D.reads run.now) (ToFetch file.now) (FetchFile file.now)
+        (record {
+          held = held_on (D.tables run.now) desk.old;
+          files = K.files keeper.old;
+          counts = K.counts keeper.old;
+        })
+        result
+        (record {
+          held = held_on (D.tables run.now) desk.new;
+          files = K.files keeper.new;
+          counts = K.counts keeper.new;
+        }) }
+    ensures dialog { IsDialogOf (D.subject run.now) desk.new.dialog }
+{
+    match fetch_reading(alloc, run, keeper, file.as_str())? {
+        None => file_line(alloc, b"not fetched ", file),
+        Some(Reading::Refused(why)) => refused_line(alloc, why.as_slice()),
+        Some(Reading::Program(reference)) => {
+            desk.reference = Some(reference);
+            file_line(alloc, b"reference ", file)
+        }
     }
 }
 
@@ -135,29 +231,40 @@ fn answer_line<D: Debugged, K: Keeper>(
     run: &D,
     start: &Start,
     keeper: &mut K,
-    dialog: &mut Dialog,
+    desk: &mut Desk<'_, D::Reference>,
     line: &[u8],
 ) -> Result<Reply<D::Card, D::Opened, D::Trace>, Ending>
-    requires dialog { IsDialogOf (D.subject run.now) dialog.old }
+    requires dialog { IsDialogOf (D.subject run.now) desk.old.dialog }
     requires short { length line.now ≤ line_bytes }
-    ensures answers { AnswersLine (D.subject run.now) start.now
+    ensures answers { AnswersLine (D.reads run.now) (D.subject run.now) start.now
         (record {
           line = line.now;
           moment = record {
-            said = said_in_dialog dialog.old;
+            held = held_on (D.tables run.now) desk.old;
             files = K.files keeper.old;
             counts = K.counts keeper.old;
           };
         })
-        (with_text (D.subject run.now) (said_in_dialog dialog.new) result)
-        (record { said = said_in_dialog dialog.new; files = K.files keeper.new; counts = K.counts keeper.new }) }
+        (with_text (D.subject run.now) (said_in_dialog desk.new.dialog) result)
+        (record {
+          held = held_on (D.tables run.now) desk.new;
+          files = K.files keeper.new;
+          counts = K.counts keeper.new;
+        }) }
     ensures prepared { IfOk result (IsReply (D.prepared run.now) (calls_recorded (D.subject run.now))) }
-    ensures dialog { IsDialogOf (D.subject run.now) dialog.new }
+    ensures dialog { IsDialogOf (D.subject run.now) desk.new.dialog }
 {
     match instruction_in(line) {
         Instruction::Quit => Err(Ending::Done),
-        Instruction::Save(file) => as_reply(save(alloc, run, start, keeper, dialog, &file)),
-        Instruction::Command(command) => match answer(alloc, run, dialog, command) {
+        Instruction::Save(file) => as_reply(save(alloc, run, start, keeper, desk, &file)),
+        Instruction::Reference(file) => as_reply(read_reference(alloc, run, keeper, desk, &file)),
+        Instruction::Refer(call) => {
+            match refer(alloc, run, &mut desk.dialog, &desk.reference, call) {
+                Ok(reply) => Ok(reply),
+                Err(_) => Err(Ending::Memory),
+            }
+        }
+        Instruction::Command(command) => match answer(alloc, run, &mut desk.dialog, command) {
             Ok(reply) => Ok(reply),
             Err(_) => Err(Ending::Memory),
         },
@@ -165,11 +272,11 @@ fn answer_line<D: Debugged, K: Keeper>(
 }
 
 /// The reply to a line that is too long.
-fn too_long(alloc: Global) -> Result<Bytes, Ending>
+fn too_long<D: Debugged>(alloc: Global, run: &D) -> Result<Bytes, Ending>
     ensures text { IfOk result (λ bytes. bytes ≡ codes "line too long\n") }
     ensures memory { IfErr result (λ e. e ≡ Ending.Memory) }
-    ensures answers { (s : Subject) (start : StartValue) (asked : LineAt) → line_bytes < length asked.line
-        → AnswersLine s start asked result asked.moment }
+    ensures answers { (start : StartValue) (asked : LineAt) → line_bytes < length asked.line
+        → AnswersLine (D.reads run.now) (D.subject run.now) start asked result asked.moment }
 {
     let mut bytes = Bytes::new(alloc);
     match bytes.append(b"line too long\n") {
@@ -184,24 +291,24 @@ fn next_reply<D: Debugged, K: Keeper, I: Source>(
     run: &D,
     start: &Start,
     keeper: &mut K,
-    dialog: &mut Dialog,
+    desk: &mut Desk<'_, D::Reference>,
     lines: &mut Lines,
     console: &mut I,
 ) -> Result<Reply<D::Card, D::Opened, D::Trace>, Ending>
-    requires dialog { IsDialogOf (D.subject run.now) dialog.old }
-    ensures reply { NextReply (D.subject run.now) start.now
+    requires dialog { IsDialogOf (D.subject run.now) desk.old.dialog }
+    ensures reply { NextReply (D.reads run.now) (D.subject run.now) start.now
         (record {
           moment = record {
-            said = said_in_dialog dialog.old;
+            held = held_on (D.tables run.now) desk.old;
             files = K.files keeper.old;
             counts = K.counts keeper.old;
           };
           lines = lines.old;
         })
-        (with_text (D.subject run.now) (said_in_dialog dialog.new) result)
+        (with_text (D.subject run.now) (said_in_dialog desk.new.dialog) result)
         (record {
           moment = record {
-            said = said_in_dialog dialog.new;
+            held = held_on (D.tables run.now) desk.new;
             files = K.files keeper.new;
             counts = K.counts keeper.new;
           };
@@ -214,12 +321,12 @@ fn next_reply<D: Debugged, K: Keeper, I: Source>(
     ensures not_screen { screen_failed result ≡ false }
     ensures consistent { IsConsistent lines.new }
     ensures prepared { IfOk result (IsReply (D.prepared run.now) (calls_recorded (D.subject run.now))) }
-    ensures dialog { IsDialogOf (D.subject run.now) dialog.new }
+    ensures dialog { IsDialogOf (D.subject run.now) desk.new.dialog }
     ensures handed { OnOk result (lines.old.handed < lines.new.handed) }
 {
     match lines.next(console) {
-        Ok(Turn::Line) => answer_line(alloc, run, start, keeper, dialog, lines.line()),
-        Ok(Turn::TooLong) => as_reply(too_long(alloc)),
+        Ok(Turn::Line) => answer_line(alloc, run, start, keeper, desk, lines.line()),
+        Ok(Turn::TooLong) => as_reply(too_long(alloc, run)),
         Ok(Turn::End) => Err(Ending::Done),
         Err(LineFault::Failed) => Err(Ending::Console),
         Err(LineFault::Spent) => Err(Ending::Spent),
@@ -258,17 +365,17 @@ fn turn<D: Debugged, K: Keeper, I: Source, O: Printer>(
     run: &D,
     start: &Start,
     keeper: &mut K,
-    dialog: &mut Dialog,
+    desk: &mut Desk<'_, D::Reference>,
     lines: &mut Lines,
     console: &mut I,
     screen: &mut O,
 ) -> Result<(), Ending>
-    requires dialog { IsDialogOf (D.subject run.now) dialog.old }
-    ensures turned { ReplyGiven (D.subject run.now) start.now
+    requires dialog { IsDialogOf (D.subject run.now) desk.old.dialog }
+    ensures turned { ReplyGiven (D.reads run.now) (D.subject run.now) start.now
         (record {
           progress = record {
             moment = record {
-              said = said_in_dialog dialog.old;
+              held = held_on (D.tables run.now) desk.old;
               files = K.files keeper.old;
               counts = K.counts keeper.old;
             };
@@ -280,7 +387,7 @@ fn turn<D: Debugged, K: Keeper, I: Source, O: Printer>(
         (record {
           progress = record {
             moment = record {
-              said = said_in_dialog dialog.new;
+              held = held_on (D.tables run.now) desk.new;
               files = K.files keeper.new;
               counts = K.counts keeper.new;
             };
@@ -296,33 +403,34 @@ fn turn<D: Debugged, K: Keeper, I: Source, O: Printer>(
     ensures last { IsTrue (screen_failed result) → IsTrue (O.last_failed screen.new) }
     ensures loan { O.loan screen.new ≡ O.loan screen.old }
     ensures consistent { IsConsistent lines.new }
-    ensures dialog { IsDialogOf (D.subject run.now) dialog.new }
+    ensures dialog { IsDialogOf (D.subject run.now) desk.new.dialog }
     ensures handed { OnOk result (lines.old.handed < lines.new.handed) }
 {
-    match next_reply(alloc, run, start, keeper, dialog, lines, console) {
-        Ok(reply) => give_reply(screen, run, dialog, &reply),
+    match next_reply(alloc, run, start, keeper, desk, lines, console) {
+        Ok(reply) => give_reply(screen, run, &desk.dialog, &reply),
         Err(ending) => Err(ending),
     }
 }
 
 /// Answers the lines of the console, up to `quit` or its end. It takes memory for notes, for the digests of questions,
-/// for what each reply is printed from and for each file that is stored; none for the text of a reply.
+/// for what each reply is printed from, for each file that is stored and for each right program that is read and asked;
+/// none for the text of a reply.
 pub fn answer_lines<D: Debugged, K: Keeper, I: Source, O: Printer>(
     alloc: Global,
     run: &D,
     start: &Start,
     keeper: &mut K,
-    dialog: &mut Dialog,
+    desk: &mut Desk<'_, D::Reference>,
     lines: &mut Lines,
     console: &mut I,
     screen: &mut O,
 ) -> Ending
-    requires dialog { IsDialogOf (D.subject run.now) dialog.old }
-    requires first { said_in_dialog dialog.old ≡ said_at_start start.now }
+    requires dialog { IsDialogOf (D.subject run.now) desk.old.dialog }
+    requires first { held_on (D.tables run.now) desk.old ≡ held_at_start start.now }
     requires fresh { lines.old ≡ record { taken = []; handed = 0; ended = false; line = [] } }
     // What was heard of the console, what the screen got by how the dialog ended, and why it ended; and what became of
     // the keeper.
-    ensures goes { Talked (D.subject run.now) start.now
+    ensures goes { Talked (D.reads run.now) (D.subject run.now) start.now
         (record {
           files = K.files keeper.old;
           counts = K.counts keeper.old;
@@ -343,7 +451,7 @@ pub fn answer_lines<D: Debugged, K: Keeper, I: Source, O: Printer>(
     ensures loan { O.loan screen.new ≡ O.loan screen.old }
 {
     'lines: loop {
-        match turn(alloc, run, start, keeper, dialog, lines, console, screen) {
+        match turn(alloc, run, start, keeper, desk, lines, console, screen) {
             Ok(()) => {}
             Err(ending) => return ending,
         }

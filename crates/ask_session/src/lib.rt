@@ -2,6 +2,7 @@
 //! the console's end. It may go on with a saved session, and a line may save the session of the moment.
 #![tactic(auto)]
 
+mod desk;
 mod dialog;
 mod laws;
 mod session;

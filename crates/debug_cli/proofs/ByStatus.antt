@@ -1,8 +1,7 @@
 -- What was done, in four ways: a whole text was said, or a part of it, or nothing; or a session was held.
 use Rattle.std.proofs.Common.{Option, inl, inr}
 use Rattle.ask_session.specs.{Outside.Outside, declared.dialog.Ending.Ending}
-use Rattle.command_words.specs.Meaning.{Meant}
-use Rattle.debug_cli.specs.{Status.session_status, declared.status.Status.Status}
+use Rattle.debug_cli.specs.{Meaning.Meant, Status.session_status, declared.status.Status.Status}
 use Rattle.debug_cli.specs.Goes.{Goes, Says, SaysNothing, SaysPart, Talks}
 
 pub data View (m : Option Meant) (before after : Outside) : Status → Type 0 where

@@ -5,11 +5,15 @@ use Rattle.edge_ports.specs.{Counts.CountsFetch, Counts.KeeperCounts, declared.p
 use Rattle.edge_ports.specs.Files.{FileMap, HoldsFile, HoldsLonger, LacksFile}
 use Rattle.session_file.specs.{Reading.session_of, declared.session.LoadFault.LoadFault, declared.session.Session.Session}
 use Rattle.made_program.specs.{Lines.made_lines, Source.made_source}
-use Rattle.command_words.specs.Meaning.{Requested, Source}
+use Rattle.ask_session.specs.Outside.{Outside}
 use Rattle.debuggee.specs.{Execution.Execution, Execution.execution_of, Limits.most_steps, Program.IsProgram, Subjects.subject_of}
-use Rattle.debug_cli.specs.{Laws.OneRun, Limits.session_bytes, Outside.NoFetchFailed}
+use Rattle.debug_cli.specs.{Laws.OneRun, Limits.session_bytes, Meaning.Requested, Meaning.Source, Outside.LeavesAlone, Outside.NoFetchFailed}
 use Rattle.debug_cli.specs.Named.{Begun, Checked, FileSought, IsFetchFault, IsFetched, IsInput, IsSaved, IsSought, MadeProgram, NotFetched, SessionRefused}
 use Rattle.debug_cli.specs.Named.{SourceRefused, Supplied, made_text, start_in, subject_in}
+
+-- no fetch of a file that the words name failed
+abbrev pub AllCame : (before after : Outside) → Type 0
+AllCame before after = NoFetchFailed before.counts after.counts before.streams.left after.streams.left
 
 same_some : {A : Type 0} {a b : A} → Some a ≡ Some b → a ≡ b
 same_some e = cc
@@ -130,21 +134,24 @@ module _ (r : Requested) (files : Option FileMap) (told : IsSome files) where
           let lt : limit < length bytes = more in omega (arith, lt, f.1)
 
   -- no fetch failed, so a file that is there was fetched
-  pub no_fault_at : (before now : KeeperCounts) → NoFetchFailed before now → (x : NotFetched r files) → Fits x.file → CountsFetch (Err x.why) before now → ⊥
-  no_fault_at before now well x f counts = by x.why x.cause counts
+  pub no_fault_at : (before after : Outside) → AllCame before after → LeavesAlone before after → (x : NotFetched r files) → Fits x.file
+      → CountsFetch (Err x.why) before.counts after.counts → ⊥
+  no_fault_at before after well alone x f counts = by x.why x.cause counts
     where
-      failed : NoFetchFailed before now → CountsFetch (Err FetchFault.Failed) before now → ⊥
+      failed : AllCame before after → CountsFetch (Err FetchFault.Failed) before.counts after.counts → ⊥
       failed (inl stayed) counts = stayed (ap (λ (c : KeeperCounts). c.faults) counts)
-      failed (inr stored) counts = stored (ap (λ (c : KeeperCounts). c.stores) counts)
+      failed (inr (inl stored)) counts = stored (ap (λ (c : KeeperCounts). c.stores) counts)
+      failed (inr (inr taken)) counts = taken alone.left
 
-      by : (why : FetchFault) → IsFetchFault why x.file files → CountsFetch (Err why) before now → ⊥
+      by : (why : FetchFault) → IsFetchFault why x.file files → CountsFetch (Err why) before.counts after.counts → ⊥
       by FetchFault.Absent cause counts = no_lack x.file.name f.0 x.file.limit f.1 cause
       by FetchFault.Failed cause counts = failed well counts
       by (FetchFault.TooLong limit) cause counts = no_longer x.file.name f.0 x.file.limit f.1 cause
       by FetchFault.Memory cause counts = cause
 
-  pub no_fault : Comes → (before now : KeeperCounts) → NoFetchFailed before now → (x : NotFetched r files) → CountsFetch (Err x.why) before now → ⊥
-  no_fault comes before now well x counts = no_fault_at before now well x (comes x.file x.sought) counts
+  pub no_fault : Comes → (before after : Outside) → AllCame before after → LeavesAlone before after → (x : NotFetched r files)
+      → CountsFetch (Err x.why) before.counts after.counts → ⊥
+  no_fault comes before after well alone x counts = no_fault_at before after well alone x (comes x.file x.sought) counts
 
 -- the lines of a made program
 pub same_made : OneRun → (number : ℕ) (a b : MadeProgram number) → made_text a ≡ made_text b

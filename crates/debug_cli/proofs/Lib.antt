@@ -1,6 +1,9 @@
 pub mod ByStatus
+mod BytesAreReadOnce
 mod CallsAreRecorded
+mod ClapReadsWords
 pub mod DigestsAreWhole
+mod DigitsSpellNumbers
 pub mod FilesAreTold
 pub mod MadeSourceIsShort
 pub mod RefusalsAreOwed
@@ -9,4 +12,5 @@ pub mod StatusByCode
 pub mod StatusIsRefusal
 pub mod StatusTellsWhy
 pub mod TranscriptIsGiven
+mod TranscriptsAreOne
 pub mod WhatIsSupplied

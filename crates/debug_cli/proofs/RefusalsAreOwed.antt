@@ -3,11 +3,10 @@ use Rattle.std.proofs.Common.{◌≡◌, ◌⊎◌, ℕ, Bor, Err, List, None, O
 use Rattle.edge_ports.specs.{Counts.CountsFetch, Files.FileMap, Files.HoldsLonger, Files.LacksFile, declared.ports.FetchFault.FetchFault}
 use Rattle.session_file.specs.{Reading.session_of, declared.session.LoadFault.LoadFault, declared.session.Session.Session}
 use Rattle.ask_session.specs.Outside.{Outside}
-use Rattle.command_words.specs.Meaning.{Meant, Requested, Source}
 use Rattle.debuggee.specs.{Program.IsRefused, declared.source.SourceFault.SourceFault}
-use Rattle.debug_cli.specs.{Goes.Owes, Limits.session_bytes, Refusals.IsRefusal, Refusals.file_told, Refusals.session_told, Texts.file_line, Texts.session_line}
+use Rattle.debug_cli.specs.{Goes.Owes, Limits.session_bytes, Meaning.Meant, Meaning.Requested, Meaning.Source, Refusals.IsRefusal, Refusals.file_told}
+use Rattle.debug_cli.specs.{Refusals.session_told, Texts.file_line, Texts.session_line, declared.refusals.Refusal.Refusal, declared.status.Status.Status}
 use Rattle.debug_cli.specs.Named.{FileSought, IsFetchFault, IsFetched, IsSought, IsSource, Supplied}
-use Rattle.debug_cli.specs.declared.{refusals.Refusal.Refusal, status.Status.Status}
 
 same_some : {A : Type 0} {a b : A} → Some a ≡ Some b → b ≡ a
 same_some e = cc

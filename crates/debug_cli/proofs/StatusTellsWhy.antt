@@ -2,11 +2,11 @@
 use Rattle.std.proofs.Common.{◌≡◌, ℕ, List, None, Option, Some, inl, inr, refl, subst, sym}
 use Rattle.core_program.specs.WholeTables.{WholeTables}
 use Rattle.ask_session.specs.{Outside.Outside, Went.Went, declared.dialog.Ending.Ending}
-use Rattle.command_words.specs.Meaning.{Made, Meant, Requested, Source}
-use Rattle.debug_cli.specs.{Given.GivesText, Goes.Goes, Goes.HasGone, Goes.Owes, Goes.Says, Outside.LeavesAlone, Outside.outside, Status.session_status}
-use Rattle.debug_cli.specs.{Texts.usage_line, declared.refusals.Refusal.Refusal, declared.status.Status.Status}
+use Rattle.debuggee.specs.References.{IsReading}
+use Rattle.debug_cli.specs.{Given.GivesText, Goes.Goes, Goes.HasGone, Goes.Owes, Goes.Says, Meaning.Made, Meaning.Meant, Meaning.Requested, Meaning.Source}
+use Rattle.debug_cli.specs.{Outside.LeavesAlone, Outside.outside, Refusals.GivesLine, Refusals.IsRefusal, Refusals.line_on, Refusals.refusal_status}
+use Rattle.debug_cli.specs.{Status.session_status, Texts.usage_line, declared.refusals.Refusal.Refusal, declared.status.Status.Status}
 use Rattle.debug_cli.specs.Named.{Begun, MadeProgram, made_text, start_in, subject_in}
-use Rattle.debug_cli.specs.Refusals.{GivesLine, IsRefusal, line_on, refusal_status}
 
 -- the keeper alone
 abbrev pub keeper_of : Outside → Outside
@@ -53,7 +53,7 @@ refusal_goes m before after left why is result (inr g) =
 -- ---- a session
 
 pub talk_goes : (r : Requested) (before after : Outside) (b : Begun r before.files) → WholeTables b.run.source.rows → (e : Ending)
-    → Went (subject_in b) (start_in b) before e after → Goes (Some (Source r)) before after (session_status e)
+    → Went IsReading (subject_in b) (start_in b) before e after → Goes (Some (Source r)) before after (session_status e)
 talk_goes r before after b whole Ending.Done w = inr (b, w, whole)
 talk_goes r before after b whole Ending.Console w = (b, w, whole)
 talk_goes r before after b whole Ending.Screen w = inr (b, w, whole)

@@ -3,10 +3,9 @@ use Rattle.std.proofs.Common.{◌∙◌, ◌≡◌, ◌≤◌, ℕ, IfSome, List
 use Rattle.pas_lexer.specs.Limits.{source_bytes}
 use Rattle.session_file.specs.Whole.{IsWhole}
 use Rattle.ask_session.specs.Outside.{Outside}
-use Rattle.command_words.specs.Meaning.{Requested}
 use Rattle.debuggee.specs.{Limits.input_bytes, Program.IsProgram, declared.source.SourceProgram.SourceProgram}
+use Rattle.debug_cli.specs.{Meaning.Requested, Refusals.IsSupplied}
 use Rattle.debug_cli.specs.Named.{Checked, IsFetched, IsInput, IsSaved, Supplied}
-use Rattle.debug_cli.specs.Refusals.{IsSupplied}
 use Rattle.debug_cli.specs.declared.files.Supplied as code
 
 -- the bytes that were read are those that were fetched

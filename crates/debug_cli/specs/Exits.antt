@@ -1,8 +1,7 @@
 -- How a process ends that is the command.
 use Rattle.std.specs.{Prelude.◌≡◌, Prelude.Option, Process.exit_status, declared.process.ExitCode.ExitCode}
 use Rattle.ask_session.specs.Outside.{Outside}
-use Rattle.command_words.specs.Meaning.{Meant}
-use Rattle.debug_cli.specs.{Goes.Goes, Status.code_of, declared.status.Status.Status}
+use Rattle.debug_cli.specs.{Goes.Goes, Meaning.Meant, Status.code_of, declared.status.Status.Status}
 
 -- the code is the status, and what was done is what the command does where that is its status
 abbrev pub EndsAs : ExitCode → Option Meant → (before after : Outside) → Type 0

@@ -3,10 +3,11 @@ use Rattle.std.specs.Prelude.{◌≡◌, ◌⊎◌, ℕ, Err, List, None, Option
 use Rattle.edge_ports.specs.{Counts.CountsFetch, Told.GaveAll, Told.GavePrefix}
 use Rattle.core_program.specs.WholeTables.{WholeTables}
 use Rattle.ask_session.specs.{Outside.Outside, Went.Went, declared.dialog.Ending.Ending}
-use Rattle.command_words.specs.Meaning.{Made, Meant, Source}
-use Rattle.debug_cli.specs.{Named.subject_in, Outside.CountsOneFault, Outside.LeavesAlone, Texts.file_line}
-use Rattle.debug_cli.specs.{Texts.refused_line, Texts.session_line, Texts.usage_line, declared.status.Status.Status}
+use Rattle.debuggee.specs.References.{IsReading}
+use Rattle.debug_cli.specs.{Meaning.Made, Meaning.Meant, Meaning.Source, Named.subject_in, Outside.CountsOneFault}
+use Rattle.debug_cli.specs.{Outside.LeavesAlone, declared.status.Status.Status}
 use Rattle.debug_cli.specs.Named.{Begun, MadeProgram, NotFetched, SessionRefused, SourceRefused, made_text, start_in}
+use Rattle.debug_cli.specs.Texts.{file_line, refused_line, session_line, usage_line}
 
 -- What is said where no session is held, by what the words mean and by the status, and what the keeper's counts are
 -- then: words, sources, files and sessions are refused by one line; of a made program its lines are given.
@@ -47,7 +48,8 @@ pub record SaysNothing (before after : Outside) : Type 0 where
 -- a session is held about the run of the source that is meant, whose program has whole tables, and ends so
 abbrev pub Talks : Option Meant → (before after : Outside) → Ending → Type 0
 Talks (Some (Source r)) before after e =
-    (b : Begun r before.files) × Went (subject_in b) (start_in b) before e after × WholeTables b.run.source.rows
+    (b : Begun r before.files) × Went IsReading (subject_in b) (start_in b) before e after
+    × WholeTables b.run.source.rows
 Talks m before after e = ⊥
 
 -- by the status: why it comes, what the screen gets, and what becomes of the files and of the keeper's counts

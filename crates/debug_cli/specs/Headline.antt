@@ -1,6 +1,6 @@
 -- The theorem on a whole session, on one page: whatever was answered and taken back, what is printed follows from the
 -- source, its input, the budget and the entries that stand.
-use Rattle.std.specs.Prelude.{◌≡◌, ℕ, Bool, List, Option, Some}
+use Rattle.std.specs.Prelude.{◌≡◌, ℕ, List, Option, Some}
 use Rattle.std.specs.List.{slice_get}
 use Rattle.edge_ports.specs.{Files.FileMap, Told.GaveAll}
 use Rattle.pas_lexer.specs.Lexed.{Lexed}
@@ -9,10 +9,11 @@ use Rattle.body_replay.specs.{Laws.GivesItsExit, Replays.records_of, Replays.wor
 use Rattle.answer_book.specs.{Entries.standing_answers, declared.entries.Entry.Entry}
 use Rattle.optimal_query.specs.{Laws.IsAtFault, declared.state.SearchState.TheVariants.Found}
 use Rattle.dialog_replies.specs.Subject.{state_after}
-use Rattle.ask_session.specs.{Dialog.transcript, Laws.AsksTheBest, Laws.NarrowsTheFault}
-use Rattle.command_words.specs.Meaning.{Requested}
-use Rattle.debuggee.specs.{Execution.Execution, Execution.Supply, Execution.execution_of, Subjects.subject_of}
-use Rattle.debug_cli.specs.{Named.Begun, Named.start_in, Named.subject_in, Setting.Told}
+use Rattle.ask_session.specs.{Dialog.Granted, Dialog.transcript, Wishes.AreReadIn}
+use Rattle.ask_session.specs.Laws.{AsksTheBest, NarrowsTheFault}
+use Rattle.debuggee.specs.{References.IsReading, Subjects.subject_of}
+use Rattle.debuggee.specs.Execution.{Execution, Supply, execution_of}
+use Rattle.debug_cli.specs.{Meaning.Requested, Named.Begun, Named.start_in, Named.subject_in, Setting.Told}
 
 -- the run that a session is about: that of the program of the source, with its input and the budget that the words give
 abbrev pub execution_in : {r : Requested} {files : Option FileMap} → Begun r files → Execution
@@ -50,11 +51,13 @@ VerdictsAreFound =
 pub record Headline {r : Requested} {files : Option FileMap} {left : Option (List ℕ)} (t : Told r files left)
     (given given' : Option (List ℕ)) : Type 0
   where
-    -- for each line that asks to save, whether its file was stored
-    pub saves : List Bool
+    -- for each line that asks the keeper, what it was given: whether its file was stored, or what was fetched
+    pub granted : List Granted
+    -- what was fetched is read as what it is: a right program, or why it is none
+    pub read : AreReadIn IsReading granted
     -- What the screen got is the transcript: what each line of the console is replied, computed from the run of the
     -- source with its input and budget, and from the entries that were made and not taken back.
-    pub printed : GaveAll given given' (transcript (subject_in t.begun) (start_in t.begun) saves t.console)
+    pub printed : GaveAll given given' (transcript (subject_in t.begun) (start_in t.begun) granted t.console)
     -- A question is on a suspect; of no other suspect would the worse answer leave fewer calls to ask about.
     pub asks : AsksTheBest (subject_in t.begun)
     -- While a call is accused, one of those that are left went wrong though each call that it made went right.

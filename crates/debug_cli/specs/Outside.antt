@@ -25,9 +25,15 @@ pub record NoneRisen (before now : KeeperCounts) : Type 0 where
   pub misses : NotRisen before.misses now.misses
   pub overs : NotRisen before.overs now.overs
 
--- no fetch failed: no call of the keeper did, or files were to be stored, which comes after all fetches
-abbrev pub NoFetchFailed : KeeperCounts → KeeperCounts → Type 0
-NoFetchFailed before now = NotRisen before.faults now.faults ⊎ (now.stores ≢ before.stores)
+-- The keeper was asked to store a file, or something was taken of the console: both come after the fetches of all files
+-- that the words name.
+abbrev pub WentOn : (before now : KeeperCounts) → (left left' : Option (List ℕ)) → Type 0
+WentOn before now left left' = (now.stores ≢ before.stores) ⊎ (left' ≢ left)
+
+-- No fetch of a file that the words name failed: no call of the keeper did, or the session went on past these fetches.
+-- What lines of the console ask of the keeper may have failed then.
+abbrev pub NoFetchFailed : (before now : KeeperCounts) → (left left' : Option (List ℕ)) → Type 0
+NoFetchFailed before now left left' = NotRisen before.faults now.faults ⊎ WentOn before now left left'
 
 -- the counts of what went wrong outside
 pub record Faults : Type 0 where

@@ -4,10 +4,9 @@ use Rattle.edge_ports.specs.{Files.FileMap, declared.ports.FetchFault.FetchFault
 use Rattle.pas_lexer.specs.Limits.{source_bytes}
 use Rattle.session_file.specs.{Whole.IsWhole, declared.session.LoadFault.LoadFault}
 use Rattle.ask_session.specs.Outside.{Outside}
-use Rattle.command_words.specs.Meaning.{Meant, Requested}
 use Rattle.debuggee.specs.{Limits.input_bytes, Program.IsProgram, declared.source.SourceFault.SourceFault}
-use Rattle.debug_cli.specs.{Given.GivesNothing, Given.GivesText, Goes.Owes, Outside.CountsOneFault}
-use Rattle.debug_cli.specs.Named.{IsFetched, IsInput, IsSaved}
+use Rattle.debug_cli.specs.{Given.GivesNothing, Given.GivesText, Goes.Owes, Meaning.Meant, Meaning.Requested}
+use Rattle.debug_cli.specs.{Named.IsFetched, Named.IsInput, Named.IsSaved, Outside.CountsOneFault}
 use Rattle.debug_cli.specs.Texts.{file_line, refused_line, session_line}
 use Rattle.debug_cli.specs.declared.{files.Supplied.Supplied, refusals.Refusal.Refusal, status.Status.Status}
 use Rattle.debug_cli.specs.declared.status.Status.TheVariants as status

@@ -1,13 +1,13 @@
 -- What may be known before the command begins: the files that its words name, the program, and the console's bytes; and
 -- what follows.
-use Rattle.std.specs.Prelude.{◌≡◌, ◌⊎◌, [], ℕ, Bool, IsSome, List, None, Option, Some}
+use Rattle.std.specs.Prelude.{◌≡◌, ◌⊎◌, [], ℕ, IsSome, List, None, Option, Some}
 use Rattle.edge_ports.specs.{Counts.KeeperCounts, Files.FileMap, Lines.lines_of}
 use Rattle.dialog_replies.specs.Fit.{misfit}
-use Rattle.ask_session.specs.{Dialog.transcript, Reached.Telling, Reached.telling, Saves.Save, Saves.saves_in}
-use Rattle.ask_session.specs.Console.{EndsInTime, GoesOn, NotRisen}
-use Rattle.command_words.specs.Meaning.{Made, Meant, Requested, Source}
+use Rattle.ask_session.specs.{Console.EndsInTime, Console.GoesOn, Console.NotRisen, Dialog.Granted, Dialog.transcript}
+use Rattle.ask_session.specs.{Reached.Telling, Reached.telling, Wishes.Wish, Wishes.wishes_in}
 use Rattle.debuggee.specs.Program.{NoProgram}
 use Rattle.debug_cli.specs.{Named.subject_in, Outside.Faults, Outside.NoFetchFailed, declared.status.Status.Status}
+use Rattle.debug_cli.specs.Meaning.{Made, Meant, Requested, Source}
 use Rattle.debug_cli.specs.Named.{Begun, IsSource, MadeProgram, SessionRefused, Words, made_text, meaning, start_in}
 
 -- a session can be held: the keeper tells its files, and they are what the request names; and the console tells its
@@ -25,26 +25,27 @@ pub data Setting (words : Words) (files : Option FileMap) (left : Option (List �
 
 -- what is said of a made program: its lines, and no file is asked for
 abbrev pub telling_made : {number : ℕ} → MadeProgram number → Telling
-telling_made x = record { text = λ saves lines. made_text x; asked = λ lines. [] }
+telling_made x = record { text = λ granted lines. made_text x; asked = λ granted lines. [] }
 
 module _ {words : Words} {files : Option FileMap} {left : Option (List ℕ)} where
-  -- The whole of what is printed, by the answers that the lines got that ask to save; of a made program its lines.
-  abbrev pub transcript_of : Setting words files left → (saves : List Bool) → List ℕ
-  transcript_of (InFiles r means told) saves =
-      transcript (subject_in told.begun) (start_in told.begun) saves told.console
-  transcript_of (IsMade number means x) saves = made_text x
+  -- The whole of what is printed, by what the lines were given that ask the keeper; of a made program its lines.
+  abbrev pub transcript_of : Setting words files left → (granted : List Granted) → List ℕ
+  transcript_of (InFiles r means told) granted =
+      transcript (subject_in told.begun) (start_in told.begun) granted told.console
+  transcript_of (IsMade number means x) granted = made_text x
 
-  -- what the lines of the console ask to save
-  abbrev pub saves_of : Setting words files left → List Save
-  saves_of (InFiles r means told) = saves_in (subject_in told.begun) (start_in told.begun) (lines_of told.console)
-  saves_of (IsMade number means x) = []
+  -- what the lines of the console ask for
+  abbrev pub wishes_of : Setting words files left → (granted : List Granted) → List Wish
+  wishes_of (InFiles r means told) granted =
+      wishes_in (subject_in told.begun) (start_in told.begun) granted (lines_of told.console)
+  wishes_of (IsMade number means x) granted = []
 
   -- the lines of the console; of a made program none is read
   abbrev pub lines_of_console : Setting words files left → List (List ℕ)
   lines_of_console (InFiles r means told) = lines_of told.console
   lines_of_console (IsMade number means x) = []
 
-  -- what is said of them, and what they ask to save
+  -- what is said of them, and what they ask for
   abbrev pub telling_of : Setting words files left → Telling
   telling_of (InFiles r means told) = telling (subject_in told.begun) (start_in told.begun)
   telling_of (IsMade number means x) = telling_made x
@@ -59,16 +60,17 @@ module _ {words : Words} {files : Option FileMap} {left : Option (List ℕ)} whe
   ComesTo (IsMade number means x) Status.Done = Unit {0}
   ComesTo s wanted = ⊥
 
-  -- no fetch failed; of a made program there is none
-  abbrev pub AllFetched : Setting words files left → (before now : KeeperCounts) → Type 0
-  AllFetched (InFiles r means told) before now = NoFetchFailed before now
-  AllFetched (IsMade number means x) before now = Unit {0}
+  -- no fetch of a file that the words name failed; a made program names none
+  abbrev pub AllFetched : Setting words files left → (before now : KeeperCounts) → (left' : Option (List ℕ)) → Type 0
+  AllFetched (InFiles r means told) before now left' = NoFetchFailed before now left left'
+  AllFetched (IsMade number means x) before now left' = Unit {0}
 
-  -- no fetch failed, and neither did the console nor the screen; of a made program there is but the screen
-  abbrev pub NothingFailed : Setting words files left → (before now : Faults) → Type 0
-  NothingFailed (InFiles r means told) before now =
-      NoFetchFailed before.keeper now.keeper × NotRisen before.console now.console × NotRisen before.screen now.screen
-  NothingFailed (IsMade number means x) before now = NotRisen before.screen now.screen
+  -- nor did the console or the screen fail; of a made program there is but the screen
+  abbrev pub NothingFailed : Setting words files left → (before now : Faults) → (left' : Option (List ℕ)) → Type 0
+  NothingFailed (InFiles r means told) before now left' =
+      NoFetchFailed before.keeper now.keeper left left' × NotRisen before.console now.console
+      × NotRisen before.screen now.screen
+  NothingFailed (IsMade number means x) before now left' = NotRisen before.screen now.screen
 
 -- ---- words that mean a source of which no session can be held
 

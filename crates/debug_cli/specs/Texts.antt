@@ -2,7 +2,7 @@
 use Rattle.std.specs.Prelude.{◌++◌, [], ℕ, List, codes, decimal}
 use Rattle.edge_ports.specs.declared.ports.FetchFault.{FetchFault}
 use Rattle.session_file.specs.declared.session.{LoadFault.LoadFault, SessionField.SessionField}
-use Rattle.debuggee.specs.declared.refusal.SourceRefusal.{SourceRefusal}
+use Rattle.debuggee.specs.{Refusing.refusal_at, declared.refusal.SourceRefusal.SourceRefusal}
 
 abbrev pub usage_line : List ℕ
 usage_line = codes "usage: pasask SOURCE [--input F] [--budget N] [--load F]\n"
@@ -23,30 +23,10 @@ file_line FetchFault.Failed name = failed_line name
 file_line (FetchFault.TooLong limit) name = too_long_line name
 file_line FetchFault.Memory name = []
 
--- the name of a reason for which a source is refused
-abbrev pub refusal_name : SourceRefusal → List ℕ
-refusal_name SourceRefusal.BadByte = codes "BadByte"
-refusal_name SourceRefusal.OpenComment = codes "OpenComment"
-refusal_name SourceRefusal.OpenString = codes "OpenString"
-refusal_name SourceRefusal.EmptyString = codes "EmptyString"
-refusal_name SourceRefusal.RealWord = codes "RealWord"
-refusal_name SourceRefusal.TooLarge = codes "TooLarge"
-refusal_name SourceRefusal.Joined = codes "Joined"
-refusal_name SourceRefusal.NotProgram = codes "NotProgram"
-refusal_name SourceRefusal.TooDeep = codes "TooDeep"
-refusal_name (SourceRefusal.Rule rule) = codes "Rule"
-refusal_name SourceRefusal.TooBig = codes "TooBig"
-
--- why a source is refused: the reason's name, and after it the number of a rule
-abbrev pub refusal_text : SourceRefusal → List ℕ
-refusal_text (SourceRefusal.Rule rule) = codes "Rule " ++ decimal rule
-refusal_text why = refusal_name why
-
 -- a source that is no program of the language, at a place of it
 abbrev pub refused_line : SourceRefusal → (line byte : ℕ) → List ℕ
 refused_line why line byte =
-    codes "refused: " ++ refusal_text why ++ codes ", line " ++ decimal line ++ codes ", byte " ++ decimal byte
-    ++ codes "\n"
+    codes "refused: " ++ refusal_at why line byte ++ codes "\n"
 
 -- the key of a field of a session's text
 abbrev pub field_key : SessionField → List ℕ

@@ -3,17 +3,17 @@ ghost use Rattle.std.specs.Prelude.{◌≡◌, ◌≤◌, IfOk, IfSome, IsTrue, 
 ghost use Rattle.sha2.specs.Sha256.{sha256};
 ghost use Rattle.edge_ports.specs.Counts.{Counted};
 ghost use Rattle.session_file.specs.Whole.{IsDigest, IsWhole};
-ghost use Rattle.command_words.specs.{Meaning.IsBudget, Meaning.Requested, Meaning.Source, Reading.requested_by};
 ghost use Rattle.debuggee.specs.Limits.{input_bytes};
-ghost use Rattle.debug_cli.specs.{Goes.HasGone, Outside.outside, Status.is_console, Status.is_screen};
+ghost use Rattle.debug_cli.specs.{Goes.HasGone, Outside.outside, Reading.requested_by, Refusals.IsSupplied};
+ghost use Rattle.debug_cli.specs.{Refusals.UnlessRefused, Status.is_console, Status.is_screen};
+ghost use Rattle.debug_cli.specs.Meaning.{IsBudget, Requested, Source};
 ghost use Rattle.debug_cli.specs.Named.{Checked, IsFetched, IsInput, IsSaved, IsSought};
 ghost use Rattle.debug_cli.specs.Named as named;
-ghost use Rattle.debug_cli.specs.Refusals.{IsSupplied, UnlessRefused};
 
 use crate::refusals::Refusal;
+use crate::request::Request;
 use crate::status::{Status, status_of};
 use ask_session::converse;
-use command_words::Request;
 use debuggee::{INPUT_BYTES, SourceProgram, read_source, run_program};
 use dialog_replies::Start;
 use edge_ports::{Bytes, Keeper, Printer, Source};

@@ -2,7 +2,8 @@
 ghost use Rattle.body_replay.specs.Laws.{BodiesGiveTheirExits};
 ghost use Rattle.ask_session.specs.Laws.{AsksTheBest, FindsTheFault, NamesTheAccused, NarrowsTheFault};
 ghost use Rattle.ask_session.specs.LineActs.{EntriesFollowLines};
-ghost use Rattle.debug_cli.specs.{Headline.VerdictsAreFound, Laws.InEachRun, Laws.OneRun};
+ghost use Rattle.debug_cli.specs.Headline.{VerdictsAreFound};
+ghost use Rattle.debug_cli.specs.Laws.{InEachRun, OneReading, OneRun, OneTranscript};
 
 use ask_session::{entries_follow_lines, reports_are_sound};
 use body_replay::bodies_give_their_exits;
@@ -16,6 +17,22 @@ pub fn one_run()
 {
     division_laws();
     one_text_one_program();
+}
+
+/// Bytes are one right program at most; or they are none, for one reason at one place.
+pub fn one_reading()
+    ensures { OneReading }
+{
+    division_laws();
+    one_text_one_program();
+}
+
+/// What is printed follows from whether each file was stored that lines ask to store, and from what was fetched for
+/// those that ask for a right program: bytes or nothing.
+pub fn one_transcript()
+    ensures { OneTranscript }
+{
+    one_reading();
 }
 
 /// What is asked is best, what is found is at fault, and once a call is accused one of those that are left is buggy, in

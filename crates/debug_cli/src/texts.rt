@@ -1,11 +1,10 @@
 //! The texts on what is refused.
-ghost use Rattle.std.specs.Prelude.{◌++◌, ◌≡◌, IfOk, OnOk, Some, codes, decimal};
+ghost use Rattle.std.specs.Prelude.{◌++◌, ◌≡◌, IfOk, Some, codes, decimal};
 ghost use Rattle.debug_cli.specs.Refusals.{file_told, line_on, session_told};
-ghost use Rattle.debug_cli.specs.Texts.{field_key, refusal_name, refusal_text, refused_line};
+ghost use Rattle.debug_cli.specs.Texts.{field_key, refused_line};
 
 use crate::refusals::Refusal;
-use debuggee::{SourceFault, SourceRefusal};
-use dialog_replies::write_number;
+use debuggee::{SourceFault, SourceRefusal, write_refusal};
 use edge_ports::{Bytes, FetchFault};
 use itoa::Buffer;
 use session_file::{LoadFault, SessionField};
@@ -34,39 +33,6 @@ fn file_text(alloc: Global, name: &[u8], why: FetchFault) -> Result<Bytes, Alloc
     }
 }
 
-/// The name of a reason for which a source is refused.
-fn refusal_name(why: SourceRefusal) -> &'static str
-    ensures { result.now ≡ refusal_name why }
-{
-    match why {
-        SourceRefusal::BadByte => "BadByte",
-        SourceRefusal::OpenComment => "OpenComment",
-        SourceRefusal::OpenString => "OpenString",
-        SourceRefusal::EmptyString => "EmptyString",
-        SourceRefusal::RealWord => "RealWord",
-        SourceRefusal::TooLarge => "TooLarge",
-        SourceRefusal::Joined => "Joined",
-        SourceRefusal::NotProgram => "NotProgram",
-        SourceRefusal::TooDeep => "TooDeep",
-        SourceRefusal::Rule(_) => "Rule",
-        SourceRefusal::TooBig => "TooBig",
-    }
-}
-
-/// Appends why a source is refused, with the number of a rule.
-fn write_refusal(out: &mut Bytes, why: SourceRefusal) -> Result<(), AllocError>
-    ensures { OnOk result (out.new ≡ out.old ++ refusal_text why) }
-{
-    match why {
-        SourceRefusal::Rule(rule) => {
-            out.append(b"Rule ")?;
-            write_number(out, rule)?;
-        }
-        _ => out.append(refusal_name(why).as_bytes())?,
-    }
-    Ok(())
-}
-
 /// The line on a source that is refused for this reason at this place.
 fn refused_text(
     alloc: Global,
@@ -78,11 +44,7 @@ fn refused_text(
 {
     let mut text = Bytes::new(alloc);
     text.append(b"refused: ")?;
-    write_refusal(&mut text, why)?;
-    text.append(b", line ")?;
-    write_number(&mut text, line)?;
-    text.append(b", byte ")?;
-    write_number(&mut text, byte)?;
+    write_refusal(&mut text, why, line, byte)?;
     text.append(b"\n")?;
     Ok(text)
 }

@@ -12,3 +12,4 @@ pub mod TracesHaveLines
 pub mod ClassesOfRuns
 pub mod SlicesOfRuns
 pub mod SlicesTold
+mod ReferencesSay

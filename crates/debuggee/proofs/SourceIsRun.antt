@@ -1,6 +1,6 @@
 -- From the pieces of a source to its tokens, its program and its run.
-use Rattle.std.proofs.Common.{◌∙◌, ◌≡◌, [], ℕ, Contains, Err, List, arith, inl, inr, subst, sym}
-use Rattle.pas_lexer.specs.{Division.IsLexed, Lexed.Lexed, declared.kinds.LexFault.LexFault, declared.kinds.Token.Token}
+use Rattle.std.proofs.Common.{◌∙◌, ◌≡◌, [], ℕ, Contains, Err, List, arith, inl, inr, refl, subst, sym}
+use Rattle.pas_lexer.specs.{Division.IsFault, Division.IsLexed, Lexed.Lexed, declared.kinds.LexFault.LexFault, declared.kinds.Token.Token}
 use Rattle.pas_tree.specs.{BlockTrees.program_tree, Blocks.tree_node, declared.blocks.Tree.Tree}
 use Rattle.pas_parser.specs.Formed.{IsText}
 use Rattle.core_program.specs.ProgramRows.{ProgramRows}
@@ -9,7 +9,7 @@ use Rattle.code_checker.specs.{CheckedPrograms.broken, Declarations.IsTextOf, On
 use Rattle.code_checker.specs.Programs as check
 use Rattle.code_checker.specs.declared.programs.ProgramFault.{ProgramFault}
 use Rattle.debuggee.specs.Execution.{Supply, execution_of}
-use Rattle.debuggee.specs.Program.{IsMisfit, IsProgram, IsRead, IsRefused, IsUnlexed, IsUnread, Keeps, TokensAre, fault_of_check}
+use Rattle.debuggee.specs.Program.{IsProgram, IsRead, IsRefused, IsUnlexed, IsUnread, Keeps, TokensAre, fault_of_check, fault_of_piece}
 use Rattle.debuggee.specs.declared.source.SourceFault.{SourceFault, TheVariants.Memory, TheVariants.Refused}
 
 -- ---- no tokens
@@ -23,18 +23,23 @@ pub no_tokens_refused : (source : List ℕ) (e : SourceFault) → IsUnlexed sour
 no_tokens_refused source (Refused why line byte) h = (λ t p is. h.0 t.tokens is.lexed, inl h.1)
 no_tokens_refused source Memory h = tt
 
--- a fault of the lexer that has no tokens beside it
-pub misfit_unlexed : (source : List ℕ) (fault : LexFault) (r : SourceFault) → ((tokens : List Token) → IsLexed source tokens → fault ≡ LexFault.Memory)
-    → (fault ≡ LexFault.Memory → r ≡ Memory) → IsMisfit source r → IsUnlexed source r
-misfit_unlexed source fault (Refused why line byte) only memory m =
-    ((λ tokens l. let e : Refused why line byte ≡ Memory = memory (only tokens l) in let x : ⊥ = cc in x), m)
-misfit_unlexed source fault Memory only memory m = tt
+-- what is told of a fault of the lexer beside which there are no tokens, but of want of memory
+pub piece_unlexed : (source : List ℕ) (fault : LexFault) → IsFault source fault
+    → ((tokens : List Token) → IsLexed source tokens → fault ≡ LexFault.Memory) → IsUnlexed source (fault_of_piece source fault)
+piece_unlexed source (LexFault.BadByte byte) h only = ((λ tokens l. let e = only tokens l in let x : ⊥ = cc in x), (h, refl))
+piece_unlexed source (LexFault.OpenComment byte) h only = ((λ tokens l. let e = only tokens l in let x : ⊥ = cc in x), (h, refl))
+piece_unlexed source (LexFault.OpenString byte) h only = ((λ tokens l. let e = only tokens l in let x : ⊥ = cc in x), (h, refl))
+piece_unlexed source (LexFault.EmptyString byte) h only = ((λ tokens l. let e = only tokens l in let x : ⊥ = cc in x), (h, refl))
+piece_unlexed source (LexFault.RealWord byte) h only = ((λ tokens l. let e = only tokens l in let x : ⊥ = cc in x), (h, refl))
+piece_unlexed source (LexFault.TooLarge byte) h only = ((λ tokens l. let e = only tokens l in let x : ⊥ = cc in x), (h, refl))
+piece_unlexed source (LexFault.Joined byte) h only = ((λ tokens l. let e = only tokens l in let x : ⊥ = cc in x), (h, refl))
+piece_unlexed source LexFault.Memory h only = tt
 
-pub misfit_only : (source : List ℕ) (fault : LexFault) (r : SourceFault) → ((tokens : List Token) → IsLexed source tokens → fault ≡ LexFault.Memory)
-    → (fault ≡ LexFault.Memory → r ≡ Memory) → (tokens : List Token) → IsLexed source tokens → TokensAre tokens (Err r)
-misfit_only source fault (Refused why line byte) only memory tokens l =
-    let e : Refused why line byte ≡ Memory = memory (only tokens l) in absurd (let x : ⊥ = cc in x)
-misfit_only source fault Memory only memory tokens l = tt
+-- and that of a source that has tokens is want of memory
+pub piece_only : (source : List ℕ) (fault : LexFault) → ((tokens : List Token) → IsLexed source tokens → fault ≡ LexFault.Memory)
+    → (tokens : List Token) → IsLexed source tokens → TokensAre tokens (Err (fault_of_piece source fault))
+piece_only source fault only tokens l =
+    subst (λ (f : LexFault). TokensAre tokens (Err (fault_of_piece source f))) (sym (only tokens l)) tt
 
 -- ---- one program of one text
 

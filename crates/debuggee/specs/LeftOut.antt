@@ -1,14 +1,15 @@
 -- What cards and traces leave out: the lines on links, and no others. And which cells have no name.
-use Rattle.std.specs.Prelude.{◌-◌, ◌<◌, ◌||◌, ◌≡◌, ◌≤◌, ◌⊎◌, [], ℕ, All, Bool, IsSome, List, None, Some, false, is_some}
-use Rattle.std.specs.Prelude.{length, slice_get, true}
-use Rattle.cell_value.specs.Effects.{changes_of, heap_start, reads_of}
-use Rattle.cell_value.specs.declared.{entries.Seen.Seen, entries.Seen.TheVariants.Absent, values.Value.Value}
-use Rattle.cell_value.specs.declared.entries.Change.{Change, TheVariants.Gone}
+use Rattle.std.specs.Prelude.{◌++◌, ◌-◌, ◌<◌, ◌||◌, ◌∷◌, ◌≡◌, ◌≤◌, ◌⊎◌, [], ℕ, All, Bool, IsSome, List, Some, false}
+use Rattle.std.specs.{Prelude.is_some, Prelude.length, Prelude.slice_get, Prelude.true, List.list_any}
+use Rattle.cell_value.specs.{Effects.changes_of, Effects.heap_start, Effects.reads_of, declared.values.Value.Value}
+use Rattle.cell_value.specs.declared.entries.{Seen.Seen, Seen.TheVariants.Absent, Touch.Touch}
 use Rattle.pas_lexer.specs.Lexed.{Lexed}
-use Rattle.core_program.specs.{Replay.Event, Replay.Replaying, Run.Result, Run.run, WholeTables.WholeTables}
-use Rattle.core_program.specs.ProgramRows.{ProgramRows, frame_of, routine_at}
-use Rattle.core_program.specs.declared.program.Routine.{Routine}
+use Rattle.core_program.specs.{ProgramRows.ProgramRows, ProgramRows.frame_of, ProgramRows.routine_at, Replay.Replaying}
+use Rattle.core_program.specs.{Run.Result, Run.run, WholeTables.WholeTables, declared.program.Routine.Routine}
+use Rattle.core_program.specs.Replay as replay
+use Rattle.run_laws.specs.HeapLaws.{is_disposed, makes_variable}
 use Rattle.call_tree.specs.{Told.part_of, declared.records.Call.Call}
+use Rattle.call_tree.specs.declared.events.Event.{Event, TheVariants.Child, TheVariants.Line}
 use Rattle.body_replay.specs.Replays.{kept_event, work_of}
 use Rattle.cell_names.specs.{Layouts.frame_parts, Places.finds, declared.places.PlacedPart.PlacedPart}
 use Rattle.cell_names.specs.Names.{Scene, is_link, is_result, local_at, root_at}
@@ -49,23 +50,28 @@ CardsLeaveOutLinks = (p : ProgramRows) (t : Lexed) (s : Supply) (number : ℕ) (
 
 -- ---- traces
 
--- each event of the own work of a call of a run has its line
+-- a call that a body made is one of the run, and its routine is there
+pub record MadeCall (r : Recorded) (number : ℕ) : Type 0 where
+  pub call : Call
+  pub is : slice_get r.calls number ≡ Some call
+  pub routine : IsSome (routine_at r.program call.routine)
+
+-- the call that the line of an event names, if it names one
+abbrev pub NamesCall : Recorded → Event → Type 0
+NamesCall r (Line line) = Unit {0}
+NamesCall r (Child number) = MadeCall r number
+
+-- each event of the own work of a call of a run has its line; and where that names a call, it is there
 abbrev pub TracesLeaveOutNothing : Type 0
 TracesLeaveOutNothing = (p : ProgramRows) → WholeTables p → (t : Lexed) (s : Supply) (number : ℕ)
-    (work : Result Replaying Event) → number < length (execution_of t p s).recorded.calls
+    (work : Result Replaying replay.Event) → number < length (execution_of t p s).recorded.calls
     → work_of p (run p s.input s.budget) number ≡ Some work
-    → All (λ e. IsLine (event_line (execution_of t p s).recorded (kept_event e.event))) work.events
+    → All
+    (λ e. IsLine (event_line (execution_of t p s).recorded (kept_event e.event))
+    × NamesCall (execution_of t p s).recorded (kept_event e.event))
+    work.events
 
 -- ---- names
-
--- whether a cell was there, by what was shown of it, or was left there
-abbrev pub is_there : Seen → Bool
-is_there Absent = false
-is_there seen = true
-
-abbrev pub is_left_there : Change → Bool
-is_left_there Gone = false
-is_left_there change = true
 
 -- whether a place of a routine's frame is that of its result, or a parameter or a variable begins there or before
 abbrev pub is_filled : ProgramRows → (routine place : ℕ) → Routine → Bool
@@ -88,23 +94,35 @@ pub record LiesUnfilled (s : Scene) (address : ℕ) : Type 0 where
   pub unfilled : Unfilled s.program number (address - part.place)
 
 -- The cell at an address has a name, or it is a link. Or else it has its place in a frame where nothing begins at or
--- before it; or it was not there, and its address is one of the heap at or below which the run never made a variable.
-pub data NamedAs (s : Scene) (address : ℕ) (there : Bool) : Type 0 where
-  Named : IsSome (root_at s address) → NamedAs s address there
-  Link : is_link s address ≡ true → NamedAs s address there
-  NotFilled : LiesUnfilled s address → NamedAs s address there
-  NeverMade : there ≡ false → heap_start ≤ address → s.finding.block address ≡ None → NamedAs s address there
+-- before it.
+pub data NamedAs (s : Scene) (address : ℕ) : Type 0 where
+  Named : IsSome (root_at s address) → NamedAs s address
+  Link : is_link s address ≡ true → NamedAs s address
+  NotFilled : LiesUnfilled s address → NamedAs s address
 
--- So it is with each cell of a call's reads and changes, and with the cells of its parameters that have their places in
--- its frame; and of its result the type is known.
+-- An address of the heap was asked for in a run that never made a variable there. That was the last thing that a call
+-- touched, which ended with the fault `Disposed`.
+pub record IsLastMiss (log : List Touch) (call : Call) (address : ℕ) (seen : Seen) : Type 0 where
+  pub absent : seen ≡ Absent
+  pub in_heap : heap_start ≤ address
+  pub none_made : list_any makes_variable log ≡ false
+  pub before : List Touch
+  pub last : part_of log call ≡ before ++ Touch.Has address false ∷ []
+  pub way : is_disposed call.way ≡ true
+
+-- what is shown of a cell that a call read or asked for: of one that has a name, or of that last one
+pub data SeenAs (r : Recorded) (number : ℕ) (call : Call) (x : ℕ × Seen) : Type 0 where
+  OfNamed : NamedAs (scene_of r number) x.0 → SeenAs r number call x
+  OfLastMiss : IsLastMiss r.log call x.0 x.1 → SeenAs r number call x
+
+-- So it is with each cell of a call's reads; each cell that it changed has a name, but for links and unfilled places,
+-- and so have the cells of its parameters that have their places in its frame; and of its result the type is known.
 pub record IsNamed (r : Recorded) (number : ℕ) (call : Call) : Type 0 where
   pub parameters : (place : ℕ) → 0 < place → place < frame_of r.program call.routine
       → IsSome (local_at (scene_of r number) call.routine place) ⊎ Unfilled r.program call.routine place
-  pub reads : All
-      (λ x. NamedAs (scene_of r number) x.0 (is_there x.1))
-      (reads_of call.entry.top (part_of r.log call))
+  pub reads : All (SeenAs r number call) (reads_of call.entry.top (part_of r.log call))
   pub changes : All
-      (λ x. NamedAs (scene_of r number) x.0 (is_left_there x.1))
+      (λ x. NamedAs (scene_of r number) x.0)
       (changes_of call.entry.top (part_of r.log call))
   pub result : (v : Value) → call.result ≡ Some v → IsSome (result_type r.program (routine_at r.program call.routine))
 

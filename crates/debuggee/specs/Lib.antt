@@ -2,6 +2,8 @@ pub mod Limits
 pub mod Told
 pub mod Execution
 pub mod Slicing
+pub mod Refusing
+pub mod References
 pub mod Subjects
 pub mod Program
 pub mod LeftOut

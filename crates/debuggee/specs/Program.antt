@@ -79,16 +79,22 @@ abbrev pub IsRefused : List ℕ → SourceFault → Type 0
 IsRefused source (Refused why line byte) = NoProgram source × Refuses source why line byte
 IsRefused source Memory = Unit {0}
 
--- why and where a piece does not fit
-abbrev pub IsMisfit : List ℕ → SourceFault → Type 0
-IsMisfit source (Refused why line byte) = RefusesPiece source why line byte
-IsMisfit source Memory = Unit {0}
-
 -- a source that has no division into pieces is refused at the first that does not fit
 abbrev pub IsUnlexed : List ℕ → SourceFault → Type 0
 IsUnlexed source (Refused why line byte) =
     ((tokens : List Token) → IsLexed source tokens → ⊥) × RefusesPiece source why line byte
 IsUnlexed source Memory = Unit {0}
+
+-- how the fault of a piece is told
+abbrev pub fault_of_piece : (source : List ℕ) → LexFault → SourceFault
+fault_of_piece source (LexFault.BadByte at) = Refused SourceRefusal.BadByte (line_at source at) at
+fault_of_piece source (LexFault.OpenComment at) = Refused SourceRefusal.OpenComment (line_at source at) at
+fault_of_piece source (LexFault.OpenString at) = Refused SourceRefusal.OpenString (line_at source at) at
+fault_of_piece source (LexFault.EmptyString at) = Refused SourceRefusal.EmptyString (line_at source at) at
+fault_of_piece source (LexFault.RealWord at) = Refused SourceRefusal.RealWord (line_at source at) at
+fault_of_piece source (LexFault.TooLarge at) = Refused SourceRefusal.TooLarge (line_at source at) at
+fault_of_piece source (LexFault.Joined at) = Refused SourceRefusal.Joined (line_at source at) at
+fault_of_piece source LexFault.Memory = Memory
 
 -- how the fault of a check is told
 abbrev pub fault_of_check : ProgramFault → SourceFault

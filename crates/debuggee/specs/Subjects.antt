@@ -7,7 +7,7 @@ use Rattle.question_text.specs.{States.has_cell, States.state_text, Traces.trace
 use Rattle.question_text.specs.Cards.{Recorded, card, question}
 use Rattle.answer_reuse.specs.Classes.{compared}
 use Rattle.dialog_replies.specs.Subject.{Subject}
-use Rattle.debuggee.specs.{Execution.Execution, Slicing.slice_named}
+use Rattle.debuggee.specs.{Execution.Execution, References.refer, Slicing.slice_named}
 
 -- the trace of a call that did this work: what happened in it, and how it ended
 abbrev pub trace_of_work : Recorded → (k : ℕ) → Replayed → List ℕ
@@ -23,7 +23,8 @@ trace h k =
 
 -- the columns of its calls, the routines of its program by number and name, the cards, questions and traces of its
 -- calls, the lines on the cells before and after each, which calls had a part in an output of each, which are alike,
--- whether one may stand where another was entered, and the lines of all calls with what is said of each
+-- whether one may stand where another was entered, what a right program says of each, and the lines of all calls with
+-- what is said of each
 abbrev pub subject_of : Execution → Subject
 subject_of h = record {
   tree = record {
@@ -41,5 +42,6 @@ subject_of h = record {
   slice = slice_named h;
   classes = compared (records_of (run h.recorded.program h.supply.input h.supply.budget));
   carries = carries (run h.recorded.program h.supply.input h.supply.budget);
+  refer = refer h;
   marked = tree_text h.recorded.program h.recorded.calls;
 }

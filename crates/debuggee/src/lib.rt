@@ -3,6 +3,7 @@
 #![tactic(auto)]
 
 mod laws;
+mod references;
 mod refusal;
 mod runs;
 mod slicing;
@@ -10,6 +11,6 @@ mod source;
 
 pub use cell_value::INPUT_BYTES;
 pub use laws::{only_links_are_left_out, slices_tell_their_calls};
-pub use refusal::SourceRefusal;
+pub use refusal::{SourceRefusal, write_refusal};
 pub use runs::Debuggee;
 pub use source::{SourceFault, SourceProgram, read_source, run_program};

@@ -6,6 +6,7 @@ ghost use Rattle.question_text.specs.Cards.{recorded_in};
 ghost use Rattle.debuggee.specs.Limits.{input_bytes, most_steps};
 ghost use Rattle.debuggee.specs.Told.{AreTold, counts_once, history_of};
 
+use crate::references::{read_reference, referred};
 use crate::slicing::output_of_word;
 use answer_book::BookFault;
 use answer_reuse::{ClassFault, Classes};
@@ -14,7 +15,7 @@ use call_tree::{Calls, Mark};
 use cell_names::{NameFinder, PlacedParts};
 use cell_value::Steps;
 use core_program::Program;
-use dialog_replies::{Debugged, SliceOf};
+use dialog_replies::{Debugged, Reading, Referred, SliceOf};
 use edge_ports::{Memory, Printer};
 use optimal_query::Debug;
 use output_slice::{Output, SliceFault, Slicing, has_output, leave_out, slice};
@@ -24,6 +25,7 @@ use question_text::{
     CardParts, Recorded, card_parts, cell_named, opened_calls, write_call, write_question,
     write_state, write_trace, write_tree,
 };
+use reference_oracle::Reference;
 use std::alloc::{AllocError, Global};
 
 /// A source that was run: its tokens, the program that they are, and its run.
@@ -39,8 +41,10 @@ pub struct Debuggee<'a> {
     pub history: History,
     /// What is found by its place in the program, and in the heap of its run.
     pub names: NameFinder,
-    // What is kept of the run is all that of the program's run, whose input and budget are not too large.
+    // What is kept of the run is all that of the program's run. Its input is not too large; its budget has a step at
+    // least, and not too many.
     pub ghost short: { length input.now ≤ input_bytes },
+    pub ghost some_steps: { 0 < history.budget },
     pub ghost few_steps: { history.budget ≤ most_steps },
     pub ghost ran: { history ≡ history_of program input.now history.budget } by { Coded-set history-code _ _ },
     // There is a call, and of each call can be told what it did.
@@ -110,6 +114,7 @@ impl<'a> Debuggee<'a> {
 
 impl<'a> Debugged for Debuggee<'a> {
     ghost use Rattle.debuggee.specs.{Execution.execution, Prepared.prepared_of, Subjects.subject_of};
+    ghost use Rattle.debuggee.specs.References.{IsReading};
 
     type Card = CardParts;
 
@@ -119,9 +124,15 @@ impl<'a> Debugged for Debuggee<'a> {
 
     type Slice = Slicing;
 
+    type Reference = Reference;
+
     ghost subject = { λ debuggee. subject_of (execution debuggee) };
 
     ghost prepared = { λ debuggee. prepared_of (execution debuggee) };
+
+    ghost tables = { λ debuggee reference. reference };
+
+    ghost reads = { λ debuggee. IsReading };
 
     fn calls(&self) -> &Calls {
         &self.history.calls
@@ -199,6 +210,17 @@ impl<'a> Debugged for Debuggee<'a> {
 
     fn carries(&self, alloc: Global, call: u32, onto: u32) -> Result<bool, Memory> {
         carries(alloc, &self.program, &self.history, call, onto)
+    }
+
+    fn read_reference(&self, alloc: Global, bytes: &[u8]) -> Result<Reading<Reference>, Memory> {
+        read_reference(alloc, bytes)
+    }
+
+    fn refer(&self, alloc: Global, reference: &Reference, call: u32) -> Result<Referred, Memory> {
+        // There is such a call in the run of whole tables.
+        self.program.is_whole();
+        let verdict = reference.judge(alloc, &self.program, &self.history, call)?;
+        Ok(referred(verdict))
     }
 
     fn write_tree<P: Printer>(&self, out: &mut P, marks: &[Mark]) {

@@ -1,12 +1,12 @@
 //! From the bytes of a source to a program, and from a program to its run.
 ghost use Rattle.std.specs.Prelude.{◌<◌, ◌≡◌, ◌≤◌, ℕ, IfErr, IfOk, List, OnOk, length};
 ghost use Rattle.pas_lexer.specs.{Lexed.Lexed, Limits.source_bytes, declared.kinds.Token.Token};
-ghost use Rattle.pas_lexer.specs.Division.{IsFault, IsLexed, line_at};
+ghost use Rattle.pas_lexer.specs.Division.{IsLexed, line_at};
 ghost use Rattle.core_program.specs.ProgramRows.{ProgramRows};
 ghost use Rattle.program_run.specs.History.{IsOfRun};
-ghost use Rattle.debuggee.specs.{Limits.input_bytes, Limits.most_steps, Program.fault_of_check};
-ghost use Rattle.debuggee.specs.Execution.{execution, execution_of};
-ghost use Rattle.debuggee.specs.Program.{IsMisfit, IsProgram, IsRead, IsRefused, IsUnlexed, IsUnread, Keeps, TokensAre};
+ghost use Rattle.debuggee.specs.{Execution.execution, Execution.execution_of, Limits.input_bytes, Limits.most_steps};
+ghost use Rattle.debuggee.specs.Program.{IsProgram, IsRead, IsRefused, IsUnlexed, IsUnread, Keeps, TokensAre};
+ghost use Rattle.debuggee.specs.Program.{fault_of_check, fault_of_piece};
 ghost use Rattle.debuggee.specs.declared.source.SourceFault.TheVariants.{Memory, Refused};
 
 use crate::refusal::SourceRefusal;
@@ -66,21 +66,19 @@ fn refused_at(source: &[u8], why: SourceRefusal, byte: u32) -> SourceFault
     }
 }
 
-/// The refusal for what the lexer says of a source.
-fn misfit(source: &[u8], fault: LexFault) -> SourceFault
-    requires short { length source.now ≤ source_bytes }
-    requires fault { IsFault source.now fault }
-    ensures misfit { IsMisfit source.now result }
-    ensures memory { fault ≡ LexFault.Memory → result ≡ Memory }
+/// What the lexer says of a source, as a fault of it.
+pub(crate) fn fault_of_piece(source: &[u8], fault: &LexFault) -> SourceFault
+    requires { length source.now ≤ source_bytes }
+    ensures { result ≡ fault_of_piece source.now fault.now }
 {
     match fault {
-        LexFault::BadByte(byte) => refused_at(source, SourceRefusal::BadByte, byte),
-        LexFault::OpenComment(byte) => refused_at(source, SourceRefusal::OpenComment, byte),
-        LexFault::OpenString(byte) => refused_at(source, SourceRefusal::OpenString, byte),
-        LexFault::EmptyString(byte) => refused_at(source, SourceRefusal::EmptyString, byte),
-        LexFault::RealWord(byte) => refused_at(source, SourceRefusal::RealWord, byte),
-        LexFault::TooLarge(byte) => refused_at(source, SourceRefusal::TooLarge, byte),
-        LexFault::Joined(byte) => refused_at(source, SourceRefusal::Joined, byte),
+        LexFault::BadByte(byte) => refused_at(source, SourceRefusal::BadByte, *byte),
+        LexFault::OpenComment(byte) => refused_at(source, SourceRefusal::OpenComment, *byte),
+        LexFault::OpenString(byte) => refused_at(source, SourceRefusal::OpenString, *byte),
+        LexFault::EmptyString(byte) => refused_at(source, SourceRefusal::EmptyString, *byte),
+        LexFault::RealWord(byte) => refused_at(source, SourceRefusal::RealWord, *byte),
+        LexFault::TooLarge(byte) => refused_at(source, SourceRefusal::TooLarge, *byte),
+        LexFault::Joined(byte) => refused_at(source, SourceRefusal::Joined, *byte),
         LexFault::Memory => SourceFault::Memory,
     }
 }
@@ -94,7 +92,7 @@ fn read_tokens(alloc: Global, source: &[u8]) -> Result<Tokens, SourceFault>
 {
     match lex(alloc, source) {
         Ok(tokens) => Ok(tokens),
-        Err(fault) => Err(misfit(source, fault)),
+        Err(fault) => Err(fault_of_piece(source, &fault)),
     }
 }
 

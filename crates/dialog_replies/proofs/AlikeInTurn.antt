@@ -1,6 +1,6 @@
 -- Judgements on calls that are alike, as the entries of a book.
-use Rattle.std.proofs.Common.{if◌then◌else◌, ◌++◌, ◌+◌, ◌<◌, ◌∙◌, ◌∷◌, ◌≡◌, [], ℕ, Bool, Err, List, None, Ok, OnErr, OnOk, Option, Result, Some, ap, append-nil}
-use Rattle.std.proofs.Common.{append_assoc, arith, false, filter, fold, length, nat_le, nat_lt, refl, subst, sym, true}
+use Rattle.std.proofs.Common.{if◌then◌else◌, ◌++◌, ◌+◌, ◌<◌, ◌∙◌, ◌∷◌, ◌≡◌, [], ℕ, Bool, Err, List, Ok, OnErr, OnOk, Result, ap, append-nil, append_assoc}
+use Rattle.std.proofs.Common.{arith, false, filter, fold, length, nat_le, nat_lt, refl, subst, sym, true}
 use Rattle.std.{proofs.lemmas.Bool.Decides.nat_tests, proofs.lemmas.List.length-map, proofs.lemmas.List.Concat.flat_map-append, specs.List.flat_map}
 use Rattle.answer_book.specs.{Answers.Answers, Entries.entries_without, Numbers.numbers_below}
 use Rattle.answer_book.specs.declared.entries.{BookFault.BookFault, Judgement.Judgement, What.What}

@@ -1,7 +1,7 @@
 -- What a line of the console asks for.
 use Rattle.std.specs.Prelude.{if◌then◌else◌, ◌∷◌, [], ℕ, List, None, Option, Some}
 use Rattle.std.specs.Str.{is_utf8}
-use Rattle.kept_replies.specs.Notes.{is_note}
+use Rattle.session_file.specs.Notes.{is_note}
 use Rattle.dialog_replies.specs.{Keywords.keyword_of, Numbers.number_of, Numbers.routine_number}
 use Rattle.dialog_replies.specs.Words.{after_blanks, after_word, before_blanks, words}
 use Rattle.dialog_replies.specs.declared.{instructions.Instruction.Instruction, keywords.Keyword.Keyword}
@@ -23,8 +23,13 @@ abbrev pub trust_in : List ℕ → Instruction
 trust_in word = trust_by word (routine_number word)
 
 -- a file has a name in UTF-8
-abbrev pub save_in : List ℕ → Instruction
-save_in word = if is_utf8 word then ask.Save word else ask.Command commands.Other
+abbrev pub file_named : (word : List ℕ) → Option (List ℕ)
+file_named word = if is_utf8 word then Some word else None
+
+-- what is asked for with a file, where the word names one
+abbrev pub with_file : Option (List ℕ) → (List ℕ → Instruction) → Instruction
+with_file (Some file) asked = asked file
+with_file None asked = ask.Command commands.Other
 
 -- two calls, where both words are numbers
 abbrev pub carry_in : (call onto : List ℕ) → Instruction
@@ -70,7 +75,10 @@ instruction_by key.Alike (call ∷ []) rest = with_number (number_of call) (λ n
 instruction_by key.Shared (word ∷ []) rest = shared_in (keyword_of word)
 instruction_by key.Shared (word ∷ call ∷ []) rest = with_number (number_of call) (shared_on (keyword_of word))
 instruction_by key.Tree [] rest = ask.Command commands.Tree
-instruction_by key.Save (file ∷ []) rest = save_in file
+instruction_by key.Save (file ∷ []) rest = with_file (file_named file) ask.Save
+instruction_by key.Reference (file ∷ []) rest = with_file (file_named file) ask.Reference
+instruction_by key.Refer [] rest = ask.Refer None
+instruction_by key.Refer (call ∷ []) rest = with_number (number_of call) (λ number. ask.Refer (Some number))
 instruction_by key.Same [] rest = ask.Command commands.Same
 instruction_by key.Note (entry ∷ word ∷ others) rest =
     with_number (number_of entry) (λ number. note_by number (rest_in rest))

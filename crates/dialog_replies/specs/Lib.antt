@@ -5,6 +5,7 @@ pub mod Kept
 pub mod Keywords
 pub mod Lines
 pub mod Numbers
+pub mod References
 pub mod Replies
 pub mod Said
 pub mod Slices

@@ -1,18 +1,19 @@
 -- What each line of the dialog is replied, and the entries after it.
 use Rattle.std.specs.Prelude.{if◌then◌else◌, ◌&&◌, ◌++◌, [], ℕ, Bool, Err, List, None, Ok, Option, Result, Some, codes}
 use Rattle.std.specs.Prelude.{decimal, flat_map, length, nat_le, nat_lt}
+use Rattle.core_program.specs.ProgramRows.{ProgramRows}
 use Rattle.answer_book.specs.Answers.{judge_answer, take_back_answer, take_back_last_answer, trust_answer}
 use Rattle.answer_book.specs.Entries.{entries_with, entries_without, standing_answers}
 use Rattle.answer_book.specs.declared.entries.{BookFault.BookFault, Entry.Entry, Judgement.Judgement}
 use Rattle.answer_book.specs.declared.entries.What.{What, TheVariants.Judged, TheVariants.Trusted}
 use Rattle.optimal_query.specs.declared.state.SearchState.{SearchState, TheVariants.Ask}
 use Rattle.answer_reuse.specs.{Classes.class_of, Shared.judged_each, Shared.number_taken, Shared.standing_alike}
-use Rattle.kept_replies.specs.Notes.{with_note}
-use Rattle.dialog_replies.specs.{Alike.entries_without_all, Said.Said, Said.kept_on, Texts.report, Texts.tree_text}
+use Rattle.session_file.specs.Notes.{with_note}
+use Rattle.dialog_replies.specs.{Alike.entries_without_all, Said.Held, Said.Said, Said.kept_on}
+use Rattle.dialog_replies.specs.{Start.gives_replies_alone, Start.said_at_start, Texts.report, Texts.tree_text}
 use Rattle.dialog_replies.specs.Slices.{all_answer, entries_with_all, slice_answers}
-use Rattle.dialog_replies.specs.Start.{gives_replies_alone, said_at_start}
 use Rattle.dialog_replies.specs.Subject.{Subject, book_of, calls_recorded, routine_named, state_after}
-use Rattle.dialog_replies.specs.declared.{slices.SliceOf.SliceOf, start.Start.Start}
+use Rattle.dialog_replies.specs.declared.{references.Referred.Referred, slices.SliceOf.SliceOf, start.Start.Start}
 use Rattle.dialog_replies.specs.declared.instructions.{DialogCommand.DialogCommand, Instruction.Instruction}
 use Rattle.dialog_replies.specs.declared.slices.SliceOf.TheVariants as slices
 
@@ -217,6 +218,36 @@ abbrev pub takes_back_class : Subject → Said → (call : ℕ) → LineOutcome
 takes_back_class s said call =
     with_classes s said call (λ classes. takes_each_back s said (standing_alike said.entries classes call))
 
+-- ---- a right program answers for the user
+
+abbrev pub no_reference_for : (call : ℕ) → List ℕ
+no_reference_for call = codes "no reference for call " ++ decimal call ++ codes "\n"
+
+-- the call is judged as the program says, if it says anything of it
+abbrev pub refers_by : Subject → Said → (call : ℕ) → Referred → LineOutcome
+refers_by s said call (Referred.Judged judgement) = judges s said judgement call
+refers_by s said call Referred.Unfit = replied said (no_reference_for call)
+refers_by s said call Referred.NoAnswer = replied said (codes "reference gave no answer\n")
+
+abbrev pub refers_to : Subject → Said → (reference : ProgramRows) → (call : ℕ) → LineOutcome
+refers_to s said reference call =
+    if nat_lt call (calls_recorded s) then refers_by s said call (s.refer reference call)
+    else replied said (no_call call)
+
+-- the call that is asked about
+abbrev pub refers_asked : Subject → Said → (reference : ProgramRows) → SearchState → LineOutcome
+refers_asked s said reference (Ask call weight suspects left) = refers_to s said reference call
+refers_asked s said reference state = replied said (codes "no question\n")
+
+abbrev pub refers : Subject → Said → (reference : ProgramRows) → (call : Option ℕ) → LineOutcome
+refers s said reference (Some call) = refers_to s said reference call
+refers s said reference None = refers_asked s said reference (state_after s said.entries)
+
+-- where no program was read, that is said first
+abbrev pub refers_if : Subject → Said → (reference : Option ProgramRows) → (call : Option ℕ) → LineOutcome
+refers_if s said (Some reference) call = refers s said reference call
+refers_if s said None call = replied said (codes "no reference\n")
+
 unfoldable pub command_outcome : Subject → Said → DialogCommand → LineOutcome
 command_outcome s said DialogCommand.Nothing = replied said []
 command_outcome s said (DialogCommand.Judge judgement None) = judges_asked s said judgement (state_after s said.entries)
@@ -242,11 +273,14 @@ command_outcome s said (DialogCommand.Carry call onto) = replied said (carry_or_
 command_outcome s said DialogCommand.Tree = replied said (tree_text s said.entries)
 command_outcome s said DialogCommand.Other = replied said (codes "not understood\n")
 
--- What a line that saves is replied depends on the keeper, and is said where the session is held.
-abbrev pub outcome : Subject → Said → Instruction → LineOutcome
-outcome s said (Instruction.Command command) = command_outcome s said command
-outcome s said (Instruction.Save file) = replied said []
-outcome s said Instruction.Quit = replied said []
+-- What a line that saves, or reads a right program, is replied depends on the keeper, and is said where the session is
+-- held.
+abbrev pub outcome : Subject → Held → Instruction → LineOutcome
+outcome s held (Instruction.Command command) = command_outcome s held.said command
+outcome s held (Instruction.Refer call) = refers_if s held.said held.reference call
+outcome s held (Instruction.Save file) = replied held.said []
+outcome s held (Instruction.Reference file) = replied held.said []
+outcome s held Instruction.Quit = replied held.said []
 
 -- ---- what a session opens with, where this was said before: the card of call 0, and a report
 

@@ -1,9 +1,10 @@
 -- What was said so far in a session, and what is known from sessions before.
 use Rattle.std.specs.Prelude.{if◌then◌else◌, ◌∷◌, [], ℕ, List, Option}
 use Rattle.sha2.specs.Sha256.{sha256}
+use Rattle.core_program.specs.ProgramRows.{ProgramRows}
 use Rattle.answer_book.specs.declared.entries.{Entry.Entry, Judgement.Judgement}
 use Rattle.answer_book.specs.declared.entries.What.{What, TheVariants.Judged, TheVariants.Trusted}
-use Rattle.kept_replies.specs.Replies.{reply_to, with_reply}
+use Rattle.session_file.specs.Replies.{reply_to, with_reply}
 use Rattle.dialog_replies.specs.Subject.{Subject}
 
 -- replies to questions, each by the digest of the question's text
@@ -15,6 +16,11 @@ pub record Said : Type 0 where
   pub entries : List Entry
   pub notes : List (ℕ × List ℕ)
   pub replies : KeptReplies
+
+-- what a dialog holds: what was said, and the right program that answers, if one was read
+pub record Held : Type 0 where
+  pub said : Said
+  pub reference : Option ProgramRows
 
 -- the digest of the question about a call, by which it is known again in another run
 abbrev pub digest_on : Subject → (call : ℕ) → List ℕ

@@ -1,11 +1,14 @@
 //! What the dialog needs of a run.
-ghost use Rattle.std.specs.Prelude.{◌<◌, ◌≡◌, [], IfOk, false, length};
+ghost use Rattle.std.specs.Prelude.{◌<◌, ◌≡◌, ◌≤◌, [], ℕ, IfOk, List, false, length};
 ghost use Rattle.edge_ports.specs.Printouts.{Prints};
+ghost use Rattle.core_program.specs.ProgramRows.{ProgramRows};
 ghost use Rattle.optimal_query.specs.Search.{answers_in};
-ghost use Rattle.dialog_replies.specs.{Prepared.IsSliceOf, Prepared.Prepared, Subject.Subject, Subject.calls_recorded};
-ghost use Rattle.dialog_replies.specs.Kept.{AreCallsOf, AreClassesOf, IsSearchOf};
+ghost use Rattle.dialog_replies.specs.{Kept.AreCallsOf, Kept.AreClassesOf, Kept.IsSearchOf, Prepared.IsSliceOf};
+ghost use Rattle.dialog_replies.specs.{Prepared.Prepared, References.reading_by, References.reference_bytes};
+ghost use Rattle.dialog_replies.specs.{Subject.Subject, Subject.calls_recorded, declared.references.Reading.Reading};
 ghost use Rattle.dialog_replies.specs.Slices.{all_answer, entries_after_all, slice_answers};
 
+use crate::references::{Reading, Referred};
 use crate::slices::SliceOf;
 use answer_book::BookFault;
 use answer_reuse::Classes;
@@ -29,11 +32,20 @@ pub trait Debugged {
     /// The slice of an output of a call: which outputs of the calls below had a part in it.
     type Slice: Drop;
 
+    /// A right program that answers for the user.
+    type Reference: Drop;
+
     /// The columns, names and texts.
     ghost subject: { Self → Subject };
 
     /// Of which calls what was prepared is.
     ghost prepared: { Self → Prepared Self.Card Self.Opened Self.Trace Self.Slice };
+
+    /// The tables of a right program.
+    ghost tables: { Self → Self.Reference → ProgramRows };
+
+    /// What bytes are read as where they are to be a right program. It is the same for all runs.
+    ghost reads: { Self → (bytes : List ℕ) → Reading ProgramRows → Type 0 };
 
     /// The calls of the run, of which there is one at least; all were left.
     fn calls(&self) -> &Calls
@@ -131,6 +143,26 @@ pub trait Debugged {
         requires call { call < calls_recorded (subject self.now) }
         requires onto { onto < calls_recorded (subject self.now) }
         ensures { IfOk result (λ carries. carries ≡ (subject self.now).carries call onto) };
+
+    /// Reads a right program.
+    fn read_reference(
+        &self,
+        alloc: Global,
+        bytes: &[u8],
+    ) -> Result<Reading<Self::Reference>, Memory>
+        requires { length bytes.now ≤ reference_bytes }
+        ensures { IfOk result (λ reading. reads self.now bytes.now (reading_by (tables self.now) reading)) };
+
+    /// What a right program says of a call.
+    fn refer(
+        &self,
+        alloc: Global,
+        reference: &Self::Reference,
+        call: u32,
+    ) -> Result<Referred, Memory>
+        requires { call < calls_recorded (subject self.now) }
+        ensures { IfOk result (λ answer. answer
+            ≡ (subject self.now).refer (tables self.now reference.now) call) };
 
     /// Prints a line on each call, in order of entry, with these marks: one for each call.
     fn write_tree<P: Printer>(&self, out: &mut P, marks: &[Mark])

@@ -1,9 +1,9 @@
 //! What a line of the console asks for.
-ghost use Rattle.std.specs.Prelude.{◌∷◌, ◌≡◌, [], ℕ, IsTrue, List};
-ghost use Rattle.kept_replies.specs.Notes.{is_note};
+ghost use Rattle.std.specs.Prelude.{◌∷◌, ◌≡◌, [], ℕ, IsTrue, List, Some};
+ghost use Rattle.session_file.specs.Notes.{is_note};
 ghost use Rattle.dialog_replies.specs.{Numbers.number_of, Words.after_word, Words.words};
-ghost use Rattle.dialog_replies.specs.Instructions.{carry_in, instruction_by, instruction_of, note_by, rest_in};
-ghost use Rattle.dialog_replies.specs.Instructions.{save_in, shared_in, shared_on, trust_in, with_number};
+ghost use Rattle.dialog_replies.specs.Instructions.{carry_in, file_named, instruction_by, instruction_of, note_by};
+ghost use Rattle.dialog_replies.specs.Instructions.{rest_in, shared_in, shared_on, trust_in, with_file, with_number};
 ghost use Rattle.dialog_replies.specs.declared.instructions.DialogCommand.TheVariants as commands;
 ghost use Rattle.dialog_replies.specs.declared.instructions.Instruction.TheVariants as ask;
 ghost use Rattle.dialog_replies.specs.declared.keywords.Keyword.TheVariants as key;
@@ -12,7 +12,7 @@ use crate::keywords::{Keyword, keyword_in};
 use crate::numbers::{number_in, routine_number};
 use crate::words::{after_blanks, before_blanks, first_word};
 use answer_book::Judgement;
-use kept_replies::note_in;
+use session_file::note_in;
 use std::marker::Model;
 
 /// The name of a routine, of cells or of an output, as it was typed. Clauses see its bytes.
@@ -69,7 +69,7 @@ pub struct NoteText<'a> {
 
 impl<'a> Model for NoteText<'a> {
     ghost use Rattle.std.specs.Prelude.{ℕ, IsTrue, List};
-    ghost use Rattle.kept_replies.specs.Notes.{is_note};
+    ghost use Rattle.session_file.specs.Notes.{is_note};
 
     ghost Value = { List ℕ };
 
@@ -95,6 +95,10 @@ pub enum Instruction<'a> {
     Quit,
     /// `save F`: the session goes into the file of this name.
     Save(FileName<'a>),
+    /// `reference F`: the file of this name is a right program, which answers from now on.
+    Reference(FileName<'a>),
+    /// `refer`: that program judges the call of this number, or the one that is asked about.
+    Refer(Option<u32>),
     /// What the run and the entries alone can answer.
     Command(DialogCommand<'a>),
 }
@@ -151,6 +155,7 @@ fn alone<'a>(keyword: Keyword) -> Instruction<'a>
         Keyword::Back => Instruction::Command(DialogCommand::TakeBack(None)),
         Keyword::Same => Instruction::Command(DialogCommand::Same),
         Keyword::Tree => Instruction::Command(DialogCommand::Tree),
+        Keyword::Refer => Instruction::Refer(None),
         Keyword::Quit => Instruction::Quit,
         Keyword::Trust
         | Keyword::Show
@@ -160,6 +165,7 @@ fn alone<'a>(keyword: Keyword) -> Instruction<'a>
         | Keyword::Alike
         | Keyword::Shared
         | Keyword::Carry
+        | Keyword::Reference
         | Keyword::Save
         | Keyword::Note
         | Keyword::Other => Instruction::Command(DialogCommand::Other),
@@ -176,13 +182,43 @@ fn trust<'a>(routine: &'a [u8]) -> Instruction<'a>
     }
 }
 
+/// The file that a word names.
+fn file_in<'a>(word: &'a [u8]) -> Option<FileName<'a>>
+    ensures { result ≡ file_named word.now }
+{
+    match str::from_utf8(word) {
+        Ok(name) => Some(FileName { name }),
+        Err(_) => None,
+    }
+}
+
 /// What `save` asks for with this word after it.
 fn save<'a>(file: &'a [u8]) -> Instruction<'a>
-    ensures { result ≡ save_in file.now }
+    ensures { result ≡ with_file (file_named file.now) ask.Save }
 {
-    match str::from_utf8(file) {
-        Ok(name) => Instruction::Save(FileName { name }),
-        Err(_) => Instruction::Command(DialogCommand::Other),
+    match file_in(file) {
+        Some(file) => Instruction::Save(file),
+        None => Instruction::Command(DialogCommand::Other),
+    }
+}
+
+/// What `reference` asks for with this word after it.
+fn reference<'a>(file: &'a [u8]) -> Instruction<'a>
+    ensures { result ≡ with_file (file_named file.now) ask.Reference }
+{
+    match file_in(file) {
+        Some(file) => Instruction::Reference(file),
+        None => Instruction::Command(DialogCommand::Other),
+    }
+}
+
+/// What `refer` asks for with this word after it.
+fn refer<'a>(call: &[u8]) -> Instruction<'a>
+    ensures { result ≡ with_number (number_of call.now) (λ number. ask.Refer (Some number)) }
+{
+    match number_in(call) {
+        Some(call) => Instruction::Refer(Some(call)),
+        None => Instruction::Command(DialogCommand::Other),
     }
 }
 
@@ -239,6 +275,8 @@ fn with_operand<'a>(keyword: Keyword, operand: &'a [u8]) -> Instruction<'a>
         },
         Keyword::Shared => shared(keyword_in(operand)),
         Keyword::Save => save(operand),
+        Keyword::Reference => reference(operand),
+        Keyword::Refer => refer(operand),
         Keyword::State
         | Keyword::Slice
         | Keyword::Carry
@@ -355,6 +393,8 @@ fn with_more<'a>(
         | Keyword::Back
         | Keyword::Show
         | Keyword::Trace
+        | Keyword::Reference
+        | Keyword::Refer
         | Keyword::Tree
         | Keyword::Save
         | Keyword::Same

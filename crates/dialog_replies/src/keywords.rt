@@ -1,6 +1,6 @@
 //! The first word of a line.
 ghost use Rattle.std.specs.Prelude.{◌≡◌};
-ghost use Rattle.dialog_replies.specs.Keywords.{call_keyword, keyword_of, session_keyword};
+ghost use Rattle.dialog_replies.specs.Keywords.{call_keyword, keyword_of, reference_keyword, session_keyword};
 
 use answer_book::Judgement;
 
@@ -27,6 +27,10 @@ pub enum Keyword {
     Shared,
     /// `carry`.
     Carry,
+    /// `reference`.
+    Reference,
+    /// `refer`.
+    Refer,
     /// `tree`.
     Tree,
     /// `save`.
@@ -58,6 +62,19 @@ fn session_keyword(word: &[u8]) -> Keyword
     }
 }
 
+/// The keyword that a word on a right program is, or one on the session.
+fn reference_keyword(word: &[u8]) -> Keyword
+    ensures { result ≡ reference_keyword word.now }
+{
+    if word == b"reference".as_slice() {
+        Keyword::Reference
+    } else if word == b"refer".as_slice() {
+        Keyword::Refer
+    } else {
+        session_keyword(word)
+    }
+}
+
 /// The keyword that a word is which neither judges nor takes back.
 fn call_keyword(word: &[u8]) -> Keyword
     ensures { result ≡ call_keyword word.now }
@@ -75,7 +92,7 @@ fn call_keyword(word: &[u8]) -> Keyword
     } else if word == b"carry".as_slice() {
         Keyword::Carry
     } else {
-        session_keyword(word)
+        reference_keyword(word)
     }
 }
 

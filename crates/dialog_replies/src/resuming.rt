@@ -15,9 +15,8 @@ use crate::start::Start;
 use answer_book::Entry;
 use cell_value::Steps;
 use edge_ports::Memory;
-use kept_replies::{Notes, Replies};
 use optimal_query::Debug;
-use session_file::Session;
+use session_file::{Notes, Replies, Session};
 use std::alloc::Global;
 
 /// The search over the run with these entries.

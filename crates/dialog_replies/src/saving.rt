@@ -11,9 +11,8 @@ use crate::questions::{Digests, digest_on};
 use crate::start::Start;
 use answer_book::{Entry, What};
 use edge_ports::{Bytes, Memory};
-use kept_replies::Replies;
 use optimal_query::Debug;
-use session_file::{SavedEntries, Session, save};
+use session_file::{Replies, SavedEntries, Session, save};
 use std::alloc::Global;
 
 /// The entries of the moment.

@@ -3,8 +3,7 @@
 
 ghost use Rattle.debug_cli.specs.Exits.{EndsAsCommand};
 
-use command_words::{Asked, read_words};
-use debug_cli::{ask_as_process, out_of_memory};
+use debug_cli::{Asked, ask_as_process, out_of_memory, read_words};
 use edge_ports::{FileKeeper, Pieces, StdSink, StdSource};
 use std::alloc::AllocError;
 use std::env;

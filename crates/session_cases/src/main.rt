@@ -5,8 +5,7 @@
 
 use answer_book::{Entry, Judgement, What};
 use anyhow::Result;
-use kept_replies::{Notes, Replies};
-use session_file::{SavedEntries, Session, digest_of, load, save};
+use session_file::{Notes, Replies, SavedEntries, Session, digest_of, load, save};
 use std::alloc::Global;
 use std::io::{self, Read, Write};
 

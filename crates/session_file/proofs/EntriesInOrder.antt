@@ -3,9 +3,8 @@ use Rattle.std.proofs.Common.{◌++◌, ◌+◌, ◌∙◌, ◌∷◌, ◌≡◌
 use Rattle.std.proofs.lemmas.List.{drop_all}
 use Rattle.serde_json.specs.{View.view, declared.value.Value.Value}
 use Rattle.answer_book.specs.declared.entries.{Entry.Entry, Judgement.Judgement}
-use Rattle.kept_replies.{proofs.RepliesInOrder.one_fewer, specs.Notes.note_on}
-use Rattle.session_file.proofs.Turns.{made_next}
-use Rattle.session_file.specs.Text.{entries_data, entry_data, reply_data}
+use Rattle.session_file.proofs.{RepliesInOrder.one_fewer, Turns.made_next}
+use Rattle.session_file.specs.{Notes.note_on, Text.entries_data, Text.entry_data, Text.reply_data}
 
 -- these are the values of the entries before a place
 pub record AreMade (notes : List (ℕ × List ℕ)) (entries : List Entry) (place : ℕ) (values : List Value) : Type 0 where

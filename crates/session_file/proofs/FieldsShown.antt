@@ -13,10 +13,9 @@ use Rattle.serde_json.specs.Find.{as_bool, as_number, as_str, as_u64, get, get_m
 use Rattle.serde_json.specs.declared.value.Value as value
 use Rattle.answer_book.specs.declared.entries.{Entry.Entry, What.What, What.TheVariants.Judged, What.TheVariants.Trusted}
 use Rattle.answer_book.specs.declared.entries.Judgement.{Judgement, TheVariants.Right, TheVariants.Unknown, TheVariants.Wrong}
-use Rattle.json_pass.specs.Passing.{Begins}
+use Rattle.session_file.specs.{Passing.Begins, Text.judgement_word}
 use Rattle.session_file.specs.Reading.{digest_at, entry_in, if_there, judgement_of, note_in, only_if, reply_in, said_as, text_under, whole_under, word_under}
 use Rattle.session_file.specs.Shown.{Shows, ShowsValue, flat, flat_number, flat_numeral, flat_token, is_field, is_opening, with_field}
-use Rattle.session_file.specs.Text.{judgement_word}
 
 -- ---- values without parts
 

@@ -4,9 +4,8 @@ use Rattle.std.proofs.Common.{append_assoc, arith, false, le-leb, length, nat_le
 use Rattle.std.proofs.lemmas.{Bool.Decides.nat_tests, List.length-append}
 use Rattle.serde_json.specs.{Data.Data, Data.Items, Data.item, Data.no_items, Events.items_len}
 use Rattle.answer_book.specs.declared.entries.{Entry.Entry, Judgement.Judgement}
-use Rattle.kept_replies.specs.Limits.{most_replies}
 use Rattle.session_file.proofs.NotesInOrder.{notes_after, notes_after_none}
-use Rattle.session_file.specs.{Parts.begun_wrong, Parts.notes_by, Reading.with_kept, Text.first_version}
+use Rattle.session_file.specs.{Limits.most_replies, Parts.begun_wrong, Parts.notes_by, Reading.with_kept, Text.first_version}
 use Rattle.session_file.specs.Listed.{all_answered, all_listed, noted_on, nothing_answered, nothing_listed, with_one}
 use Rattle.session_file.specs.Reading.{begins_wrong, entries_in, entry_in, has_allowed_length, is_short, notes_in, only_if, replies_in, reply_in, with_field}
 use Rattle.session_file.specs.declared.{listed.Listed.Listed, replied.Answered.Answered}

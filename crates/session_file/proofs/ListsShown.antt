@@ -5,11 +5,10 @@ use Rattle.json.specs.Token.{Token}
 use Rattle.serde_json.specs.Data.{Data, array, boolean, null, number, object, string}
 use Rattle.serde_json.specs.Find.{as_array}
 use Rattle.answer_book.specs.declared.entries.Entry.{Entry}
-use Rattle.kept_replies.specs.Limits.{most_replies}
-use Rattle.json_pass.specs.Passing.{Begins}
 use Rattle.session_file.proofs.FieldsShown.{entry_shown, note_shown, reply_shown}
-use Rattle.session_file.specs.{Listed.next_answered, Listed.next_listed, Listed.with_one, Reading.entry_in, Reading.note_in, Reading.with_next}
-use Rattle.session_file.specs.{Shown.ShowsValue, Shown.is_list_opening, declared.listed.Listed.Listed, declared.replied.Answered.Answered}
+use Rattle.session_file.specs.{Limits.most_replies, Listed.next_answered, Listed.next_listed, Listed.with_one, Passing.Begins, Reading.entry_in}
+use Rattle.session_file.specs.{Reading.note_in, Reading.with_next, Shown.ShowsValue, Shown.is_list_opening}
+use Rattle.session_file.specs.declared.{listed.Listed.Listed, replied.Answered.Answered}
 
 abbrev with_parts : Listed → Option Entry → Option (Option (List ℕ)) → Option Listed
 with_parts l e m =

@@ -9,12 +9,13 @@ use Rattle.hex.specs.{Hex.decode_sized, declared.error.FromHexError.FromHexError
 use Rattle.serde_json.specs.{Data.Data, Data.Items, Data.item, Data.no_items, Events.items_len, Find.as_array, Find.as_bool, Find.as_str, Find.get}
 use Rattle.answer_book.specs.declared.entries.{Entry.Entry, What.What, What.TheVariants.Judged, What.TheVariants.Trusted}
 use Rattle.answer_book.specs.declared.entries.Judgement.{Judgement, TheVariants.Right, TheVariants.Unknown, TheVariants.Wrong}
-use Rattle.kept_replies.{proofs.RepliesInOrder.AreSuch, proofs.RepliesInOrder.set_such, specs.Notes.AreNotes, specs.Notes.is_note}
-use Rattle.session_file.specs.{Reading.whole_under, Reading.with_field, Reading.with_kept, Reading.word_under, Text.first_version, Text.judgement_word}
-use Rattle.session_file.specs.{Whole.IsDigest, Whole.IsWhole, Whole.NumberFits, declared.session.Session.Session, declared.session.SessionField.SessionField}
+use Rattle.session_file.proofs.RepliesInOrder.{AreSuch, set_such}
+use Rattle.session_file.specs.{Notes.AreNotes, Notes.is_note, Text.first_version, Text.judgement_word, Whole.IsDigest, Whole.IsWhole, Whole.NumberFits}
 use Rattle.session_file.specs.Reading.{begins_wrong, budget_at, digest_at, entries_at, entries_in, entry_in, fields_read, has_allowed_length, if_there}
 use Rattle.session_file.specs.Reading.{is_budget, is_version, json_of, judgement_of, note_by, note_in, noted, notes_at, notes_in, only_if, replies_at}
 use Rattle.session_file.specs.Reading.{replies_in, reply_in, reply_values_at, said_as, session_in, session_of, session_or_fault, text_under, values_at}
+use Rattle.session_file.specs.Reading.{whole_under, with_field, with_kept, word_under}
+use Rattle.session_file.specs.declared.session.{Session.Session, SessionField.SessionField}
 use Rattle.session_file.specs.declared.session.LoadFault.{LoadFault, TheVariants.BadVersion, TheVariants.Memory}
 use Rattle.session_file.specs.declared.session.SessionField.TheVariants.{Budget, Entries, Input, Replies, Source, Version}
 

@@ -2,8 +2,7 @@
 use Rattle.std.proofs.Common.{◌+◌, ◌∷◌, ◌≡◌, [], ℕ, Bool, List, None, Option, Some, false, map, refl}
 use Rattle.serde_json.specs.{View.items_of, Written.has_float, Written.items_have_float}
 use Rattle.answer_book.specs.declared.entries.{Entry.Entry, Judgement.Judgement, What.What, What.TheVariants.Judged, What.TheVariants.Trusted}
-use Rattle.kept_replies.specs.Notes.{note_on}
-use Rattle.session_file.specs.{Text.entries_data, Text.reply_data, Text.said_data, Text.session_data, declared.session.Session.Session}
+use Rattle.session_file.specs.{Notes.note_on, Text.entries_data, Text.reply_data, Text.said_data, Text.session_data, declared.session.Session.Session}
 
 said_whole : (what : What) (note : Option (List ℕ)) (standing : Bool) → has_float (said_data what note standing) ≡ false
 said_whole (Judged call judgement) None standing = refl

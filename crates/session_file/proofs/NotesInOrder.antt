@@ -3,8 +3,7 @@ use Rattle.std.proofs.Common.{◌++◌, ◌+◌, ◌<◌, ◌∙◌, ◌∷◌, 
 use Rattle.std.{proofs.Common.option_map, proofs.Common.refl, proofs.Common.sym, proofs.lemmas.Bool.Decides.nat_tests, proofs.lemmas.List.Elements.All-tail}
 use Rattle.std.{proofs.lemmas.Map.Views.All-keys-insert_entry, specs.Map.keys_of, specs.Ordering.nat_cmp, specs.declared.cmp.Ordering.TheVariants.Greater}
 use Rattle.serde_json.specs.Data.{Data, Items, item, no_items}
-use Rattle.kept_replies.specs.Notes.{with_note}
-use Rattle.session_file.specs.{Listed.noted_on, Reading.note_in, Reading.noted, Reading.notes_in, Reading.with_next}
+use Rattle.session_file.specs.{Listed.noted_on, Notes.with_note, Reading.note_in, Reading.noted, Reading.notes_in, Reading.with_next}
 
 later : (a b : ℕ) → a < b → nat_cmp b a ≡ Greater
 later a b h = grind (arith, nat_tests)

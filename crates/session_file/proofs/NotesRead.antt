@@ -6,9 +6,9 @@ use Rattle.std.proofs.lemmas.Map.{lookup-none, Entries.lookup_head, Entries.look
 use Rattle.std.specs.{BTreeMap.is_at, Cmp.nat_cmp_total, List.Sorted.IsStrictlySortedBy, Map.keys_of, Ordering.nat_cmp, declared.cmp.Ordering.TheVariants.Less}
 use Rattle.serde_json.specs.View.{items_of}
 use Rattle.answer_book.specs.declared.entries.{Entry.Entry, What.What, What.TheVariants.Judged, What.TheVariants.Trusted}
-use Rattle.kept_replies.specs.Notes.{AreNotes, is_note, note_on}
 use Rattle.session_file.proofs.SavedIsUtf8.{AreNoted}
-use Rattle.session_file.specs.{Reading.note_in, Reading.noted, Reading.notes_in, Text.entries_data, Text.said_data}
+use Rattle.session_file.specs.{Notes.AreNotes, Notes.is_note, Notes.note_on, Text.entries_data, Text.said_data}
+use Rattle.session_file.specs.Reading.{note_in, noted, notes_in}
 
 -- ---- numbers in order
 

@@ -4,9 +4,9 @@ use Rattle.std.{proofs.lemmas.List.length-append, proofs.lemmas.List.Elements.Al
 use Rattle.hex.{proofs.HexLemmas.decode_sized-encode_lower, specs.Hex.decode_sized, specs.Hex.encode_lower}
 use Rattle.serde_json.specs.View.{items_of}
 use Rattle.answer_book.specs.declared.entries.Judgement.{Judgement, TheVariants.Right, TheVariants.Unknown, TheVariants.Wrong}
-use Rattle.kept_replies.proofs.RepliesInOrder.{AreFresh, all_fresh, first_other, set_last, still_fresh}
-use Rattle.kept_replies.specs.{Limits.most_replies, Replies.AreReplies}
-use Rattle.session_file.specs.{Reading.replies_in, Reading.reply_in, Reading.with_kept, Text.reply_data, Whole.IsDigest}
+use Rattle.session_file.proofs.RepliesInOrder.{AreFresh, all_fresh, first_other, set_last, still_fresh}
+use Rattle.session_file.specs.{Limits.most_replies, Replies.AreReplies, Text.reply_data, Whole.IsDigest}
+use Rattle.session_file.specs.Reading.{replies_in, reply_in, with_kept}
 
 pub digest_read : (bytes : List ℕ) → IsDigest bytes → decode_sized (encode_lower bytes) 32 ≡ Ok bytes
 digest_read bytes d = decode_sized-encode_lower bytes 32 d.size d.each

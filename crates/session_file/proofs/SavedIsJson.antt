@@ -8,8 +8,7 @@ use Rattle.json.specs.Tree as tree
 use Rattle.serde_json.proofs.{Numbers.number_of-decimal, Texts.print-outline}
 use Rattle.serde_json.specs.{Data.Data, Read.of_items, Read.of_json, Read.read, View.items_of, Written.compact_text, Written.items_outline, Written.outline}
 use Rattle.answer_book.specs.declared.entries.{Entry.Entry, Judgement.Judgement, What.What, What.TheVariants.Judged, What.TheVariants.Trusted}
-use Rattle.kept_replies.specs.Notes.{note_on}
-use Rattle.session_file.specs.{Whole.IsWhole, Whole.NumberFits, declared.session.Session.Session}
+use Rattle.session_file.specs.{Notes.note_on, Whole.IsWhole, Whole.NumberFits, declared.session.Session.Session}
 use Rattle.session_file.specs.Text.{entries_data, first_data, first_text, reply_data, said_data, session_data, session_text}
 
 abbrev AreNumbered : List Entry → Type 0

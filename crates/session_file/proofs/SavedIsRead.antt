@@ -4,10 +4,10 @@ use Rattle.std.{proofs.lemmas.List.Elements.All-tail, proofs.lemmas.Str.is_utf8-
 use Rattle.serde_json.specs.{Events.items_len, View.items_of}
 use Rattle.answer_book.specs.declared.entries.{Entry.Entry, What.What, What.TheVariants.Judged, What.TheVariants.Trusted}
 use Rattle.answer_book.specs.declared.entries.Judgement.{Judgement, TheVariants.Right, TheVariants.Unknown, TheVariants.Wrong}
-use Rattle.kept_replies.specs.{Limits.most_replies, Notes.AreNotes, Notes.note_on, Replies.AreReplies}
 use Rattle.session_file.proofs.{NotesRead.notes_read, RepliesRead.digest_read, RepliesRead.replies_read, SavedIsJson.first_json, SavedIsJson.saved_json}
 use Rattle.session_file.proofs.SavedIsUtf8.{each_noted, first_text_utf8, saved_utf8}
-use Rattle.session_file.specs.{Reading.entries_in, Reading.entry_in, Reading.session_in, Reading.session_of, declared.session.Session.Session}
+use Rattle.session_file.specs.{Limits.most_replies, Notes.AreNotes, Notes.note_on, Replies.AreReplies, declared.session.Session.Session}
+use Rattle.session_file.specs.Reading.{entries_in, entry_in, session_in, session_of}
 use Rattle.session_file.specs.Text.{entries_data, first_data, first_text, reply_data, said_data, session_data, session_text}
 use Rattle.session_file.specs.Whole.{IsWhole, NumberFits, in_first_version, in_this_version}
 

@@ -12,8 +12,8 @@ use Rattle.serde_json.specs.View.{items_of}
 use Rattle.serde_json.specs.Written.{comma_if, compact_text, items_text, members_text, number_text}
 use Rattle.answer_book.specs.declared.entries.{Entry.Entry, What.What, What.TheVariants.Judged, What.TheVariants.Trusted}
 use Rattle.answer_book.specs.declared.entries.Judgement.{Judgement, TheVariants.Right, TheVariants.Unknown, TheVariants.Wrong}
-use Rattle.kept_replies.{proofs.NotesAreText.note_utf8, specs.Notes.is_note, specs.Notes.note_on}
-use Rattle.session_file.specs.{Whole.IsWhole, Whole.NumberFits, declared.session.Session.Session}
+use Rattle.session_file.proofs.NotesAreText.{note_utf8}
+use Rattle.session_file.specs.{Notes.is_note, Notes.note_on, Whole.IsWhole, Whole.NumberFits, declared.session.Session.Session}
 use Rattle.session_file.specs.Text.{entries_data, first_data, first_text, judgement_word, reply_data, said_data, session_data, session_text}
 
 -- ---- a value whose numbers, strings and keys are UTF-8 has a text that is

@@ -4,9 +4,8 @@ use Rattle.std.proofs.Common.{option_map, refl, sym, true, true≢false}
 use Rattle.json.specs.{Json.Json, Json.if_last, Json.value, Token.Token}
 use Rattle.serde_json.specs.Data.{Data, array, boolean, null, number, object, string}
 use Rattle.serde_json.specs.Read.{converted, max_depth, of_json}
-use Rattle.json_pass.specs.Passing.{Begins, value_read}
-use Rattle.session_file.specs.{Reading.session_in, Reading.session_or_fault, Reading.text_read, Shown.IsRefused, Shown.is_opening}
-use Rattle.session_file.specs.declared.session.{Session.Session, SessionField.TheVariants.Version}
+use Rattle.session_file.specs.{Passing.Begins, Passing.value_read, Reading.session_in, Reading.session_or_fault, Reading.text_read, Shown.IsRefused}
+use Rattle.session_file.specs.{Shown.is_opening, declared.session.Session.Session, declared.session.SessionField.TheVariants.Version}
 use Rattle.session_file.specs.declared.session.LoadFault.{LoadFault, TheVariants.BadShape, TheVariants.Memory}
 
 -- the value, if no token follows

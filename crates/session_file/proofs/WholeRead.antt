@@ -2,8 +2,9 @@
 use Rattle.std.proofs.Common.{◌-◌, ◌<◌, ◌∙◌, ◌∷◌, ◌≡◌, [], ℕ, List, None, Option, ap, inl, inr, refl, sym, true, true≢false}
 use Rattle.json.{proofs.Grammar.value_is, specs.Json.parse_map, specs.Json.value, specs.Token.Token}
 use Rattle.serde_json.specs.{Data.array, Data.object, Read.converted, Read.of_json}
-use Rattle.json_pass.{proofs.Turns.array_opened, proofs.Turns.object_opened, specs.Passing.items_read, specs.Passing.members_read, specs.Passing.value_read}
+use Rattle.session_file.proofs.PassTurns.{array_opened, object_opened}
 use Rattle.session_file.specs.{Shown.IsRefused, Shown.is_list_opening, Shown.is_opening, declared.session.LoadFault.LoadFault}
+use Rattle.session_file.specs.Passing.{items_read, members_read, value_read}
 
 -- what refuses a part refuses the whole
 pub refused_with : {A B : Type 0} (fault : LoadFault) (part : Option A) (whole : Option B) → (part ≡ None → whole ≡ None) → IsRefused fault part

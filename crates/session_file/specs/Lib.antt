@@ -1,6 +1,11 @@
-pub mod Text
-pub mod Reading
-pub mod Whole
-pub mod Shown
+pub mod Limits
 pub mod Listed
+pub mod Making
+pub mod Notes
 pub mod Parts
+pub mod Passing
+pub mod Reading
+pub mod Replies
+pub mod Shown
+pub mod Text
+pub mod Whole

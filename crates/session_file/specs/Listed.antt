@@ -3,8 +3,7 @@ use Rattle.std.specs.Prelude.{if◌then◌else◌, ◌++◌, ◌+◌, ◌∷◌,
 use Rattle.std.specs.Prelude.{option_and_then, option_map}
 use Rattle.serde_json.specs.{Data.Data, Data.Items, Find.as_array}
 use Rattle.answer_book.specs.declared.entries.Judgement.{Judgement}
-use Rattle.kept_replies.specs.Limits.{most_replies}
-use Rattle.json_pass.specs.Making.{all_made}
+use Rattle.session_file.specs.{Limits.most_replies, Making.all_made}
 use Rattle.session_file.specs.Reading.{entry_in, note_in, reply_in, with_kept, with_next}
 use Rattle.session_file.specs.declared.{listed.Listed.Listed, replied.Answered.Answered}
 

@@ -10,7 +10,7 @@ use Rattle.serde_json.specs.Find.{as_array, as_bool, as_number, as_str, as_u64, 
 use Rattle.answer_book.specs.declared.entries.{Entry.Entry, Judgement.Judgement}
 use Rattle.answer_book.specs.declared.entries.Judgement.TheVariants.{Right, Unknown, Wrong}
 use Rattle.answer_book.specs.declared.entries.What.{What, TheVariants.Judged, TheVariants.Trusted}
-use Rattle.kept_replies.specs.{Limits.most_replies, Notes.is_note, Notes.with_note, Replies.with_reply}
+use Rattle.session_file.specs.{Limits.most_replies, Notes.is_note, Notes.with_note, Replies.with_reply}
 use Rattle.session_file.specs.Text.{first_version, judgement_word, this_version}
 use Rattle.session_file.specs.declared.session.{LoadFault.LoadFault, Session.Session}
 use Rattle.session_file.specs.declared.session.LoadFault.TheVariants.{BadShape, BadVersion, NotJson}

@@ -7,8 +7,7 @@ use Rattle.serde_json.specs.Data.{Data, Members, array, boolean, member, no_memb
 use Rattle.answer_book.specs.declared.entries.{Entry.Entry, Judgement.Judgement}
 use Rattle.answer_book.specs.declared.entries.Judgement.TheVariants.{Right, Unknown, Wrong}
 use Rattle.answer_book.specs.declared.entries.What.{What, TheVariants.Judged, TheVariants.Trusted}
-use Rattle.kept_replies.specs.Notes.{note_on}
-use Rattle.session_file.specs.declared.session.Session.{Session}
+use Rattle.session_file.specs.{Notes.note_on, declared.session.Session.Session}
 
 -- the version that is written, and the one before it, which is read as well
 abbrev pub this_version : ℕ

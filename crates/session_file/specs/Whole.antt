@@ -3,9 +3,8 @@ use Rattle.std.specs.Prelude.{◌<◌, ◌^◌, ◌≡◌, ◌≤◌, [], ℕ, A
 use Rattle.std.specs.Map.{keys_of}
 use Rattle.hex.specs.Hex.{IsBytes}
 use Rattle.answer_book.specs.declared.entries.What.{What, TheVariants.Judged, TheVariants.Trusted}
-use Rattle.kept_replies.specs.{Notes.AreNotes, Replies.AreReplies}
-use Rattle.session_file.specs.{Reading.begins_wrong, declared.session.Session.Session}
-use Rattle.session_file.specs.Text.{first_version, this_version}
+use Rattle.session_file.specs.{Notes.AreNotes, Reading.begins_wrong, Replies.AreReplies, Text.first_version}
+use Rattle.session_file.specs.{Text.this_version, declared.session.Session.Session}
 
 -- 32 bytes
 pub record IsDigest (digest : List ℕ) : Type 0 where

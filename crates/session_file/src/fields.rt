@@ -2,14 +2,15 @@
 ghost use Rattle.std.specs.Prelude.{◌<◌, ◌≡◌, IfErr, IfOk, None, OnOk, Some, length, option_map};
 ghost use Rattle.json.specs.{Json.read_key, Reads.token_of};
 ghost use Rattle.serde_json.specs.{Data.Data, Data.Members, View.members_view, View.view};
-ghost use Rattle.json_pass.specs.Passing.{members_read, value_read};
+ghost use Rattle.session_file.specs.Passing.{members_read, value_read};
 ghost use Rattle.session_file.specs.Shown.{IsRefused, Shows, ShowsValue, flat, flat_token, is_entry_field, is_field};
 ghost use Rattle.session_file.specs.Shown.{is_list_opening, is_opening, is_reply_field, is_session_field, with_field};
 
+use crate::numbers::whole_number;
+use crate::passing::{pass, pass_rest};
 use crate::session::LoadFault;
 use edge_ports::Memory;
 use json::{Reader, Token};
-use json_pass::{pass, pass_rest, whole_number};
 use serde_json::{Map, Value};
 use std::alloc::Global;
 

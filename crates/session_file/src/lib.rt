@@ -16,6 +16,14 @@
 //!
 //! Version 1, which has no notes and no replies, is read as well. Other texts of the same value are read too. A text
 //! that is no session is refused by its first field that is not as it should be.
+//!
+//! What a session keeps beside the entries of its book is here, too: notes on entries, and replies to questions. A
+//! reply is found by the digest of its question's text, so that it outlives a change of the program that leaves the
+//! question as it was.
+//!
+//! JSON is passed over: a value is checked as serde_json checks it, and nothing of it is kept but the token that it
+//! begins with. So a reader that wants a few values of a long text takes no memory for the others, however many they
+//! are and however deep they nest.
 #![tactic(auto)]
 
 mod digests;
@@ -23,15 +31,23 @@ mod fields;
 mod hashing;
 mod laws;
 mod listed;
+mod notes;
+mod numbers;
 mod parts;
+mod passing;
 mod reading;
 mod replied;
+mod replies;
 mod session;
+#[cfg(test)]
+mod tests;
 mod writing;
 
 pub use digests::digest_of;
 pub use hashing::Hashing;
 pub use laws::{version_1_is_loaded, what_is_saved_is_loaded};
+pub use notes::{FIRST_PRINTED, LAST_PRINTED, NOTE_BYTES, Notes, note_in};
 pub use reading::load;
+pub use replies::Replies;
 pub use session::{LoadFault, SavedEntries, Session, SessionField};
 pub use writing::{judgement_word, save};

@@ -2,18 +2,17 @@
 ghost use Rattle.std.specs.Prelude.{◌<◌, ◌≡◌, ◌≤◌, IfErr, IfOk, IfSome, IsTrue, None, OnOk, Some, length};
 ghost use Rattle.std.specs.Prelude.{option_and_then, option_map};
 ghost use Rattle.serde_json.specs.{Data.Data, Data.Items, View.view};
-ghost use Rattle.kept_replies.specs.Notes.{is_note, with_note};
-ghost use Rattle.json_pass.specs.Passing.{items_read, value_read};
-ghost use Rattle.session_file.specs.{Reading.note_by, Shown.IsRefused};
+ghost use Rattle.session_file.specs.{Notes.is_note, Notes.with_note, Reading.note_by, Shown.IsRefused};
 ghost use Rattle.session_file.specs.Listed.{all_listed, listed_in, next_listed, noted_on, nothing_listed, with_entry};
+ghost use Rattle.session_file.specs.Passing.{items_read, value_read};
 
 use crate::fields::{opens_list, shown_value};
+use crate::notes::{Notes, is_note};
+use crate::passing::pass_rest;
 use crate::reading::entry_from;
 use crate::session::{LoadFault, SavedEntries};
 use edge_ports::Memory;
 use json::Reader;
-use json_pass::pass_rest;
-use kept_replies::{Notes, is_note};
 use serde_json::Value;
 use std::alloc::Global;
 

@@ -1,8 +1,7 @@
 //! The parts of a session, as its text has them.
 ghost use Rattle.std.specs.Prelude.{◌<◌, ◌≡◌, IfErr, IfOk, OnOk, Some, length};
 ghost use Rattle.serde_json.specs.Data.{Data, Members, put};
-ghost use Rattle.json_pass.specs.Passing.{members_read, value_read};
-ghost use Rattle.session_file.specs.{Parts.AreParts, Shown.IsRefused};
+ghost use Rattle.session_file.specs.{Parts.AreParts, Passing.members_read, Passing.value_read, Shown.IsRefused};
 
 use crate::fields::{field_read, key_after};
 use crate::listed::{Listed, entries_read};

@@ -9,15 +9,16 @@ ghost use Rattle.session_file.specs.Reading.{session_of, session_or_fault, text_
 
 use crate::fields::opens_object;
 use crate::listed::Listed;
+use crate::notes::Notes;
 use crate::parts::{Parts, parts_in};
+use crate::passing::pass_rest;
 use crate::replied::Answered;
+use crate::replies::Replies;
 use crate::session::{LoadFault, SavedEntries, Session, SessionField};
 use crate::writing::VERSION;
 use answer_book::{Entry, Judgement, What};
 use hex::FromHex;
 use json::{Reader, Scratch};
-use json_pass::pass_rest;
-use kept_replies::{Notes, Replies};
 use serde_json::Value;
 use std::alloc::Global;
 

@@ -1,20 +1,18 @@
 //! The replies of a session, one after another as the text has them.
 ghost use Rattle.std.specs.Prelude.{◌<◌, ◌≡◌, IfErr, IfOk, OnOk, Some, codes, length, option_and_then};
 ghost use Rattle.serde_json.specs.{Data.Data, Data.Items, View.view};
-ghost use Rattle.kept_replies.specs.Limits.{most_replies};
-ghost use Rattle.json_pass.specs.Passing.{items_read, value_read};
-ghost use Rattle.session_file.specs.{Listed.with_one, Shown.IsRefused};
+ghost use Rattle.session_file.specs.{Limits.most_replies, Listed.with_one, Passing.items_read, Passing.value_read};
+ghost use Rattle.session_file.specs.{Reading.judgement_of, Reading.reply_in, Reading.text_under, Shown.IsRefused};
 ghost use Rattle.session_file.specs.Listed.{all_answered, answered_in, next_answered, nothing_answered, with_answer};
-ghost use Rattle.session_file.specs.Reading.{judgement_of, reply_in, text_under};
 
 use crate::fields::{opens_list, shown_value};
+use crate::passing::pass_rest;
 use crate::reading::digest_from;
+use crate::replies::{MOST_REPLIES, Replies};
 use crate::session::LoadFault;
 use answer_book::Judgement;
 use edge_ports::Memory;
 use json::Reader;
-use json_pass::pass_rest;
-use kept_replies::{MOST_REPLIES, Replies};
 use serde_json::Value;
 use std::alloc::Global;
 

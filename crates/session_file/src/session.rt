@@ -1,8 +1,9 @@
 //! What a session is, and why a text is none.
 
+use crate::notes::Notes;
+use crate::replies::Replies;
 use answer_book::Entry;
 use cell_value::List;
-use kept_replies::{Notes, Replies};
 use thiserror::Error;
 
 /// The entries of a book, first to last.
@@ -40,9 +41,9 @@ pub enum SessionField {
     /// `budget`: a whole number from 1 to 4,000,000.
     Budget,
     /// `entries`: 1 to 100,000 of them, with numbers of calls and routines below 2^32. The first one judges call 0 as
-    /// wrong. In version 2 an entry may have a note, as `kept_replies::is_note` knows them.
+    /// wrong. In version 2 an entry may have a note, as `crate::notes::is_note` knows them.
     Entries,
-    /// `replies`, of version 2: at most `kept_replies::MOST_REPLIES`, each a question by 64 hexadecimal digits, and a
+    /// `replies`, of version 2: at most `crate::replies::MOST_REPLIES`, each a question by 64 hexadecimal digits, and a
     /// judgement.
     Replies,
 }

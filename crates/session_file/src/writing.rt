@@ -1,14 +1,14 @@
 //! From a session to its text.
 ghost use Rattle.std.specs.Prelude.{◌<◌, ◌≡◌, IfOk, None, Some, length, map, slice_get};
 ghost use Rattle.serde_json.specs.View.{view};
-ghost use Rattle.kept_replies.specs.Notes.{note_on};
+ghost use Rattle.session_file.specs.{Notes.note_on, Text.session_text};
 ghost use Rattle.session_file.specs.Text.{entries_data, entry_data, judgement_word, reply_data, session_data};
-ghost use Rattle.session_file.specs.Text.{session_text};
 
+use crate::notes::Notes;
+use crate::replies::Replies;
 use crate::session::Session;
 use answer_book::{Entry, Judgement, What};
 use edge_ports::{Bytes, Memory};
-use kept_replies::{Notes, Replies};
 use serde_json::{Value, json};
 use std::alloc::Global;
 

@@ -11,9 +11,8 @@ use dialog_replies::{
     print_reply, refusal, resume, session_text_of, state_now,
 };
 use edge_ports::{Keeper, Memory, Page, Pieces, Printer, Shelf, Tape};
-use kept_replies::{Notes, Replies};
 use optimal_query::SearchState;
-use session_file::{SavedEntries, Session, load};
+use session_file::{Notes, Replies, SavedEntries, Session, load};
 use std::alloc::Global;
 use std::test::Fail;
 

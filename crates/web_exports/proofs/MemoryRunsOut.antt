@@ -1,5 +1,8 @@
 -- A turn for which memory runs out before the command begins keeps its promises.
 use Rattle.std.proofs.Common.{◌∙◌, ◌≡◌, [], ℕ, List, None, Option, Some, ap, arith, inl, inr, refl, subst, sym}
+use Rattle.std.proofs.lemmas.List.Elements.{All-nil}
+use Rattle.ask_session.specs.Wishes.{IsReadIn}
+use Rattle.debuggee.specs.References.{IsReading}
 use Rattle.debug_cli.specs.declared.status.Status.{Status}
 use Rattle.web_page.specs.{Given.TurnGiven, Given.turn_files, Outcomes.TurnResult, Outside.files_at_start, declared.turn.SavedSession.SavedSession}
 use Rattle.web_page.specs.Promises.{KeepsPromises, telling_of_turn, transcript_of_turn}
@@ -11,6 +14,7 @@ keeps g room = record {
   transcript = λ c e. absurd (omega (arith, e));
   prefix = λ c. (
     [],
+    All-nil (IsReadIn IsReading),
     omega arith,
     record { front = []; back = transcript_of_turn c []; whole = refl; gave = refl },
     record {

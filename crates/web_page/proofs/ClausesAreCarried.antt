@@ -1,18 +1,17 @@
 -- What the command promises of its words, files, console and screen holds of what a turn is given and how it comes out.
-use Rattle.std.proofs.Common.{◌==◌, ◌∙◌, ◌≡◌, ◌≤◌, ◌⊎◌, [], ℕ, Bool, List, None, Option, Some, ap, arith, false, inl, inr, length, map, refl, subst, sym, true}
+use Rattle.std.proofs.Common.{◌==◌, ◌∙◌, ◌≡◌, ◌≤◌, ◌⊎◌, [], ℕ, All, Bool, List, None, Option, Some, ap, arith, false, inl, inr, length, refl, subst, sym, true}
 use Rattle.std.{proofs.lemmas.Bool.eqb-true, proofs.lemmas.Cmp.nat_list_cmp_total, specs.FinMap.get-insert}
 use Rattle.edge_ports.specs.{Counts.Counted, Counts.KeeperCounts, Lines.lines_of, Told.GaveAll, Told.GavePrefix}
 use Rattle.pas_lexer.specs.Limits.{source_bytes}
 use Rattle.dialog_replies.specs.Fit.{misfit}
-use Rattle.ask_session.specs.{Console.NotRisen, Dialog.transcript, Reached.Reached, Reached.telling}
-use Rattle.ask_session.specs.Saves.{FilesAfter, Save, counts_saved, saves_in}
-use Rattle.command_words.specs.Meaning.{Meant, Requested, Source, budget_spelled}
-use Rattle.debuggee.specs.Program.{NoProgram}
-use Rattle.debug_cli.specs.{Goes.Goes, Headline.Headline, Named.start_in, Named.subject_in, Outside.NoFetchFailed, Setting.MeansNoProgram, Setting.Told}
-use Rattle.debug_cli.specs.{Status.code_of, declared.status.Status.Status}
-use Rattle.web_page.proofs.AllAreStored.{all_stored, as_many, files_are_saved, same_bytes}
+use Rattle.ask_session.specs.{Console.NotRisen, Dialog.Granted, Dialog.transcript, Reached.Reached, Reached.telling}
+use Rattle.ask_session.specs.Wishes.{AreReadIn, FilesAfter, counts_granted, wishes_in}
+use Rattle.debuggee.specs.{Program.NoProgram, References.IsReading}
+use Rattle.debug_cli.specs.{Goes.Goes, Headline.Headline, Meaning.Meant, Meaning.Requested, Meaning.Source, Meaning.budget_spelled, Named.start_in}
+use Rattle.debug_cli.specs.{Named.subject_in, Outside.NoFetchFailed, Setting.MeansNoProgram, Setting.Told, Status.code_of, declared.status.Status.Status}
+use Rattle.web_page.proofs.NoCallFails.{all_went_well, same_bytes}
 use Rattle.web_page.specs.{Given.TurnGiven, Given.turn_files, Given.turn_meaning, Outside.FilesState, Outside.counts_of, Outside.files_at_start}
-use Rattle.web_page.specs.Promises.{CanAsk, files_saved, saves_of_turn, telling_of_turn, transcript_of_turn}
+use Rattle.web_page.specs.Promises.{CanAsk, WentWell, telling_of_turn, transcript_of_turn, wishes_of_turn}
 
 -- what the words mean, the files, the console's bytes, and what the screen has before and after
 pub record Situation : Type 0 where
@@ -38,7 +37,7 @@ is_turn x g {shown} m f l b a =
     ∙ ap (λ (it : Option (List ℕ)). record { meant = turn_meaning g; files = files_at_start g; left = g.console; before = Some []; after = it }) a
 
 -- no call of the files of a turn fails
-pub no_fetch_failed : (before now : FilesState) → NoFetchFailed (counts_of before) (counts_of now)
+pub no_fetch_failed : {left left' : Option (List ℕ)} (before now : FilesState) → NoFetchFailed (counts_of before) (counts_of now) left left'
 no_fetch_failed before now = inl (λ rose. absurd (omega (arith, rose)))
 
 -- nor one of its console
@@ -54,18 +53,20 @@ HeadlineAt status x =
 abbrev pub TranscriptAt : (status : ℕ) → (now : FilesState) → Situation → Type 0
 TranscriptAt status now x =
     (r : Requested) (t : Told r (Some x.files.files) (Some x.left)) → x.meant ≡ Some (Source r) → status ≡ 0
-    → (saves : List Bool) × (length saves ≡ length (saves_in (subject_in t.begun) (start_in t.begun) (lines_of t.console)))
-    × GaveAll x.before x.after (transcript (subject_in t.begun) (start_in t.begun) saves t.console)
-    × FilesAfter saves (saves_in (subject_in t.begun) (start_in t.begun) (lines_of t.console)) (Some x.files.files) (Some now.files)
-    × (counts_of now ≡ counts_saved saves (counts_of x.files))
+    → (granted : List Granted) × AreReadIn IsReading granted
+    × (length granted ≡ length (wishes_in (subject_in t.begun) (start_in t.begun) granted (lines_of t.console)))
+    × GaveAll x.before x.after (transcript (subject_in t.begun) (start_in t.begun) granted t.console)
+    × FilesAfter granted (wishes_in (subject_in t.begun) (start_in t.begun) granted (lines_of t.console)) (Some x.files.files) (Some now.files)
+    × (counts_of now ≡ counts_granted granted (counts_of x.files))
 
 abbrev pub FirstPartAt : (now : FilesState) → Situation → Type 0
 FirstPartAt now x =
     (r : Requested) (t : Told r (Some x.files.files) (Some x.left)) → x.meant ≡ Some (Source r)
-    → (saves : List Bool) × (length saves ≤ length (saves_in (subject_in t.begun) (start_in t.begun) (lines_of t.console)))
-    × GavePrefix x.before x.after (transcript (subject_in t.begun) (start_in t.begun) saves t.console)
-    × FilesAfter saves (saves_in (subject_in t.begun) (start_in t.begun) (lines_of t.console)) (Some x.files.files) (Some now.files)
-    × Reached (telling (subject_in t.begun) (start_in t.begun)) (lines_of t.console) saves x.before x.after
+    → (granted : List Granted) × AreReadIn IsReading granted
+    × (length granted ≤ length (wishes_in (subject_in t.begun) (start_in t.begun) granted (lines_of t.console)))
+    × GavePrefix x.before x.after (transcript (subject_in t.begun) (start_in t.begun) granted t.console)
+    × FilesAfter granted (wishes_in (subject_in t.begun) (start_in t.begun) granted (lines_of t.console)) (Some x.files.files) (Some now.files)
+    × Reached (telling (subject_in t.begun) (start_in t.begun)) (lines_of t.console) granted x.before x.after
 
 -- a session that fits ends so, where the screen does not fail
 abbrev pub EndingAt : (status wanted : ℕ) → (List ℕ → Type 0) → (calm : Type 0) → Situation → Type 0
@@ -103,9 +104,10 @@ module _ {x : Situation} (g : TurnGiven) {shown : List ℕ} (is : x ≡ turn_sit
   headline {status} clause c = subst (HeadlineAt status) is clause c.request c.told c.meant
 
   pub first_part : (now : FilesState) → FirstPartAt now x → (c : CanAsk g)
-      → (saves : List Bool) × (length saves ≤ length (saves_of_turn c)) × GavePrefix (Some []) (Some shown) (transcript_of_turn c saves)
-      × FilesAfter saves (saves_of_turn c) (Some (turn_files g)) (Some now.files)
-      × Reached (telling_of_turn c) (lines_of c.told.console) saves (Some []) (Some shown)
+      → (granted : List Granted) × AreReadIn IsReading granted × (length granted ≤ length (wishes_of_turn c granted))
+      × GavePrefix (Some []) (Some shown) (transcript_of_turn c granted)
+      × FilesAfter granted (wishes_of_turn c granted) (Some (turn_files g)) (Some now.files)
+      × Reached (telling_of_turn c) (lines_of c.told.console) granted (Some []) (Some shown)
   first_part now clause c = subst (FirstPartAt now) is clause c.request c.told c.meant
 
   pub ends : {status wanted : ℕ} (console : List ℕ → Type 0) {calm : Type 0} → EndingAt status wanted console calm x
@@ -122,17 +124,16 @@ module _ {x : Situation} (g : TurnGiven) {shown : List ℕ} (is : x ≡ turn_sit
   pub goes_on : {status : ℕ} {now : FilesState} {left : List ℕ} → GoesAt status now left x → GoesAt status now left (turn_situation g shown)
   goes_on {status} {now} {left} clause = subst (GoesAt status now left) is clause
 
-  pub all_are_stored : {status : ℕ} {now : FilesState} → TranscriptAt status now x → (c : CanAsk g) → status ≡ 0
-      → (shown ≡ transcript_of_turn c (map (λ (save : Save). true) (saves_of_turn c)))
-      × (now.files ≡ files_saved (saves_of_turn c) (turn_files g))
-  all_are_stored {status} {now} clause c done =
-      let it = subst (TranscriptAt status now) is clause c.request c.told c.meant done in
-      let all : it.0 ≡ map (λ (save : Save). true) (saves_of_turn c) =
-      all_stored it.0 (counts_of (files_at_start g)) refl (sym (ap (λ (counts : KeeperCounts). counts.faults) it.4))
-      ∙ as_many it.0 (saves_of_turn c) it.1 in
-      let printed : ◌≡◌ {A = Option (List ℕ)} (Some shown) (Some (transcript_of_turn c (map (λ (save : Save). true) (saves_of_turn c)))) =
-      it.2 ∙ ap (λ (answers : List Bool). Some (transcript_of_turn c answers)) all in (
-        same_bytes shown (transcript_of_turn c (map (λ (save : Save). true) (saves_of_turn c))) printed,
-        files_are_saved (saves_of_turn c) (turn_files g) now.files
-            (subst (λ (answers : List Bool). FilesAfter answers (saves_of_turn c) (Some (turn_files g)) (Some now.files)) all it.3),
+  pub all_is_well : {status : ℕ} {now : FilesState} → TranscriptAt status now x → (c : CanAsk g) → status ≡ 0
+      → (granted : List Granted) × All WentWell granted × AreReadIn IsReading granted
+      × (length granted ≡ length (wishes_of_turn c granted)) × (shown ≡ transcript_of_turn c granted)
+      × FilesAfter granted (wishes_of_turn c granted) (Some (turn_files g)) (Some now.files)
+  all_is_well {status} {now} clause c done =
+      let it = subst (TranscriptAt status now) is clause c.request c.told c.meant done in (
+        it.0,
+        all_went_well it.0 (counts_of (files_at_start g)) refl (sym (ap (λ (counts : KeeperCounts). counts.faults) it.5)),
+        it.1,
+        it.2,
+        same_bytes shown (transcript_of_turn c it.0) it.3,
+        it.4,
       )

@@ -1,3 +1,3 @@
 mod WordsMean
-mod AllAreStored
+mod NoCallFails
 mod ClausesAreCarried

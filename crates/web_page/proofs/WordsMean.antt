@@ -2,7 +2,7 @@
 use Rattle.std.proofs.Common.{◌++◌, ◌∷◌, ◌≡◌, [], ℕ, List, None, Option, Some, codes, refl}
 use Rattle.std.specs.Option.{option_map}
 use Rattle.clap.specs.{Faults.defaults_fault, Faults.walk_fault, Walk.walked}
-use Rattle.command_words.specs.Meaning.{meant}
+use Rattle.debug_cli.specs.Meaning.{meant}
 use Rattle.web_page.specs.Given.{FileGiven, TurnGiven, turn_meaning, turn_words}
 
 -- clap takes the words, whatever text the budget is

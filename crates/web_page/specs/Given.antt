@@ -2,7 +2,7 @@
 use Rattle.std.specs.Prelude.{◌++◌, ◌∷◌, [], ℕ, List, None, Option, Some, codes}
 use Rattle.std.specs.{FinMap.empty, FinMap.insert, Option.option_map}
 use Rattle.edge_ports.specs.Files.{FileMap}
-use Rattle.command_words.specs.Meaning.{Meant, Source, budget_spelled}
+use Rattle.debug_cli.specs.Meaning.{Meant, Source, budget_spelled}
 
 -- a file, by its name
 pub record FileGiven : Type 0 where

@@ -1,15 +1,16 @@
 -- What a turn promises, by what it is given and how it comes out.
-use Rattle.std.specs.Prelude.{◌∷◌, ◌≡◌, ◌≢◌, ◌≤◌, ◌⊎◌, [], ℕ, Bool, List, None, Option, Some, codes, length, map, true}
-use Rattle.std.specs.FinMap.{insert}
-use Rattle.edge_ports.specs.{Counts.no_counts, Files.FileMap, Files.file_at, Lines.lines_of, Told.GavePrefix}
+use Rattle.std.specs.Prelude.{◌≡◌, ◌≢◌, ◌≤◌, ◌⊎◌, [], ℕ, All, List, None, Some, codes, length, true}
+use Rattle.edge_ports.specs.{Files.FileMap, Files.file_at, Lines.lines_of, Told.GavePrefix}
+use Rattle.edge_ports.specs.declared.ports.FetchFault.{FetchFault}
 use Rattle.pas_lexer.specs.Limits.{source_bytes}
 use Rattle.dialog_replies.specs.Fit.{misfit}
-use Rattle.ask_session.specs.{Console.EndsInTime, Console.GoesOn, Dialog.transcript, Outside.Outside, Reached.Reached}
-use Rattle.ask_session.specs.{Reached.Telling, Reached.telling, Saves.FilesAfter, Saves.Save, Saves.saves_in}
-use Rattle.command_words.specs.Meaning.{Requested, Source, budget_spelled}
-use Rattle.debuggee.specs.Program.{NoProgram}
+use Rattle.ask_session.specs.{Console.EndsInTime, Console.GoesOn, Dialog.Granted, Dialog.Missing, Dialog.Stored}
+use Rattle.ask_session.specs.{Dialog.transcript, Outside.Outside, Reached.Reached, Reached.Telling, Reached.telling}
+use Rattle.ask_session.specs.Wishes.{AreReadIn, FilesAfter, Wish, wishes_in}
+use Rattle.debuggee.specs.{Program.NoProgram, References.IsReading}
 use Rattle.debug_cli.specs.{Goes.Goes, Headline.Headline, Named.start_in, Named.subject_in, Setting.MeansNoSession}
 use Rattle.debug_cli.specs.{Setting.Told, Status.code_of, declared.status.Status.Status}
+use Rattle.debug_cli.specs.Meaning.{Requested, Source, budget_spelled}
 use Rattle.web_page.specs.{Given.TurnGiven, Given.turn_files, Given.turn_meaning, Outcomes.IsGivenBack}
 use Rattle.web_page.specs.{Outcomes.TurnResult, Outside.FilesState, Outside.counts_of, Outside.files_at_start}
 
@@ -25,11 +26,6 @@ outside_of files left shown = record {
 abbrev pub outside_at_start : TurnGiven → Outside
 outside_at_start g = outside_of (files_at_start g) g.console []
 
--- the files once these saves were stored, one after the other
-abbrev pub files_saved : List Save → FileMap → FileMap
-files_saved [] files = files
-files_saved (save ∷ saves) files = files_saved saves (insert files save.file save.text)
-
 -- ---- a session can be held: the budget is spelled, the source is a program, the session that is gone on with is one
 
 pub record CanAsk (g : TurnGiven) : Type 0 where
@@ -37,15 +33,22 @@ pub record CanAsk (g : TurnGiven) : Type 0 where
   pub meant : turn_meaning g ≡ Some (Source request)
   pub told : Told request (Some (turn_files g)) (Some g.console)
 
--- what the lines of the console ask to save
-abbrev pub saves_of_turn : {g : TurnGiven} → CanAsk g → List Save
-saves_of_turn c = saves_in (subject_in c.told.begun) (start_in c.told.begun) (lines_of c.told.console)
+-- what the lines of the console ask the files for, by what they were given
+abbrev pub wishes_of_turn : {g : TurnGiven} → CanAsk g → (granted : List Granted) → List Wish
+wishes_of_turn c granted =
+    wishes_in (subject_in c.told.begun) (start_in c.told.begun) granted (lines_of c.told.console)
 
--- what is printed, by the answers that these lines get
-abbrev pub transcript_of_turn : {g : TurnGiven} → CanAsk g → (saves : List Bool) → List ℕ
-transcript_of_turn c saves = transcript (subject_in c.told.begun) (start_in c.told.begun) saves c.told.console
+-- what is printed, by what these lines were given
+abbrev pub transcript_of_turn : {g : TurnGiven} → CanAsk g → (granted : List Granted) → List ℕ
+transcript_of_turn c granted = transcript (subject_in c.told.begun) (start_in c.told.begun) granted c.told.console
 
--- what is said of some of its lines, and what they ask to save
+-- no store failed and no fetch did: a file that is not fetched is lacking or too long
+abbrev pub WentWell : Granted → Type 0
+WentWell (Stored stored) = stored ≡ true
+WentWell (Missing FetchFault.Failed) = ⊥
+WentWell granted = Unit {0}
+
+-- what is said of some of its lines, and what they ask for
 abbrev pub telling_of_turn : {g : TurnGiven} → CanAsk g → Telling
 telling_of_turn c = telling (subject_in c.told.begun) (start_in c.told.begun)
 
@@ -56,22 +59,25 @@ module _ (g : TurnGiven) (it : TurnResult) where
   abbrev pub HasHeadline : Type 0
   HasHeadline = (c : CanAsk g) → it.status ≡ 0 → Headline c.told (Some []) (Some it.shown)
 
-  -- At status 0 the screen got the transcript in which each line that asks to save is told that it was saved; and the
-  -- session is the text that the last line saved to `page.session`.
+  -- At status 0 the screen got the transcript in which each line that asks to save is told that it was saved, and each
+  -- that asks for a right program what the file of that name is; and the session is the text that the last line saved
+  -- to `page.session`.
   abbrev pub IsTranscript : Type 0
   IsTranscript = (c : CanAsk g) → it.status ≡ 0
-      → (it.shown ≡ transcript_of_turn c (map (λ save. true) (saves_of_turn c)))
-      × IsGivenBack it.saved it.saved_room
-      (file_at (files_saved (saves_of_turn c) (turn_files g)) (codes "page.session"))
+      → (granted : List Granted) × All WentWell granted × AreReadIn IsReading granted
+      × (length granted ≡ length (wishes_of_turn c granted)) × (it.shown ≡ transcript_of_turn c granted)
+      × (files : FileMap) × FilesAfter granted (wishes_of_turn c granted) (Some (turn_files g)) (Some files)
+      × IsGivenBack it.saved it.saved_room (file_at files (codes "page.session"))
 
-  -- At each status the screen got a first part of a transcript, of so many lines; each of their saves has its answer,
+  -- At each status the screen got a first part of a transcript, of so many lines; each of their wishes was answered,
   -- and the files are those after these answers.
   abbrev pub IsFirstPart : Type 0
   IsFirstPart = (c : CanAsk g)
-      → (saves : List Bool) × (length saves ≤ length (saves_of_turn c))
-      × GavePrefix (Some []) (Some it.shown) (transcript_of_turn c saves)
-      × Reached (telling_of_turn c) (lines_of c.told.console) saves (Some []) (Some it.shown)
-      × (files : FileMap) × FilesAfter saves (saves_of_turn c) (Some (turn_files g)) (Some files)
+      → (granted : List Granted) × AreReadIn IsReading granted
+      × (length granted ≤ length (wishes_of_turn c granted))
+      × GavePrefix (Some []) (Some it.shown) (transcript_of_turn c granted)
+      × Reached (telling_of_turn c) (lines_of c.told.console) granted (Some []) (Some it.shown)
+      × (files : FileMap) × FilesAfter granted (wishes_of_turn c granted) (Some (turn_files g)) (Some files)
       × IsGivenBack it.saved it.saved_room (file_at files (codes "page.session"))
 
   -- A session that fits comes to its end, unless the room is too small or memory runs out.

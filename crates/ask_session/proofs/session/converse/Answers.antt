@@ -20,8 +20,9 @@ returns-clause-transcript g c = λ bytes told.
       streams = record { left = left c.hold_if_fit.new.console; given = g.O.Printer.given c.hold_if_fit.new.screen };
     } in
     let t =
-    told_so s c.args.start.now (left c.args.console.now) (left c.hold_if_fit.new.console) bytes told before after c.hold_if_fit.result w w.is_heard in
-    (w.saves, t.0, t.1, t.2, t.3, w.counts)
+    told_so s c.args.start.now (left c.args.console.now) (left c.hold_if_fit.new.console) bytes told (g.D.Debugged.reads c.args.run.now) before after
+    c.hold_if_fit.result w w.is_heard in
+    (w.granted, w.read, t.0, t.1, t.2, t.3, w.counts)
 
 pub returns-clause-complete : goal.returns-clause-complete
 returns-clause-complete g c = λ bytes told ends fits calm still.

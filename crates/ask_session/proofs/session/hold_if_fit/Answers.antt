@@ -19,7 +19,7 @@ returns-in-Ok-clause-goes g c =
     } in
     let given' = g.O.Printer.given c.print_all.new.printer in
     let why = unfit_by (misfit s c.args.start.now) c.in-Ok-Some.line (sym c.in-Ok-Some.field-0-is ∙ c.in-Ok-Some.ensures) in
-    refused_so s c.args.start.now before given' why.0 why.1
+    refused_so s c.args.start.now (g.D.Debugged.reads c.args.run.now) before given' why.0 why.1
     (subst (λ (x : List ℕ). GaveAll before.streams.given given' x) (c.as_slice.ensures ∙ why.2) c.in-Ok.ensures.ok)
 
 pub returns-in-Ok-Some-clause-goes : goal.returns-in-Ok-Some-clause-goes
@@ -32,7 +32,7 @@ returns-in-Ok-Some-clause-goes g c =
     } in
     let given' = g.O.Printer.given c.print_all.new.printer in
     let why = unfit_by (misfit s c.args.start.now) c.in-Ok-Some.line (sym c.in-Ok-Some.field-0-is ∙ c.in-Ok-Some.ensures) in
-    screen_at_once s c.args.start.now before given' (misfit_line why.0) []
+    screen_at_once s c.args.start.now (g.D.Debugged.reads c.args.run.now) before given' (misfit_line why.0) []
     (printed_misfit s c.args.start.now why.0 [] (lines_in nothing) why.1 ∙ sym (append-nil (misfit_line why.0)))
     (subst (λ (x : List ℕ). GavePrefix before.streams.given given' x) (c.as_slice.ensures ∙ why.2) c.in-Err-print_all.ensures.failed)
 
@@ -44,4 +44,4 @@ returns-clause-goes g c =
       counts = g.K.Keeper.counts c.args.keeper.now;
       streams = record { left = g.I.Source.left c.args.console.now; given = g.O.Printer.given c.args.screen.now };
     } in
-    ended_at_once s c.args.start.now before
+    ended_at_once s c.args.start.now (g.D.Debugged.reads c.args.run.now) before

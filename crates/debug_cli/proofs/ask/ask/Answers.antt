@@ -1,8 +1,8 @@
 use Rattle.std.proofs.Common.{◌∙◌, ℕ, Err, List, None, Some, ap, inl, refl, subst}
-use Rattle.command_words.specs.{Meaning.IsWithinLimits, Reading.meant_of, declared.request.Asked.Asked}
 use Rattle.debug_cli.proofs.StatusTellsWhy.{made_gone, refusal_gone, session_gone, words_gone}
 use Rattle.debug_cli.proofs.ask.ask.Goals as goal
-use Rattle.debug_cli.specs.{Given.GivesText, Outside.outside, Setting.NamesNoFile, declared.status.Status.Status}
+use Rattle.debug_cli.specs.{Given.GivesText, Meaning.IsWithinLimits, Outside.outside, Reading.meant_of, Setting.NamesNoFile}
+use Rattle.debug_cli.specs.declared.{request.Asked.Asked, status.Status.Status}
 
 pub ask_about-requires-clause-budget : goal.ask_about-requires-clause-budget
 ask_about-requires-clause-budget g c =

@@ -14,7 +14,8 @@ returns-clause-headline g c = λ r t means e.
     let whole = tables_are_whole c.one_run.ensures c.args.words.now c.ask.ensures.gone r means t (sym c.code.ensures ∙ e) in
     let supply : Supply = record { input = t.begun.run.input; budget = r.budget } in
     record {
-      saves = f.saves;
+      granted = f.granted;
+      read = f.read;
       printed = f.gave;
       asks = c.search_is_sound.ensures.asks tokens rows supply;
       narrows = c.search_is_sound.ensures.narrows tokens rows supply;
@@ -24,11 +25,11 @@ returns-clause-headline g c = λ r t means e.
 pub returns-clause-transcript : goal.returns-clause-transcript
 returns-clause-transcript g c = λ set e.
     let f = whole_transcript c.one_run.ensures c.args.words.now c.ask.ensures.gone set (sym c.code.ensures ∙ e) in
-    (f.saves, f.each, f.gave, f.files_are, f.counts_are)
+    (f.granted, f.read, f.each, f.gave, f.files_are, f.counts_are)
 
 pub returns-clause-prefix : goal.returns-clause-prefix
 returns-clause-prefix g c = λ set well.
-    let f = first_part c.one_run.ensures c.args.words.now c.ask.ensures.gone set well in (f.saves, f.few, f.gave, f.files_are, f.reached)
+    let f = first_part c.one_run.ensures c.args.words.now c.ask.ensures.gone set well in (f.granted, f.read, f.few, f.gave, f.files_are, f.reached)
 
 pub returns-clause-complete : goal.returns-clause-complete
 returns-clause-complete g c = λ set wanted comes none.
@@ -51,11 +52,11 @@ returns-clause-no_session g c = λ means told well still.
     (session_refused c.ask.ensures.gone c.one_run.ensures told well means screen)
 
 pub returns-clause-without_faults : goal.returns-clause-without_faults
-returns-clause-without_faults g c = λ some none calm still.
+returns-clause-without_faults g c = λ some quiet calm still.
     let console = no_console c.ask.result (g.I.Source.faults c.args.console.now) (g.I.Source.faults c.ask.new.console) c.ask.ensures.console_faults calm in
     let screen = no_screen c.ask.result (g.O.Printer.faults c.args.screen.now) (g.O.Printer.faults c.ask.new.screen) c.ask.ensures.screen_faults still in
     subst (λ (n : ℕ). (n ≡ 0) ⊎ (n ≡ 3) ⊎ (n ≡ 7) ⊎ (n ≡ 8) ⊎ (n ≡ 9)) (sym c.code.ensures)
-    (no_fault_status c.ask.ensures.gone some none console screen)
+    (no_fault_status c.ask.ensures.gone some quiet console screen)
 
 pub returns-clause-goes : goal.returns-clause-goes
 returns-clause-goes g c = (c.ask.result, c.code.ensures, c.ask.ensures.gone.goes)

@@ -3,11 +3,11 @@ use Rattle.sha2.specs.Sha256.{sha256}
 use Rattle.edge_ports.specs.Counts.{Counted}
 use Rattle.dialog_replies.specs.declared.start.Start.{Start}
 use Rattle.ask_session.specs.{Outside.Outside, Went.Went}
-use Rattle.command_words.specs.{Meaning.Requested, Meaning.Source, Reading.requested_by}
-use Rattle.debuggee.specs.{Execution.Execution, Execution.execution_of, Limits.input_bytes, Subjects.subject_of}
+use Rattle.debuggee.specs.{Execution.Execution, Execution.execution_of, Limits.input_bytes, References.IsReading, Subjects.subject_of}
 use Rattle.debug_cli.proofs.{StatusByCode.console_by_end, StatusByCode.screen_by_end, StatusTellsWhy.talk_goes}
 use Rattle.debug_cli.proofs.files.ask_about.Goals as goal
-use Rattle.debug_cli.specs.{Goes.Goes, Named.Begun, Named.start_in, Outside.outside, Status.is_console, Status.is_screen}
+use Rattle.debug_cli.specs.{Goes.Goes, Meaning.Requested, Meaning.Source, Named.Begun, Named.start_in, Outside.outside, Reading.requested_by}
+use Rattle.debug_cli.specs.Status.{is_console, is_screen}
 
 pub run_program-requires-clause-input : goal.run_program-requires-clause-input
 run_program-requires-clause-input g c = subst (λ (b : List ℕ). length b ≤ input_bytes) (sym c.as_slice-3.ensures) c.requires.supplied.short
@@ -39,8 +39,8 @@ returns-in-Ok-clause-gone g c =
     let same : begins ≡ start_in b = λ i. record { source = source i; input = input i; budget = r.budget; saved = s.saved } in
     let run : List ℕ → Execution = λ x. execution_of s.program.tokens s.program.program (record { input = x; budget = r.budget }) in
     let kept = c.in-Ok.ensures.kept ∙ ap run c.as_slice-3.ensures in
-    let ran = subst (λ (h : Execution). Went (subject_of h) begins before c.converse.result after) kept c.converse.ensures.goes in
-    let went = subst (λ (s' : Start). Went (subject_of (run s.input)) s' before c.converse.result after) same ran in
+    let ran = subst (λ (h : Execution). Went IsReading (subject_of h) begins before c.converse.result after) kept c.converse.ensures.goes in
+    let went = subst (λ (s' : Start). Went IsReading (subject_of (run s.input)) s' before c.converse.result after) same ran in
     record {
       goes = subst (Goes (Some (Source r)) before after) (sym c.status_of.ensures)
           (talk_goes r before after b c.is_whole.ensures.whole c.converse.result went);

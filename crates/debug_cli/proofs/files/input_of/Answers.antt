@@ -1,9 +1,8 @@
 use Rattle.std.proofs.Common.{◌≤◌, ℕ, Bor, IfOk, List, Option, ap, inl, inr, length, option_map, refl, subst, sym}
 use Rattle.std.proofs.lemmas.Result.{IfOk-weaker}
-use Rattle.command_words.specs.Reading.{requested_by}
 use Rattle.debuggee.specs.Limits.{input_bytes}
 use Rattle.debug_cli.proofs.files.input_of.Goals as goal
-use Rattle.debug_cli.specs.Named.{IsFetched, IsInput}
+use Rattle.debug_cli.specs.{Named.IsFetched, Named.IsInput, Reading.requested_by}
 
 pub returns-in-Some-clause-input : goal.returns-in-Some-clause-input
 returns-in-Some-clause-input g c =

@@ -1,10 +1,9 @@
 use Rattle.std.proofs.Common.{ℕ, List, None, inr, refl, subst, sym}
 use Rattle.std.proofs.lemmas.Result.{err_from_is_err_and}
 use Rattle.ask_session.specs.Outside.{Outside}
-use Rattle.command_words.specs.Meaning.{Source}
 use Rattle.debug_cli.proofs.RefusalsAreOwed.{loaded, session_refused}
 use Rattle.debug_cli.proofs.files.loaded.Goals as goal
-use Rattle.debug_cli.specs.{Limits.session_bytes, Named.IsFetched, Outside.outside, Refusals.IsRefusal, declared.refusals.Refusal.Refusal}
+use Rattle.debug_cli.specs.{Limits.session_bytes, Meaning.Source, Named.IsFetched, Outside.outside, Refusals.IsRefusal, declared.refusals.Refusal.Refusal}
 
 pub returns-in_err-bytes-clause-refused : goal.returns-in_err-bytes-clause-refused
 returns-in_err-bytes-clause-refused g c = λ r run named.

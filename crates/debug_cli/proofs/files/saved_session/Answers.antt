@@ -1,7 +1,6 @@
 use Rattle.std.proofs.Common.{ℕ, Bor, IfOk, List, None, Option, ap, option_map, refl, subst, sym}
-use Rattle.command_words.specs.Reading.{requested_by}
 use Rattle.debug_cli.proofs.files.saved_session.Goals as goal
-use Rattle.debug_cli.specs.Named.{IsSaved}
+use Rattle.debug_cli.specs.{Named.IsSaved, Reading.requested_by}
 
 pub returns-in-Some-clause-saved : goal.returns-in-Some-clause-saved
 returns-in-Some-clause-saved g c =

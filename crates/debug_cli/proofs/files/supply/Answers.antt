@@ -2,11 +2,10 @@ use Rattle.std.proofs.Common.{◌∙◌, ◌≤◌, ℕ, List, None, inl, length
 use Rattle.std.proofs.lemmas.Result.{err_from_is_err_and}
 use Rattle.pas_lexer.specs.Limits.{source_bytes}
 use Rattle.ask_session.specs.Outside.{Outside}
-use Rattle.command_words.specs.{Meaning.Source, Reading.requested_by}
 use Rattle.debuggee.specs.Program.{IsProgram}
 use Rattle.debug_cli.proofs.{RefusalsAreOwed.source_refused, WhatIsSupplied.all_supplied, WhatIsSupplied.is_checked, WhatIsSupplied.is_run}
 use Rattle.debug_cli.proofs.files.supply.Goals as goal
-use Rattle.debug_cli.specs.{Named.IsFetched, Outside.outside, Refusals.IsRefusal, declared.refusals.Refusal.Refusal}
+use Rattle.debug_cli.specs.{Meaning.Source, Named.IsFetched, Outside.outside, Reading.requested_by, Refusals.IsRefusal, declared.refusals.Refusal.Refusal}
 
 pub read_source-requires : goal.read_source-requires
 read_source-requires g c = subst (λ (b : List ℕ). length b ≤ source_bytes) (sym c.as_slice.ensures) c.in_ok-source.ensures.bytes.1

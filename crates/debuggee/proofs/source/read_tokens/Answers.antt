@@ -1,9 +1,15 @@
-use Rattle.debuggee.proofs.SourceIsRun.{misfit_only, misfit_unlexed}
+use Rattle.std.proofs.Common.{Err, List, subst, sym}
+use Rattle.pas_lexer.specs.{Division.IsLexed, declared.kinds.Token.Token}
+use Rattle.debuggee.proofs.SourceIsRun.{piece_only, piece_unlexed}
 use Rattle.debuggee.proofs.source.read_tokens.Goals as goal
+use Rattle.debuggee.specs.Program.{IsUnlexed, TokensAre}
 
 pub returns-in-Err-clause-only : goal.returns-in-Err-clause-only
-returns-in-Err-clause-only c = misfit_only c.args.source.now c.in-Err.fault c.misfit.result c.in-Err.ensures.only c.misfit.ensures.memory
+returns-in-Err-clause-only c =
+    subst (λ e. (tokens : List Token) → IsLexed c.args.source.now tokens → TokensAre tokens (Err e)) (sym c.fault_of_piece.ensures)
+    (piece_only c.args.source.now c.in-Err.fault c.in-Err.ensures.only)
 
 pub returns-in-Err-clause-fault : goal.returns-in-Err-clause-fault
 returns-in-Err-clause-fault c =
-    misfit_unlexed c.args.source.now c.in-Err.fault c.misfit.result c.in-Err.ensures.only c.misfit.ensures.memory c.misfit.ensures.misfit
+    subst (IsUnlexed c.args.source.now) (sym c.fault_of_piece.ensures)
+    (piece_unlexed c.args.source.now c.in-Err.fault c.in-Err.ensures.fault c.in-Err.ensures.only)

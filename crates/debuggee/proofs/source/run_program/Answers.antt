@@ -37,6 +37,7 @@ invariant_of-result c =
     } in
     record {
       short = c.requires.input;
+      some_steps = let some = c.requires.steps in let same = kept.budget in omega (arith, some, same);
       few_steps = let few = c.requires.few_steps in let same = kept.budget in omega (arith, few, same);
       ran = history_is of_run;
       some = some_call c.every_run_has_a_call.ensures c.every_program_runs.ensures p c.is_whole.ensures.whole given history.calls kept.calls;

@@ -2,8 +2,8 @@ use Rattle.std.proofs.Common.{◌-◌, ◌∙◌, ◌≡◌, None, Some, arith, 
 use Rattle.std.proofs.lemmas.Result.{err_from_is_err_and}
 use Rattle.json.{proofs.Grammar.read_key-shorter, specs.Json.read_key, specs.Json.value}
 use Rattle.serde_json.specs.{Data.no_members, Data.put, View.members_view}
-use Rattle.json_pass.proofs.Turns.{key_refused, member_read, member_refused, members_over}
 use Rattle.session_file.proofs.{FieldsShown.field_shown, FieldsShown.none_shown, WholeRead.refused_with}
+use Rattle.session_file.proofs.PassTurns.{key_refused, member_read, member_refused, members_over}
 use Rattle.session_file.proofs.fields.fields_in.Goals as goal
 use Rattle.session_file.specs.Shown.{Shows}
 

@@ -1,9 +1,8 @@
 use Rattle.std.proofs.Common.{◌≡◌, ◌≤◌, ℕ, length}
 use Rattle.json.specs.Json.{members, value}
 use Rattle.serde_json.specs.{Data.Members, Read.converted, Read.of_members, View.members_view}
-use Rattle.json_pass.specs.Passing.{members_read}
 use Rattle.session_file.proofs.fields.fields_in.Given as goal
-use Rattle.session_file.specs.Shown.{Shows}
+use Rattle.session_file.specs.{Passing.members_read, Shown.Shows}
 
 abbrev pub invariant-members : goal.invariant-members
 invariant-members l =

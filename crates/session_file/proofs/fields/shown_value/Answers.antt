@@ -1,11 +1,10 @@
 use Rattle.std.proofs.Common.{◌∙◌, ap, inr, refl, subst, sym}
 use Rattle.json.specs.{Json.parse_map, Reads.token_of}
 use Rattle.serde_json.specs.Data.{object}
-use Rattle.json_pass.specs.Passing.{value_read}
 use Rattle.session_file.proofs.FieldsShown.{no_fields, object_shown, view-null}
 use Rattle.session_file.proofs.WholeRead.{nothing_read, object_read, refused_with}
 use Rattle.session_file.proofs.fields.shown_value.Goals as goal
-use Rattle.session_file.specs.Shown.{ShowsValue}
+use Rattle.session_file.specs.{Passing.value_read, Shown.ShowsValue}
 
 pub returns-in_default-clause-refused : goal.returns-in_default-clause-refused
 returns-in_default-clause-refused c = inr (refl, nothing_read c.args.depth c.args.reader.now c.in_default.ensures.value.0)

@@ -1,7 +1,7 @@
 use Rattle.std.proofs.Common.{◌-◌, ◌<◌, ◌∙◌, ◌≡◌, None, Some, ap, arith, length, sym}
 use Rattle.json.{proofs.Grammar.after_end_array-shorter, specs.Json.after_end_array, specs.Json.items, specs.Json.value}
 use Rattle.serde_json.specs.Read.{converted}
-use Rattle.json_pass.proofs.Turns.{all_found, item_made, item_refused, items_made, made_of, none_made, none_read}
+use Rattle.session_file.proofs.PassTurns.{all_found, item_made, item_refused, items_made, made_of, none_made, none_read}
 use Rattle.session_file.proofs.WholeRead.{refused_with}
 use Rattle.session_file.proofs.listed.entries_in.Goals as goal
 use Rattle.session_file.specs.Listed.{next_listed, nothing_listed}

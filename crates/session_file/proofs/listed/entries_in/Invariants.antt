@@ -1,7 +1,7 @@
 use Rattle.std.proofs.Common.{◌≡◌, ◌≤◌, ℕ, Some, length}
 use Rattle.json.specs.Json.{items, value}
 use Rattle.serde_json.specs.Read.{converted}
-use Rattle.json_pass.proofs.Turns.{made_of}
+use Rattle.session_file.proofs.PassTurns.{made_of}
 use Rattle.session_file.proofs.listed.entries_in.Given as goal
 use Rattle.session_file.specs.Listed.{next_listed, nothing_listed}
 

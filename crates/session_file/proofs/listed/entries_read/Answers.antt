@@ -2,10 +2,9 @@ use Rattle.std.proofs.Common.{◌∙◌, Some, ap, arith, inr, option_and_then, 
 use Rattle.std.proofs.lemmas.Result.{IfErr-weaker, IfOk-weaker}
 use Rattle.json.specs.{Json.parse_map, Reads.token_of}
 use Rattle.serde_json.specs.Data.{array}
-use Rattle.json_pass.specs.Passing.{value_read}
 use Rattle.session_file.proofs.{ListsShown.no_list, WholeRead.array_read, WholeRead.nothing_read, WholeRead.refused_with}
 use Rattle.session_file.proofs.listed.entries_read.Goals as goal
-use Rattle.session_file.specs.Listed.{all_listed, nothing_listed}
+use Rattle.session_file.specs.{Listed.all_listed, Listed.nothing_listed, Passing.value_read}
 
 pub returns-in_default-clause-refused : goal.returns-in_default-clause-refused
 returns-in_default-clause-refused c = inr (refl, nothing_read c.args.depth c.args.reader.now c.in_default.ensures.value.0)

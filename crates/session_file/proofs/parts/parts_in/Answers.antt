@@ -2,8 +2,8 @@ use Rattle.std.proofs.Common.{◌-◌, ◌∙◌, ◌≡◌, None, Some, arith, 
 use Rattle.std.proofs.lemmas.Result.{err_from_is_err_and}
 use Rattle.json.{proofs.Grammar.read_key-shorter, specs.Json.read_key, specs.Json.value}
 use Rattle.serde_json.specs.Data.{no_members, put}
-use Rattle.json_pass.proofs.Turns.{key_refused, member_read, member_refused, members_over}
 use Rattle.session_file.proofs.{PartsRead.no_parts, WholeRead.refused_with}
+use Rattle.session_file.proofs.PassTurns.{key_refused, member_read, member_refused, members_over}
 use Rattle.session_file.proofs.parts.parts_in.Goals as goal
 
 pub members-init : goal.members-init

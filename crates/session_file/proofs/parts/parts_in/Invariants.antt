@@ -1,9 +1,8 @@
 use Rattle.std.proofs.Common.{◌≡◌, ◌≤◌, ℕ, length}
 use Rattle.json.specs.Json.{members, value}
 use Rattle.serde_json.specs.{Data.Members, Read.converted, Read.of_members}
-use Rattle.json_pass.specs.Passing.{members_read}
 use Rattle.session_file.proofs.parts.parts_in.Given as goal
-use Rattle.session_file.specs.Parts.{AreParts}
+use Rattle.session_file.specs.{Parts.AreParts, Passing.members_read}
 
 abbrev pub invariant-members : goal.invariant-members
 invariant-members l =

@@ -1,11 +1,10 @@
 use Rattle.std.proofs.Common.{◌∙◌, ap, arith, inr, sym}
 use Rattle.json.specs.{Json.parse_map, Reads.token_of}
 use Rattle.serde_json.specs.{Data.object, Read.max_depth}
-use Rattle.json_pass.specs.Passing.{value_read}
 use Rattle.session_file.proofs.{PartsSame.parts_session, WholeRead.nothing_read, WholeRead.object_read}
 use Rattle.session_file.proofs.TextRead.{ended, no_session, refused_text, text_followed, text_refused, text_whole}
 use Rattle.session_file.proofs.reading.session_read.Goals as goal
-use Rattle.session_file.specs.Reading.{session_or_fault}
+use Rattle.session_file.specs.{Passing.value_read, Reading.session_or_fault}
 
 pub returns-in_default : goal.returns-in_default
 returns-in_default c =

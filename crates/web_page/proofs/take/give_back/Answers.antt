@@ -1,4 +1,4 @@
-use Rattle.std.proofs.Common.{◌∙◌, ◌≡◌, ℕ, List, Some, ap, length, refl, sym, take}
+use Rattle.std.proofs.Common.{◌∙◌, ℕ, List, Some, ap, length, refl, sym, take}
 use Rattle.web_page.proofs.take.give_back.Goals as goal
 
 pub returns-in-Ok : goal.returns-in-Ok

@@ -1,5 +1,5 @@
 use Rattle.std.proofs.Common.{◌∙◌, ap}
-use Rattle.command_words.specs.Meaning.{meant}
+use Rattle.debug_cli.specs.Meaning.{meant}
 use Rattle.web_page.proofs.WordsMean.{words_mean}
 use Rattle.web_page.proofs.take.prepared.Goals as goal
 use Rattle.web_page.specs.Turns.{given_by}

@@ -1,12 +1,11 @@
-use Rattle.std.proofs.Common.{◌∙◌, [], Some, ap, arith, codes, inl, refl, rules, subst}
-use Rattle.edge_ports.specs.Files.{FileMap, file_at}
-use Rattle.ask_session.specs.Console.{EndsInTime, GoesOn}
+use Rattle.std.proofs.Common.{◌∙◌, [], Some, ap, arith, inl, refl, rules}
+use Rattle.std.proofs.lemmas.List.Elements.{All-nil}
+use Rattle.ask_session.specs.{Console.EndsInTime, Console.GoesOn, Wishes.IsReadIn}
+use Rattle.debuggee.specs.References.{IsReading}
 use Rattle.debug_cli.specs.{Named.Words, Named.meaning, Setting.InFiles, declared.status.Status.Status}
-use Rattle.web_page.proofs.ClausesAreCarried.{all_are_stored, console_is_calm, ends, first_part, goes_on, headline, is_turn, no_fetch_failed, refused}
-use Rattle.web_page.proofs.ClausesAreCarried.{unless_full}
+use Rattle.web_page.proofs.ClausesAreCarried.{all_is_well, console_is_calm, ends, first_part, goes_on, headline, is_turn, no_fetch_failed, refused, unless_full}
 use Rattle.web_page.proofs.take.take_turn.Goals as goal
-use Rattle.web_page.specs.{Given.turn_files, Outcomes.IsGivenBack, Outside.files_at_start, Turns.given_by}
-use Rattle.web_page.specs.Promises.{telling_of_turn, transcript_of_turn}
+use Rattle.web_page.specs.{Given.turn_files, Outside.files_at_start, Promises.telling_of_turn, Promises.transcript_of_turn, Turns.given_by}
 
 pub returns-in-Ok-clause-headline : goal.returns-in-Ok-clause-headline
 returns-in-Ok-clause-headline c =
@@ -16,11 +15,11 @@ returns-in-Ok-clause-headline c =
 
 pub returns-in-Ok-clause-transcript : goal.returns-in-Ok-clause-transcript
 returns-in-Ok-clause-transcript c = λ can done.
-    let it = all_are_stored (given_by c.args.turn.now) (is_turn _ (given_by c.args.turn.now)
+    let it = all_is_well (given_by c.args.turn.now) (is_turn _ (given_by c.args.turn.now)
     (ap (λ (it : Words). meaning it) c.deref.ensures.value ∙ c.in-Ok.ensures.meaning)
     c.in-Ok.ensures.files c.new-console.ensures c.new-page.ensures.given (search rules))
     (λ r t means e. c.ask_pascal-status.ensures.transcript (InFiles r means t) e) can done in
-    (it.0, subst (λ (files : FileMap). IsGivenBack c.give_back.result c.give_back.new.room (file_at files (codes "page.session"))) it.1 c.give_back.ensures)
+    (it.0, it.1, it.2, it.3, it.4, c.ask_pascal-status.new.keeper.files, it.5, c.give_back.ensures)
 
 pub returns-in-Ok-clause-prefix : goal.returns-in-Ok-clause-prefix
 returns-in-Ok-clause-prefix c = λ can.
@@ -29,7 +28,7 @@ returns-in-Ok-clause-prefix c = λ can.
     c.in-Ok.ensures.files c.new-console.ensures c.new-page.ensures.given (search rules))
     c.ask_pascal-status.new.keeper
     (λ r t means. c.ask_pascal-status.ensures.prefix (InFiles r means t) (no_fetch_failed c.in-Ok.files c.ask_pascal-status.new.keeper)) can in
-    (it.0, it.1, it.2, it.4, c.ask_pascal-status.new.keeper.files, it.3, c.give_back.ensures)
+    (it.0, it.1, it.2, it.3, it.5, c.ask_pascal-status.new.keeper.files, it.4, c.give_back.ensures)
 
 pub returns-in-Ok-clause-done : goal.returns-in-Ok-clause-done
 returns-in-Ok-clause-done c = λ can fits in_time. unless_full c.new-page.ensures.faults c.ask_pascal-status.ensures.screen_faults
@@ -86,6 +85,7 @@ returns-in-Ok-clause-goes c =
 pub returns-in-Err-clause-prefix : goal.returns-in-Err-clause-prefix
 returns-in-Err-clause-prefix c = λ can. (
   [],
+  All-nil (IsReadIn IsReading),
   omega arith,
   record { front = []; back = transcript_of_turn can []; whole = refl; gave = refl },
   record {

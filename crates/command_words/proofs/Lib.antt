@@ -1,2 +1,0 @@
-mod DigitsSpellNumbers
-mod ClapReadsWords

@@ -1,3 +1,0 @@
-pub mod NotesAreText
-pub mod NotesRise
-pub mod RepliesInOrder
