@@ -8,7 +8,7 @@ use Rattle.check_steps.specs.Regions.{RegionRows, declared_in, fresh_region, reg
 use Rattle.check_steps.specs.Steps.{◌>>=◌, Step, change, extend, give, look}
 use Rattle.check_steps.specs.declared.regions.{Definition.Definition, Frame.Frame}
 use Rattle.denoter_checker.specs.Denoters.{open_record, put_record}
-use Rattle.rule_laws.proofs.{Keeping.Keeps, Lasting.Lasting, Regions.definition_labels, Regions.last_region, Regions.region_before}
+use Rattle.rule_laws.proofs.{Keeping.Keeps, Lasting.Declaring, Lasting.Lasting, Regions.definition_labels, Regions.last_region, Regions.region_before}
 
 -- ---- a frame that stays, with a region that is there
 
@@ -16,7 +16,7 @@ pub record Stands (n : ℕ) (f : Frame) (j : Known) : Type 0 where
   pub there : slice_get j.frames n ≡ Some f
   pub below : f.region < length j.regions
 
-got_still : {X : Type 0} (xs ys : List X) (n : ℕ) (x : X) → slice_get xs n ≡ Some x → slice_get (xs ++ ys) n ≡ Some x
+pub got_still : {X : Type 0} (xs ys : List X) (n : ℕ) (x : X) → slice_get xs n ≡ Some x → slice_get (xs ++ ys) n ≡ Some x
 got_still [] ys n x e = absurd (let never : None ≡ Some x = e in cc)
 got_still (y ∷ xs) ys zero x e = e
 got_still (y ∷ xs) ys (suc n) x e = got_still xs ys n x e
@@ -65,6 +65,17 @@ opened k token f e = record {
   below =
       let more = length-append k.regions (fresh_region token (length k.frames) ∷ []) in
       omega (arith, e, more);
+}
+
+pub standing_all : {G : RoutineTree → Type 0} (n : ℕ) (f : Frame) → Declaring G (Stands n f)
+standing_all n f = record {
+  kept = standing n f;
+  declares = λ j region value token s.
+      let rows = region_at j.regions region in
+      let same = length-set j.regions region (record rows { labels = rows.labels ++ (value, token) ∷ [] }) in
+      record { there = s.there; below = (let b = s.below in omega (arith, b, same)) };
+  labels = λ j token value level s. record { there = s.there; below = s.below };
+  heads = λ j name number region s. record { there = s.there; below = s.below };
 }
 
 -- ---- a region of fields

@@ -1,6 +1,7 @@
 -- The labels in front of the statements of a text.
-use Rattle.std.proofs.Common.{◌++◌, ◌||◌, ◌∙◌, ◌∷◌, ◌≡◌, ◌⊎◌, [], ℕ, Bool, List, None, Option, Some, ap, arith, false, inl, inr, length, nat_eq, refl, subst}
-use Rattle.std.proofs.{Common.suc, Common.sym, Common.true, Common.zero, lemmas.Bool.Decides.nat_tests, lemmas.Option.none-some}
+use Rattle.std.proofs.Common.{◌++◌, ◌<◌, ◌||◌, ◌∙◌, ◌∷◌, ◌≡◌, ◌⊎◌, [], ℕ, Bool, List, None, Option, Some, ap, arith, false, inl, inr, length, nat_eq, refl}
+use Rattle.std.proofs.Common.{slice_get, subst, suc, sym, true, unwrap_or, zero}
+use Rattle.std.proofs.lemmas.{Bool.Decides.nat_tests, List.append_assoc, Option.none-some}
 use Rattle.pas_lexer.specs.Lexed.{Lexed}
 use Rattle.pas_tree.specs.{HeadingPlaces.heading_name, TreeNodes.compound_node, TreeNodes.statements_node}
 use Rattle.pas_tree.specs.BlockTrees.{BlockTree, BodyTree, ProgramTree, RoutineTree, RoutineTrees, routine_body}
@@ -18,11 +19,11 @@ use Rattle.code_checker.specs.{CheckedPrograms.broken, CheckedPrograms.check_ste
 use Rattle.code_checker.specs.Blocks.{code_block, code_body, code_routine, code_routines, statement_part}
 use Rattle.code_checker.specs.Results.{function_result, has_result, name_in_first}
 use Rattle.rule_laws.proofs.{Alike.type_said, Breaks.Each, Breaks.In, Breaks.contained, Breaks.in_right, Faces.fine_in, Faces.loose, Faces.said, Keeping.Keeps}
-use Rattle.rule_laws.proofs.{LabelsTold.compound_tells, Outward.Outward, Outward.outward_longer, StatementLabels.reach_all-touches}
-use Rattle.rule_laws.proofs.{StatementStatements.compound-touches, TextFields.IsTold, TextFields.Text, TextRoutines.no_split}
+use Rattle.rule_laws.proofs.{LabelsTold.compound_tells, Outward.Outward, Outward.outward_longer, Standing.got_still, Standing.no_frame}
+use Rattle.rule_laws.proofs.{StatementLabels.reach_all-touches, StatementStatements.compound-touches, TextFields.IsTold, TextFields.Text, TextRoutines.no_split}
 use Rattle.rule_laws.proofs.Gives.{Gives, gives_both, gives_first, gives_none, gives_then}
 use Rattle.rule_laws.proofs.LabelTold.{Anywhere, Inside, IsWhere, Seen, Where, Wrong, anywhere, everywhere}
-use Rattle.rule_laws.proofs.TextTables.{IsHome, Labelled, Labelling, Tidy, labelling, program_walked}
+use Rattle.rule_laws.proofs.TextTables.{IsHome, Labelled, Labelling, Programs, Tidy, defines_first, labelling, outer_frame, program_walked}
 use Rattle.rule_laws.proofs.Touches.{Same, Touches, bind-touches, enter_block-touches, give-touches, late-touches, look-touches, same_in, same_then}
 use Rattle.rule_laws.specs.{BlockLabels.compound_labels, CaseLaws.late_at, NameLaws.block_labels, RegionNames.labels_of}
 use Rattle.rule_laws.specs.TextLaws.{MarksAreTold, TextsTellMarks, TextsTellUndeclared, UndeclaredAreTold, all_labels, all_labels_in, has_label, labels_in_body}
@@ -151,6 +152,17 @@ none_found j v (suc n) (Some f) none = by (declared_in j.regions (frame_at j f).
         → or_else o (find_label_from n j (frame_at j f).outer v) ≡ None
     by None e rest = rest
     by (Some d) e rest = absurd (none (frame_at j f).region d e)
+
+-- none is declared in a region
+not_there : (j : Known) (v region : ℕ) → ((d : ℕ) → declared_in j.regions region v ≡ Some d → ⊥) → declared_in j.regions region v ≡ None
+not_there j v region none = by (declared_in j.regions region v) refl
+  where
+    by : (o : Option ℕ) → declared_in j.regions region v ≡ o → o ≡ None
+    by None e = refl
+    by (Some d) e = absurd (none d e)
+
+at_below : (j : Known) (n : ℕ) (f : Frame) (bound : ℕ) → slice_get j.frames n ≡ Some f → f.region < bound → (frame_at j n).region < bound
+at_below j n f bound own below = subst (λ (o : Option Frame). (unwrap_or o no_frame).region < bound) (sym own) below
 
 -- one of these tokens
 abbrev Listed : List ℕ → ℕ → Type 0
@@ -312,21 +324,27 @@ mutual
 -- what is known where the statements of a text begin
 record Starts (l : Lexed) (t : ProgramTree) : Type 0 where
   begun : Begun (record { k = known_at_start l; bs = broken l t }) (program_step t (known_at_start l)).known
-  outward : Outward (program_step t (known_at_start l)).known.frames (program_step t (known_at_start l)).value
+  programs : Programs l t (Listed (all_labels t.block)) (Listed (block_labels t.block))
   declared : (region v d : ℕ) → declared_in (program_step t (known_at_start l)).known.regions region v ≡ Some d
       → (label_at (known_at_start l) d ≡ v) × Listed (all_labels t.block) d
 
+own_listed : (b : BlockTree) (n : ℕ) → Listed (block_labels b) n → Listed (all_labels b) n
+own_listed (tree.a_block labels constants types variables routines body) n h = listed_left (labels_of labels) (labels_in_routines routines) n h
+
 starts : (l : Lexed) (t : ProgramTree) → Starts l t
 starts l t =
-    let k = known_at_start l in
+    let own = block_labels t.block in
     let all = all_labels t.block in
-    let y = labelling l (Listed all) in
-    let walked = program_walked l t (Listed all) (block_own (Listed all) t.block (λ n i. i)) (block_listed y t.block (λ n i. i)) in
+    let y = labelling l t (Listed all) (Listed own) in
+    let p = program_walked l t (Listed all) (Listed own) (own_listed t.block) (each_listed (Listed own) own (λ n i. i)) (block_listed y t.block (λ n i. i)) in
     record {
-      begun = record { tidy = walked.tidy; words = walked.valued.words };
-      outward = walked.outward (program_step t k).value refl;
-      declared = walked.valued.declared;
+      begun = record { tidy = p.walked.tidy; words = p.walked.valued.words };
+      programs = p;
+      declared = p.walked.valued.declared;
     }
+
+starts_outward : (l : Lexed) (t : ProgramTree) → Starts l t → Outward (program_step t (known_at_start l)).known.frames (program_step t (known_at_start l)).value
+starts_outward l t s = s.programs.walked.outward (program_step t (known_at_start l)).value refl
 
 -- what the statements of a text give
 text_gives : (l : Lexed) (t : ProgramTree) {T : List ℕ → Type 0}
@@ -336,11 +354,92 @@ unfolding check_step ◌>>=◌
 text_gives l t giver =
     let d = program_step t (known_at_start l) in
     let s = starts l t in
-    (code_told s.begun giver d.value s.outward t.block).of d.known (record { same = same_in d.known })
+    (code_told s.begun giver d.value (starts_outward l t s) t.block).of d.known (record { same = same_in d.known })
     (λ b i. contained b (broken l t) (in_right b d.broken (code_block d.value t.block d.known).broken i))
 
 pub text_label_law : TextsTellMarks
 text_label_law l t = text_gives l t (seconds _ _ (starts l t).begun)
 
+-- ---- the program's own block
+
+-- In its frame and the one around labels are found that are declared in regions below a number.
+found_low : (j : Known) (v n around : ℕ) (f : Frame) (m bound : ℕ) → slice_get j.frames n ≡ Some f → f.outer ≡ Some around
+    → slice_get j.frames around ≡ Some outer_frame → f.region < bound
+    → ((region d : ℕ) → region < bound → declared_in j.regions region v ≡ Some d → ⊥) → find_label_from m j (Some n) v ≡ None
+found_low j v n around f zero bound own outer last below none = refl
+found_low j v n around f (suc zero) bound own outer last below none =
+    ap (λ o. or_else o (find_label_from 0 j (frame_at j n).outer v))
+    (not_there j v (frame_at j n).region (λ d e. none (frame_at j n).region d (at_below j n f bound own below) e))
+    ∙ none_left j v (frame_at j n).outer
+  where
+    none_left : (j : Known) (v : ℕ) (at : Option ℕ) → find_label_from 0 j at v ≡ None
+    none_left j v None = refl
+    none_left j v (Some f) = refl
+found_low j v n around f (suc (suc m)) bound own outer last below none =
+    let at : (frame_at j n).outer ≡ Some around = ap (λ (o : Option Frame). (unwrap_or o no_frame).outer) own ∙ outer in
+    let at_last : frame_at j around ≡ outer_frame = ap (λ (o : Option Frame). unwrap_or o no_frame) last in
+    ap (λ o. or_else o (find_label_from (suc m) j (frame_at j n).outer v))
+    (not_there j v (frame_at j n).region (λ d e. none (frame_at j n).region d (at_below j n f bound own below) e))
+    ∙ ap (λ at. find_label_from (suc m) j at v) at
+    ∙ ap (λ (g : Frame). or_else (declared_in j.regions g.region v) (find_label_from m j g.outer v)) at_last
+    ∙ ap (λ o. or_else o (find_label_from m j None v)) (not_there j v 0 (λ d e. none 0 d (omega (arith, below)) e))
+    ∙ outermost_none j v m
+  where
+    outermost_none : (j : Known) (v m : ℕ) → find_label_from m j None v ≡ None
+    outermost_none j v zero = refl
+    outermost_none j v (suc m) = refl
+
+main_told : (x : Text) {k : Known} (T : List ℕ → Type 0) (frame : ℕ) (b : BlockTree)
+    → ((c : CompoundTree) → Gives (Coded k) (IsTold x) (compound frame c) (T (compound_labels c)))
+    → Gives (Coded k) (IsTold x) (code_block frame b) (T (statement_labels b))
+unfolding statement_part
+main_told x {k = k} T frame (tree.a_block labels constants types variables routines body) gives =
+    let span = span_of (tree.a_block labels constants types variables routines body) in
+    gives_then (coded {k = k} (reach_all-touches frame (compound_body body) (everywhere (statements_node (compound_body body))))) (λ _.
+    gives_then (coded (code_routines-touches routines)) (λ _. gives_then (coded (enter_block-touches span)) (λ _. gives_first _ (gives body))))
+
+main_gives : (l : Lexed) (t : ProgramTree) → Starts l t → (c : CompoundTree)
+    → let x : Text = record { k = known_at_start l; bs = broken l t } in
+    Gives (Coded (program_step t (known_at_start l)).known) (IsTold x) (compound (program_step t (known_at_start l)).value c)
+    (UndeclaredAreTold x.k x.bs (block_labels t.block) (compound_labels c))
+main_gives l t s c = record {
+  of = λ j i w before label after same off.
+      let x : Text = record { k = known_at_start l; bs = broken l t } in
+      let d = program_step t (known_at_start l) in
+      let k = d.known in
+      let p : Where = record { k = j; frame = d.value; t = label } in
+      let valued = s.programs.walked.valued in
+      let f = s.programs.frame in
+      let spelled : label_at j label ≡ label_at x.k label
+      = ap (λ (ws : List SpelledToken). label_at (record x.k { words = ws }) label) (i.same.words ∙ s.begun.words) in
+      let none : (region m : ℕ) → region < length (defines_first l t).regions → declared_in j.regions region (label_at j label) ≡ Some m → ⊥ =
+      λ region m less e.
+      let here = sym (ap (λ (rs : List RegionRows). declared_in rs region (label_at j label)) i.same.regions) ∙ e in
+      let is = valued.declared region (label_at j label) m here in
+      let own = valued.below region (label_at j label) m less here in
+      let never : true ≡ false = sym (listed_has x.k (block_labels t.block) m label own (is.0 ∙ spelled)) ∙ off in cc in
+      let fs = (defines_first l t).frames in
+      let frames : j.frames ≡ fs ++ (valued.frames.more ++ i.same.frames.more)
+      = i.same.frames.is ∙ ap (λ gs. gs ++ i.same.frames.more) valued.frames.is ∙ append_assoc fs valued.frames.more i.same.frames.more in
+      let there : slice_get j.frames d.value ≡ Some f
+      = ap (λ (gs : List Frame). slice_get gs d.value) frames ∙ got_still fs (valued.frames.more ++ i.same.frames.more) d.value f s.programs.stands.there in
+      let last : slice_get j.frames s.programs.around ≡ Some outer_frame
+      = ap (λ (gs : List Frame). slice_get gs s.programs.around) frames
+      ∙ got_still fs (valued.frames.more ++ i.same.frames.more) s.programs.around outer_frame s.programs.last in
+      let wrong = subst (Wrong p true) (sym same) (wrong_at p true before after refl) in
+      w (late_at 15 label) (told_from x k s.begun d.value (starts_outward l t s) c j i label true (λ e.
+      found_low j (label_at j label) d.value s.programs.around f (length j.frames) (length (defines_first l t).regions) there s.programs.outer last
+      s.programs.stands.below none) wrong);
+}
+
 pub text_declared_law : TextsTellUndeclared
-text_declared_law l t = text_gives l t (undeclared _ _ (all_labels t.block) (starts l t).begun (starts l t).declared)
+unfolding check_step ◌>>=◌
+text_declared_law l t =
+    let x : Text = record { k = known_at_start l; bs = broken l t } in
+    let d = program_step t (known_at_start l) in
+    let s = starts l t in
+    let main = main_told x {k = d.known} (UndeclaredAreTold x.k x.bs (block_labels t.block)) d.value t.block (main_gives l t s) in (
+      main.of d.known (record { same = same_in d.known })
+          (λ b i. contained b (broken l t) (in_right b d.broken (code_block d.value t.block d.known).broken i)),
+      (text_gives l t (undeclared _ _ (all_labels t.block) s.begun s.declared)).1,
+    )

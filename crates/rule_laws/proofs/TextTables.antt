@@ -1,6 +1,6 @@
 -- What the tables of a text say of records and of frames, wherever its declarations are looked at.
-use Rattle.std.proofs.Common.{◌++◌, ◌+◌, ◌<◌, ◌∙◌, ◌∷◌, ◌≡◌, ◌⊎◌, [], ℕ, Bool, List, None, Option, Some, ap, arith, false, inl, inr, length, length-set, map}
-use Rattle.std.proofs.Common.{nat_eq, nat_le, refl, replicate, slice_get, subst, suc, sym, true, unwrap_or, zero}
+use Rattle.std.proofs.Common.{◌++◌, ◌+◌, ◌<◌, ◌∙◌, ◌∷◌, ◌≡◌, ◌≤◌, ◌⊎◌, [], ℕ, Bool, List, None, Option, Some, ap, arith, false, inl, inr, length, length-set}
+use Rattle.std.proofs.Common.{map, nat_eq, nat_le, refl, replicate, slice_get, subst, suc, sym, true, unwrap_or, zero}
 use Rattle.std.{proofs.lemmas.List.length-append, proofs.lemmas.Option.none-some, proofs.lemmas.Option.same_Some, specs.Map.lookup}
 use Rattle.pas_lexer.specs.Lexed.{Lexed}
 use Rattle.pas_tree.specs.{HeadingPlaces.heading_name, HeadingTrees.HeadingTree, StatementPlaces.compound_word, declared.blocks.NextLabel.NextLabel}
@@ -21,16 +21,17 @@ use Rattle.decl_checker.specs.Blocks.{define_block, define_constants, define_typ
 use Rattle.decl_checker.specs.Routines.{add_heading, block, body_in, define_body, define_completion, define_inside, enter_at, enter_heading, first_heading}
 use Rattle.decl_checker.specs.Routines.{first_name, heading_row, one_deeper, open_routine, own_frame, routine, routines_in}
 use Rattle.rule_laws.proofs.{Breaks.Each, Faces.row_either, LastsFormals.define_formals_at-lasts, LastsHeadings.signature-lasts}
-use Rattle.rule_laws.proofs.{LastsParameters.program_parameters-lasts, LastsRequired.all_names-lasts, LastsRequired.ordinal_types-lasts}
-use Rattle.rule_laws.proofs.{LastsRoutineParts.define_routines-lasts, LastsRoutines.after_completion, LastsRoutines.routine_own}
-use Rattle.rule_laws.proofs.{LastsStatements.compound_uses-lasts, Outward.Outward, Outward.outward_first, Outward.outward_more, Outward.outward_new}
-use Rattle.rule_laws.proofs.{Standing.Stands, Standing.opened, Standing.standing, Standing.stands_at, TextFields.Any, TextFields.any_each}
+use Rattle.rule_laws.proofs.{LastsParameters.program_parameters-lasts, LastsPrograms.define_program-lasts, LastsRequired.all_names-lasts}
+use Rattle.rule_laws.proofs.{LastsRequired.ordinal_types-lasts, LastsRoutineParts.define_routines-lasts, LastsRoutines.after_completion}
+use Rattle.rule_laws.proofs.{LastsRoutines.routine_own, LastsStatements.compound_uses-lasts, Outward.Outward, Outward.outward_first, Outward.outward_more}
+use Rattle.rule_laws.proofs.{Outward.outward_new, TextFields.Any, TextFields.any_each, Touches.Longer, Touches.longer_still, Touches.no_longer}
 use Rattle.rule_laws.proofs.Keeping.{Keeps, ask-keeps, bind-keeps, give-keeps, look-keeps, put-keeps}
 use Rattle.rule_laws.proofs.Lasting.{Lasting, declare_in-keeps, each_of-lasts, is_quiet}
 use Rattle.rule_laws.proofs.LastsBlocks.{define_constants-lasts, define_types-lasts, define_variables-lasts, parts-lasts, put_body-lasts}
 use Rattle.rule_laws.proofs.Regions.{definition_frame, definition_labels, label_either, label_frame, label_labels, last_region, region_before, region_labels}
-use Rattle.rule_laws.specs.{ForwardHeadings.routines_in as listed, NameLaws.block_labels, RegionNames.label_token, RegionNames.labels_of}
-use Rattle.rule_laws.specs.{TextLaws.labels_in_body, TextParts.OfBody, TextParts.OfEach, TextParts.OfRoutine, TextParts.OfRoutines}
+use Rattle.rule_laws.proofs.Standing.{Stands, opened, standing, standing_all, stands_at}
+use Rattle.rule_laws.specs.{ForwardHeadings.routines_in as listed, NameLaws.block_labels, NameLaws.block_routines, RegionNames.label_token}
+use Rattle.rule_laws.specs.{RegionNames.labels_of, TextLaws.labels_in_body, TextParts.OfBody, TextParts.OfEach, TextParts.OfRoutine, TextParts.OfRoutines}
 
 -- a region of fields, which declares no label
 pub record IsFields (j : Known) (region : ℕ) : Type 0 where
@@ -173,36 +174,72 @@ tidy_lasts = record {
 
 -- ---- frames that lead outward
 
--- what the tokens of a text spell, and those that stand in its label parts
+-- What the tokens of a text spell, and those that stand in its label parts. From some tables on, the regions below a
+-- number declare only some of these, and the frames stay.
 pub record Labelling : Type 1 where
   pub k : Known
   pub L : ℕ → Type 0
+  pub bound : ℕ
+  pub low : ℕ → Type 0
+  pub frames : List Frame
 
 -- A label is declared at one of these tokens, by its value.
 pub record Valued (y : Labelling) (j : Known) : Type 0 where
   pub words : j.words ≡ y.k.words
   pub declared : (region v d : ℕ) → declared_in j.regions region v ≡ Some d → (label_at y.k d ≡ v) × y.L d
+  pub many : y.bound ≤ length j.regions
+  pub below : (region v d : ℕ) → region < y.bound → declared_in j.regions region v ≡ Some d → y.low d
+  pub frames : Longer y.frames j.frames
+
+valued_row : (y : Labelling) (j : Known) (m : ℕ) (r : Row) → Valued y j → Valued y (with_row j m r)
+valued_row y j m r s = record { words = s.words; declared = s.declared; many = s.many; below = s.below; frames = s.frames }
+
+valued_definition : (y : Labelling) (j : Known) (at name : ℕ) (d : Definition) → Valued y j → Valued y (and_definition j at name d)
+valued_definition y j at name d s =
+    let rows = region_at j.regions at in
+    let same = length-set j.regions at (record rows { names = rows.names ++ (name, d) ∷ [] }) in
+    record {
+      words = s.words;
+      declared = λ region v m e. s.declared region v m (sym (definition_labels j at name d region v) ∙ e);
+      many = (let many = s.many in omega (arith, many, same));
+      below = λ region v m less e. s.below region v m less (sym (definition_labels j at name d region v) ∙ e);
+      frames = s.frames;
+    }
+
+one_more : (fs gs : List Frame) (f : Frame) → Longer fs gs → Longer fs (gs ++ f ∷ [])
+one_more fs gs f s = longer_still fs gs (gs ++ f ∷ []) s (record { more = f ∷ []; is = refl })
 
 valued_lasts : {G : RoutineTree → Type 0} (y : Labelling) → Lasting G (Valued y)
 valued_lasts y = record {
-  puts = λ j m r quiet s. record { words = s.words; declared = s.declared };
-  stays = λ j m s. record { words = s.words; declared = s.declared };
-  bodies = λ j m r s. record { words = s.words; declared = s.declared };
-  routines = λ j r s. record { words = s.words; declared = s.declared };
-  frames = λ j g s. record { words = s.words; declared = s.declared };
-  regions = λ j token g s. record { words = s.words; declared = λ region v d e. s.declared region v d (region_labels j token g region v d e) };
-  defines = λ j at d s. record {
+  puts = λ j m r quiet s. valued_row y j m r s;
+  stays = λ j m s. valued_row y j m (row_at j m) s;
+  bodies = λ j m r s. record { words = s.words; declared = s.declared; many = s.many; below = s.below; frames = s.frames };
+  routines = λ j r s. record { words = s.words; declared = s.declared; many = s.many; below = s.below; frames = s.frames };
+  frames = λ j g s. record {
     words = s.words;
-    declared = λ region v m e. s.declared region v m (sym (definition_labels j at (name_at j d.token) d region v) ∙ e);
+    declared = s.declared;
+    many = s.many;
+    below = s.below;
+    frames = one_more y.frames j.frames g s.frames;
   };
-  requires = λ j name d behind s. record {
+  regions = λ j token g s. record {
     words = s.words;
-    declared = λ region v m e. s.declared region v m (sym (definition_labels j 0 name d region v) ∙ e);
+    declared = λ region v d e. s.declared region v d (region_labels j token g region v d e);
+    many =
+        let many = s.many in
+        let more = length-append j.regions (fresh_region token (length j.frames) ∷ []) in
+        omega (arith, many, more);
+    below = λ region v d less e. s.below region v d less (region_labels j token g region v d e);
+    frames = one_more y.frames j.frames g s.frames;
   };
-  chooses = λ j list value s. record { words = s.words; declared = s.declared };
-  records = λ j word packed region cells variants fresh s. record { words = s.words; declared = s.declared };
-  waits = λ j r g none s. record { words = s.words; declared = s.declared };
-  completes = λ j region first position r g e s. record { words = s.words; declared = s.declared };
+  defines = λ j at d s. valued_definition y j at (name_at j d.token) d s;
+  requires = λ j name d behind s. valued_definition y j 0 name d s;
+  chooses = λ j list value s. record { words = s.words; declared = s.declared; many = s.many; below = s.below; frames = s.frames };
+  records = λ j word packed region cells variants fresh s. valued_row y j word (Row.Type (TypeRow.Record packed region cells variants)) s;
+  waits = λ j r g none s. valued_row y j (routine_name r) (Row.Part (PartRow.Forward (is_function (routine_heading r)) None)) s;
+  completes = λ j region first position r g e s.
+      let row = Row.Part (PartRow.Forward (is_function (routine_heading r)) (Some position)) in
+      valued_row y (with_row j first row) (routine_name r) (Row.Part (PartRow.Completing first)) (valued_row y j first row s);
 }
 
 -- so it is with these frames
@@ -237,7 +274,7 @@ walked_lasts {G = G} y S =
           there = fresh.there;
           none = fresh.none;
         }) s.tidy;
-        valued = record { words = s.valued.words; declared = s.valued.declared };
+        valued = valued_row y j word (Row.Type (TypeRow.Record packed region cells variants)) s.valued;
         outward = s.outward;
       };
       waits = λ j r g none s. record { tidy = c.waits j r g none s.tidy; valued = e.waits j r g none s.valued; outward = s.outward };
@@ -255,6 +292,7 @@ record Open (y : Labelling) (S : ℕ → Type 0) (n : ℕ) (f : Frame) (j : Know
   walked : Walked y S j
   stands : Stands n f j
   own : (region_at j.regions f.region).frame ≡ n
+  beyond : y.bound ≤ f.region
   free : (m : ℕ) → fields_in (type_at j m) ≡ Some f.region → ⊥
 
 put_free : (j : Known) (m : ℕ) (r : Row) (at : ℕ) → (fields_in (type_in r) ≡ Some at → ⊥) → ((n : ℕ) → fields_in (type_at j n) ≡ Some at → ⊥)
@@ -273,36 +311,47 @@ open_lasts {G = G} y S n f =
         walked = c.puts j m r quiet s.walked;
         stands = e.puts j m r quiet s.stands;
         own = s.own;
+        beyond = s.beyond;
         free = put_free j m r f.region (λ x. none-some f.region (sym (quiet_fields r quiet) ∙ x)) s.free;
       };
       stays = λ j m s. record {
         walked = c.stays j m s.walked;
         stands = e.stays j m s.stands;
         own = s.own;
+        beyond = s.beyond;
         free = put_free j m (row_at j m) f.region (s.free m) s.free;
       };
-      bodies = λ j m r s. record { walked = c.bodies j m r s.walked; stands = e.bodies j m r s.stands; own = s.own; free = s.free };
-      routines = λ j r s. record { walked = c.routines j r s.walked; stands = e.routines j r s.stands; own = s.own; free = s.free };
-      frames = λ j g s. record { walked = c.frames j g s.walked; stands = e.frames j g s.stands; own = s.own; free = s.free };
+      bodies = λ j m r s. record { walked = c.bodies j m r s.walked; stands = e.bodies j m r s.stands; own = s.own; beyond = s.beyond; free = s.free };
+      routines = λ j r s. record { walked = c.routines j r s.walked; stands = e.routines j r s.stands; own = s.own; beyond = s.beyond; free = s.free };
+      frames = λ j g s. record { walked = c.frames j g s.walked; stands = e.frames j g s.stands; own = s.own; beyond = s.beyond; free = s.free };
       regions = λ j token g s. record {
         walked = c.regions j token g s.walked;
         stands = e.regions j token g s.stands;
         own = ap (λ (r : RegionRows). r.frame) (region_before j.regions f.region (fresh_region token (length j.frames)) s.stands.below) ∙ s.own;
+        beyond = s.beyond;
         free = s.free;
       };
       defines = λ j region d s. record {
         walked = c.defines j region d s.walked;
         stands = e.defines j region d s.stands;
         own = definition_frame j region (name_at j d.token) d f.region ∙ s.own;
+        beyond = s.beyond;
         free = s.free;
       };
       requires = λ j name d behind s. record {
         walked = c.requires j name d behind s.walked;
         stands = e.requires j name d behind s.stands;
         own = definition_frame j 0 name d f.region ∙ s.own;
+        beyond = s.beyond;
         free = s.free;
       };
-      chooses = λ j list value s. record { walked = c.chooses j list value s.walked; stands = e.chooses j list value s.stands; own = s.own; free = s.free };
+      chooses = λ j list value s. record {
+        walked = c.chooses j list value s.walked;
+        stands = e.chooses j list value s.stands;
+        own = s.own;
+        beyond = s.beyond;
+        free = s.free;
+      };
       records = λ j word packed region cells variants fresh s. record {
         walked = c.records j word packed region cells variants (record {
           before = fresh.before;
@@ -313,6 +362,7 @@ open_lasts {G = G} y S n f =
         }) s.walked;
         stands = record { there = s.stands.there; below = s.stands.below };
         own = s.own;
+        beyond = s.beyond;
         free = put_free j word (Row.Type (TypeRow.Record packed region cells variants)) f.region (λ x.
             let same = same_Some region f.region x in
             let opened = fresh.opened in
@@ -323,6 +373,7 @@ open_lasts {G = G} y S n f =
         walked = c.waits j r g none s.walked;
         stands = e.waits j r g none s.stands;
         own = s.own;
+        beyond = s.beyond;
         free = put_free j (routine_name r) (Row.Part (PartRow.Forward (is_function (routine_heading r)) None)) f.region (λ x. none-some f.region x) s.free;
       };
       completes = λ j region first position r g x s.
@@ -331,6 +382,7 @@ open_lasts {G = G} y S n f =
             walked = c.completes j region first position r g x s.walked;
             stands = e.completes j region first position r g x s.stands;
             own = s.own;
+            beyond = s.beyond;
             free = put_free (with_row j first row) (routine_name r) (Row.Part (PartRow.Completing first)) f.region (λ y. none-some f.region y)
                 (put_free j first row f.region (λ y. none-some f.region y) s.free);
           };
@@ -363,11 +415,16 @@ label_open y S n f j token ok s =
             | inl old ↦ s.walked.valued.declared region v d old
             | inr new ↦ (sym (new.0 ∙ ap (label_at y.k) new.1), subst y.L new.1 ok)
           ];
+          many = (let many = s.walked.valued.many in omega (arith, many, same));
+          below = λ region v d less e. s.walked.valued.below region v d less (sym (label_labels j at value token region v (λ is.
+              let beyond = s.beyond in omega (arith, less, beyond, is))) ∙ e);
+          frames = s.walked.valued.frames;
         };
         outward = s.walked.outward;
       };
       stands = record { there = s.stands.there; below = (let b = s.stands.below in omega (arith, b, same)) };
       own = label_frame j at value token at ∙ s.own;
+      beyond = s.beyond;
       free = s.free;
     }
   where
@@ -388,11 +445,12 @@ label_row_open y S n f j token value level s =
     record {
       walked = record {
         tidy = put_tidy j token r (λ region e. absurd (none-some region e)) (λ assigned number region e. absurd (no_routine e)) s.walked.tidy;
-        valued = record { words = s.walked.valued.words; declared = s.walked.valued.declared };
+        valued = valued_row y j token r s.walked.valued;
         outward = s.walked.outward;
       };
       stands = record { there = s.stands.there; below = s.stands.below };
       own = s.own;
+      beyond = s.beyond;
       free = put_free j token r f.region (λ x. none-some f.region x) s.free;
     }
   where
@@ -497,6 +555,7 @@ open_start y S j token around f fresh outer around-in s =
         ];
       };
       stands = opened j token f fresh;
+      beyond = (let many = s.valued.many in omega (arith, fresh, many));
       own = ap (λ r. (region_at (j.regions ++ fresh_region token n ∷ []) r).frame) fresh
           ∙ ap (λ (r : RegionRows). r.frame) (last_region j.regions (fresh_region token n));
       free = λ m e. (let there = (s.tidy.typed m f.region e).there in omega (arith, fresh, there));
@@ -522,7 +581,7 @@ head_walked y S n f j name number at n-in same s =
     record {
       tidy = put_tidy j name r (λ region e. absurd (none-some region e))
           (λ assigned m region e. (let is = same_region e in subst (IsHome j) (sym same ∙ is) home)) s.walked.tidy;
-      valued = record { words = s.walked.valued.words; declared = s.walked.valued.declared };
+      valued = valued_row y j name r s.walked.valued;
       outward = s.walked.outward;
     }
   where
@@ -618,18 +677,33 @@ mutual
 abbrev Zero : ℕ → Type 0
 Zero g = g ≡ 0
 
-abbrev outer_frame : Frame
+abbrev pub outer_frame : Frame
 outer_frame = record { region = 0; outer = None; level = 0; withs = 0 }
 
-abbrev pub labelling : Lexed → (ℕ → Type 0) → Labelling
-labelling l L = record { k = known_at_start l; L = L }
+-- the text's declarations of the program's own names
+abbrev pub defines_first : Lexed → ProgramTree → Known
+defines_first l t = let d = open_program (known_at_start l) in (define_program d.value t d.known).known
+
+-- the label parts of a text, from where only the program's own is looked at
+abbrev pub labelling : Lexed → ProgramTree → (L low : ℕ → Type 0) → Labelling
+labelling l t L low = record {
+  k = known_at_start l;
+  L = L;
+  bound = length (defines_first l t).regions;
+  low = low;
+  frames = (defines_first l t).frames;
+}
+
+-- and before
+abbrev first_labelling : Lexed → (ℕ → Type 0) → Labelling
+first_labelling l low = record { k = known_at_start l; L = low; bound = 0; low = low; frames = [] }
 
 blank : (size n : ℕ) → unwrap_or (slice_get (replicate size Row.Nothing) n) Row.Nothing ≡ Row.Nothing
 blank zero n = refl
 blank (suc size) zero = refl
 blank (suc size) (suc n) = blank size n
 
-outer_walked : (l : Lexed) (L : ℕ → Type 0) → Walked (labelling l L) Zero (and_region (known_at_start l) 0 outer_frame)
+outer_walked : (l : Lexed) (L : ℕ → Type 0) → Walked (first_labelling l L) Zero (and_region (known_at_start l) 0 outer_frame)
 outer_walked l L =
     let many = length l.tokens + length required_names in
     let out : Outward (outer_frame ∷ []) 0 = outward_first [] outer_frame refl in
@@ -639,17 +713,23 @@ outer_walked l L =
         heads = λ n assigned number region e. absurd (no_row (sym (blank many n) ∙ e));
         first = record { there = omega arith; outward = out };
       };
-      valued = record { words = refl; declared = λ region v d e. absurd (none-some d (region_labels (known_at_start l) 0 outer_frame region v d e)) };
+      valued = record {
+        words = refl;
+        declared = λ region v d e. absurd (none-some d (region_labels (known_at_start l) 0 outer_frame region v d e));
+        many = omega arith;
+        below = λ region v d less e. absurd (omega (arith, less));
+        frames = record { more = outer_frame ∷ []; is = refl };
+      };
       outward = λ g g-in. subst (λ m. Outward (outer_frame ∷ []) m) (sym g-in) out;
     }
   where
     no_row : {n : NameRow} → Row.Nothing ≡ Row.Name n → ⊥
     no_row e = cc
 
-outermost_walked : (l : Lexed) (L : ℕ → Type 0) → let d = open_outermost (known_at_start l) in Walked (labelling l L) (λ g. g ≡ d.value) d.known
+outermost_walked : (l : Lexed) (L : ℕ → Type 0) → let d = open_outermost (known_at_start l) in Walked (first_labelling l L) (λ g. g ≡ d.value) d.known
 unfolding open_outermost extend give ◌>>=◌
 outermost_walked l L =
-    let y = labelling l L in
+    let y = first_labelling l L in
     let c : Lasting Any (Walked y Zero) = walked_lasts y Zero in
     let outer : ℕ = 0 in
     (bind-keeps (ordinal_types-lasts c) (λ _. bind-keeps (all_names-lasts c) (λ _. give-keeps outer))).of (and_region (known_at_start l) 0 outer_frame)
@@ -661,11 +741,29 @@ unfolding define_program
 defined_open y S n f t all = bind-keeps (look-keeps (λ k. (frame_at k n).region)) (λ region.
     bind-keeps (program_parameters-lasts (open_lasts {G = Any} y S n f) region t.parameters) (λ _. define_block-open y S n f t.block all))
 
-pub program_walked : (l : Lexed) (t : ProgramTree) (L : ℕ → Type 0) → Each L (block_labels t.block) → OfRoutines (Labelled (labelling l L)) t.block
-    → let d = program_step t (known_at_start l) in Walked (labelling l L) (λ g. g ≡ d.value) d.known
+-- what is so where the program's block begins to be looked at, and where its statements do
+pub record Programs (l : Lexed) (t : ProgramTree) (L low : ℕ → Type 0) : Type 0 where
+  pub walked : let d = program_step t (known_at_start l) in Walked (labelling l t L low) (λ g. g ≡ d.value) d.known
+  pub frame : Frame
+  pub around : ℕ
+  pub stands : Stands (program_step t (known_at_start l)).value frame (defines_first l t)
+  pub outer : frame.outer ≡ Some around
+  pub last : slice_get (defines_first l t).frames around ≡ Some outer_frame
+
+outermost_stands : (l : Lexed) → let d = open_outermost (known_at_start l) in Stands d.value outer_frame d.known
+unfolding open_outermost extend give ◌>>=◌
+outermost_stands l =
+    let c : Lasting Any (Stands 0 outer_frame) = standing 0 outer_frame in
+    let outer : ℕ = 0 in
+    (bind-keeps (ordinal_types-lasts c) (λ _. bind-keeps (all_names-lasts c) (λ _. give-keeps outer))).of (and_region (known_at_start l) 0 outer_frame)
+    (opened (known_at_start l) 0 outer_frame refl)
+
+pub program_walked : (l : Lexed) (t : ProgramTree) (L low : ℕ → Type 0) → ((n : ℕ) → low n → L n) → Each low (block_labels t.block)
+    → OfRoutines (Labelled (labelling l t L low)) t.block → Programs l t L low
 unfolding program_step open_program extend give ◌>>=◌
-program_walked l t L own all =
-    let y = labelling l L in
+program_walked l t L low more own all =
+    let x = first_labelling l low in
+    let y = labelling l t L low in
     let o = open_outermost (known_at_start l) in
     let j = o.known in
     let S : ℕ → Type 0 = λ g. g ≡ o.value in
@@ -674,7 +772,30 @@ program_walked l t L own all =
     let R = AndOne S n in
     let i = and_region j 0 f in
     let a = define_program n t i in
-    let one = (defined_open y R n f t own).of i (open_start y S j 0 o.value f refl refl refl (outermost_walked l L)) in
-    let two = (walked_lasts {G = Any} y R).routines a.known (main_row t.name) one.walked in
+    let start = open_start x S j 0 o.value f refl refl refl (outermost_walked l low) in
+    let one = (defined_open x R n f t own).of i start in
+    let valued = one.walked.valued in
+    let same : y.bound ≡ length a.known.regions = refl in
+    let first : Walked y R a.known = record {
+      tidy = one.walked.tidy;
+      valued = record {
+        words = valued.words;
+        declared = λ region v d e. ((valued.declared region v d e).0, more d (valued.declared region v d e).1);
+        many = omega (arith, same);
+        below = λ region v d less e. (valued.declared region v d e).1;
+        frames = no_longer a.known.frames;
+      };
+      outward = one.walked.outward;
+    } in
+    let two = (walked_lasts {G = Any} y R).routines a.known (main_row t.name) first in
     let end = (block_walked y R n (length a.known.program.routines) 1 t.block (inr refl) all).of (and_routine a.known (main_row t.name)) two in
-    record { tidy = end.tidy; valued = end.valued; outward = λ g g-in. end.outward g (inr g-in) }
+    let outer = outermost_stands l in
+    let outer_in : Stands o.value outer_frame i = (standing {G = Any} o.value outer_frame).regions j 0 f outer in
+    record {
+      walked = record { tidy = end.tidy; valued = end.valued; outward = λ g g-in. end.outward g (inr g-in) };
+      frame = f;
+      around = o.value;
+      stands = one.stands;
+      outer = refl;
+      last = ((define_program-lasts (standing_all {G = Any} o.value outer_frame) n t (any_each (block_routines t.block))).of i outer_in).there;
+    }

@@ -159,8 +159,11 @@ abbrev pub UndeclaredAreTold : Known → List Break → (declared labels : List 
 UndeclaredAreTold k bs declared labels = (before : List ℕ) (label : ℕ) (after : List ℕ)
     → labels ≡ before ++ label ∷ after → has_label k declared label ≡ false → Contains bs (late_at 15 label)
 
--- So it is with those in front of statements, and the labels of all label parts of the text.
+-- So it is with the labels in front of the statements of the program's block and those of its label part; and with the
+-- labels in front of the statements of the block of each procedure and function and those of all label parts of the
+-- text.
 abbrev pub TextsTellUndeclared : Type 0
-TextsTellUndeclared = (l : Lexed) (t : ProgramTree) → let k = known_at_start l in let all = all_labels t.block in
-    UndeclaredAreTold k (broken l t) all (statement_labels t.block)
-    × OfRoutines (λ r. UndeclaredAreTold k (broken l t) all (statement_labels_in (routine_body r))) t.block
+TextsTellUndeclared = (l : Lexed) (t : ProgramTree) → let k = known_at_start l in
+    UndeclaredAreTold k (broken l t) (block_labels t.block) (statement_labels t.block)
+    × OfRoutines (λ r. UndeclaredAreTold k (broken l t) (all_labels t.block) (statement_labels_in (routine_body r)))
+    t.block

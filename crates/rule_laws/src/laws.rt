@@ -76,7 +76,8 @@ pub fn labels_of_statements_differ()
     ensures { TextsTellMarks }
 {}
 
-/// So each breaks rule 15 whose value no label part of the text has.
+/// In a text each label in front of a statement of the program's block breaks rule 15 whose value the program's label
+/// part doesn't have; and each of the block of a procedure or function whose value no label part of the text has.
 pub fn labels_of_statements_are_declared()
     ensures { TextsTellUndeclared }
 {}
