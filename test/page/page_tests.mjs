@@ -662,7 +662,7 @@ export const TESTS = {
     await calm(t, 7);
     await t.page.value('document.querySelector("#tree").focus()');
     await t.page.click('#tree .row[data-call="4"]');
-    await t.page.until('document.querySelector("#detail .answerRow") !== null');
+    await t.page.until('document.querySelector("#detail [data-call=\\"4\\"] .trace") !== null');
     await t.page.click('#detail .answerRow button:last-child');
     await t.page.until(`${isCalm} && /Judge it yourself/.test(document.querySelector("#notices").textContent)`);
     t.equal('where it has no such routine it says so, and nothing is answered', [await t.page.value('document.body.dataset.turns'), await asked(t)], ['7', 'b']);
@@ -684,7 +684,7 @@ export const TESTS = {
     await calm(t, 3);
     t.equal('a text that is pasted takes its place', await name(), 'the text that you pasted');
     await t.page.click('#tree .row[data-call="1"]');
-    await t.page.until('document.querySelector("#detail .answerRow") !== null');
+    await t.page.until('document.querySelector("#detail [data-call=\\"1\\"] .trace") !== null');
     await t.page.click('#detail .answerRow button:last-child');
     await calm(t, 4);
     t.equal('and says something else of the same call', [(await seen(t, '.notice'))[0], await asked(t)], ['Call 1 of b is wrong, says the right program. Take this back', 'a']);
