@@ -190,6 +190,19 @@ async function tabTo(t, selector, most = 60) {
   throw new Error(`Tab does not come to ${selector}`);
 }
 
+// A call is chosen in the tree. Where its row was made anew between press and release, it is pressed once more.
+async function choose(t, call) {
+  const isShown = `document.querySelector('#detail [data-call="${call}"] .trace') !== null`;
+  for (let left = 2; ; left--) {
+    await t.page.click(`#tree .row[data-call="${call}"]`);
+    try {
+      return await t.page.until(isShown, 20);
+    } catch (fault) {
+      if (left === 0) throw fault;
+    }
+  }
+}
+
 const seen = async (t, selector) => (await t.page.text(selector)).map((text) => text.replace(/\s+/g, ' '));
 
 export const TESTS = {
@@ -473,8 +486,7 @@ export const TESTS = {
     const native = await t.native({ source: SHARE, console: 'carry 1 2\ncarry 2 3\nquit\n' });
     if (native !== null) t.holds('the native program says the same', /\ncall 1 carries to call 2\ncall 2 does not carry to call 3\n/.test(native.screen.toString('latin1')));
     await ran(t, 'halves.pas', HALVES);
-    await t.page.click('#tree .row[data-call="1"]');
-    await t.page.until('document.querySelector("#detail .trace") !== null');
+    await choose(t, 1);
     await t.page.click('#detail button.right');
     await calm(t, 1);
     t.equal('no call of the routine is judged', [await asked(t), await offer()], ['halve', []]);
@@ -661,8 +673,7 @@ export const TESTS = {
     await t.page.click('.notice button.small');
     await calm(t, 7);
     await t.page.value('document.querySelector("#tree").focus()');
-    await t.page.click('#tree .row[data-call="4"]');
-    await t.page.until('document.querySelector("#detail [data-call=\\"4\\"] .trace") !== null');
+    await choose(t, 4);
     await t.page.click('#detail .answerRow button:last-child');
     await t.page.until(`${isCalm} && /Judge it yourself/.test(document.querySelector("#notices").textContent)`);
     t.equal('where it has no such routine it says so, and nothing is answered', [await t.page.value('document.body.dataset.turns'), await asked(t)], ['7', 'b']);
@@ -683,8 +694,7 @@ export const TESTS = {
     await t.page.press('Enter');
     await calm(t, 3);
     t.equal('a text that is pasted takes its place', await name(), 'the text that you pasted');
-    await t.page.click('#tree .row[data-call="1"]');
-    await t.page.until('document.querySelector("#detail [data-call=\\"1\\"] .trace") !== null');
+    await choose(t, 1);
     await t.page.click('#detail .answerRow button:last-child');
     await calm(t, 4);
     t.equal('and says something else of the same call', [(await seen(t, '.notice'))[0], await asked(t)], ['Call 1 of b is wrong, says the right program. Take this back', 'a']);
@@ -805,7 +815,7 @@ export const TESTS = {
     await calm(t, turns += 1);
     t.equal('a part of an array', await asked(t), 'fill');
     await opened(t, 'marks');
-    await t.page.click('#tree .row[data-call="1"]');
+    await choose(t, 1);
     await t.page.until('document.querySelector("#detail [data-wrong=cleo]") !== null');
     await t.page.click('#detail [data-wrong="cleo"]');
     await calm(t, 1);
@@ -1005,8 +1015,7 @@ export const TESTS = {
     t.equal('found by what it printed', await found('4 17'), [7]);
     t.equal('found by line', await found('line 6'), [1, 3, 5, 7]);
     await found('');
-    await t.page.click('#tree .row[data-call="6"]');
-    await t.page.until('document.querySelector("#detail .trace") !== null');
+    await choose(t, 6);
     t.equal('the lines of its body', await t.page.text('#detail .trace li code'), ['begin square := n * n + n div 3 end;']);
     await t.picture('12-tree');
     await accessible(t, 'a chosen call');
