@@ -42,12 +42,31 @@ TYPES = {
 }  # fmt: skip
 RESULTS = ("int", "bool", "char", "colour", "link")
 
+# The schemas of conformant parameters, with holes for their bounds, and what can be given for them: a variable, a row of one, and by
+# value a string too. The names of a section are given what is of one line here.
+SCHEMAS = {
+    "ints": "array [{low}..{high}: integer] of integer",
+    "grid": "array [{low}..{high}: colour; {least}..{most}: integer] of integer",
+    "chars": "array [{low}..{high}: integer] of char",
+    "text": "packed array [{low}..{high}: integer] of char",
+}  # fmt: skip
+GIVEN = {
+    "ints": ["{row:var}", "{row:var}", "{table:var}[{colour}]", "{grid:var}[{colour}]", "{ints:var}"],
+    "grid": ["{table:var}", "{table:var}", "{grid:var}"],
+    "chars": ["{signs:var}", "{signs:var}", "{chars:var}"],
+    "text": ["{letters:var}", "{letters:var}", "{text:var}"],
+}  # fmt: skip
+STRINGS = ["'no'", "'word'", "'longer'"]
+
 # The expressions of each type: those that end it, and those with further expressions in them.
 LEAVES = {
-    "int": ["0", "1", "2", "7", "most", "{int:var}", "{int:var}", "{int:counter}", "{small:var}", "{row:var}[{index}]"],
+    "int": [
+        "0", "1", "2", "7", "most", "{int:var}", "{int:var}", "{int:counter}", "{small:var}", "{row:var}[{index}]",
+        "{ints:low}", "{ints:high}", "{ints:item}", "{grid:item}", "{grid:most}", "{text:high}",
+    ],
     "bool": ["true", "false", "{bool:var}", "eof", "odd({int:var})"],
-    "char": ["'a'", "'z'", "' '", "''''", "mark", "{char:var}", "{char:var}", "{letters:var}[2]", "{signs:var}[0]"],
-    "colour": ["red", "green", "blue", "{colour:var}"],
+    "char": ["'a'", "'z'", "' '", "''''", "mark", "{char:var}", "{char:var}", "{letters:var}[2]", "{signs:var}[0]", "{chars:item}", "{text:item}"],
+    "colour": ["red", "green", "blue", "{colour:var}", "{grid:low}", "{grid:high}"],
     "small": ["1", "5", "9", "{small:var}"],
     "letters": ["'abcd'", "'a''b '", "{letters:var}"],
     "bag": ["[]", "[1, 3..5]", "[most]", "{bag:var}"],
@@ -91,6 +110,14 @@ STATEMENTS = [
     (3, "{row:target}[{index}] := {int};"),
     (2, "{table:target}[{colour}, 2] := {int};"),
     (1, "{letters:target}[{corner}] := {char};"),
+    (4, "{ints:item} := {int};"),
+    (3, "{grid:item} := {int};"),
+    (3, "{chars:item} := {char};"),
+    (3, "{text:item} := {char};"),
+    (1, "{ints:same}[{int}] := {int};"),
+    (1, "write({grid:item}, ' ', {text:item});"),
+    (1, "if {ints:low} = 1 then\n{more}{ints:item} := {ints:high};\n{less}"),
+    (2, "{section}"),
     (1, "{signs:target}[{corner}] := {char};"),
     (2, "pack({signs:var}, {corner} mod 3, {letters:target});"),
     (2, "unpack({letters:var}, {signs:target}, {corner} mod 3);"),
@@ -153,12 +180,20 @@ class Routine:
 def formal_text(way, name, kind):
     if way == "routine":
         return Routine(name, kind.parameters, kind.result).heading()
-    return f"{'var ' if way == 'var' else ''}{name}: {TYPES[kind]}"
+    return f"{'var ' if way == 'var' else ''}{name}: {SCHEMAS[kind].format(**bounds_of(name)) if kind in SCHEMAS else TYPES[kind]}"
 
 
-# The two forms that routine parameters have.
+def bounds_of(name):
+    """The names of the bounds of a section, by its first name."""
+    first = name.split(",")[0]
+    return {it: first + it for it in ("low", "high", "least", "most")}
+
+
+# The forms that routine parameters have.
 ACT = Routine("act", [("value", "n", "int")])
 MAP = Routine("map", [("value", "n", "int")], "int")
+ADD = Routine("add", [("var", "n", "ints")], "int")
+SAY = Routine("say", [("value", "n", "text")])
 
 
 class Scope:
@@ -166,7 +201,7 @@ class Scope:
 
     def __init__(self):
         self.variables, self.counters, self.routines, self.labels = [], [], [], []
-        self.counting = []
+        self.counting, self.sections = [], []
 
 
 class Maker:
@@ -179,6 +214,7 @@ class Maker:
         self.indent = 0
         self.count = 0
         self.same = {}
+        self.bounds = {}  # of each conformant parameter
 
     # ---- text
 
@@ -215,7 +251,24 @@ class Maker:
 
     def expression(self, kind, depth):
         is_leaf = depth <= 0 or kind not in BRANCHES or self.chance(0.4)
-        return self.filled(self.random.choice((LEAVES if is_leaf else BRANCHES)[kind]), depth - 1)
+        return self.filled(self.random.choice(self.fillable((LEAVES if is_leaf else BRANCHES)[kind])), depth - 1)
+
+    def fillable(self, templates):
+        """Those without a conformant parameter of a kind of which none is there."""
+        missing = [f"{{{kind}:" for kind in SCHEMAS if not self.variables(kind)]
+        return [it for it in templates if not any(front in it for front in missing)]
+
+    def item(self, name, depth):
+        """A component of a conformant parameter, mostly within its bounds."""
+        bounds = self.bounds[name]
+        places = [bounds["low"], bounds["high"]]
+        if self.kind_of(name) == "grid":
+            return f"{name}[{self.random.choice([*places, self.expression('colour', 0)])}, {self.random.choice([bounds['least'], bounds['most']])}]"
+        within = f"{places[0]} + abs({self.expression('int', depth - 1)}) mod ({places[1]} - {places[0]} + 1)"
+        return f"{name}[{self.random.choice([*places, within, within, '1'])}]"
+
+    def kind_of(self, name):
+        return next(kind for scope in self.scopes for it, kind in scope.variables if it == name)
 
     def filled(self, template, depth):
         """The template with its holes filled, for an expression or one line."""
@@ -234,6 +287,10 @@ class Maker:
             return self.function_call(kind, depth)
         if way == "same":
             return self.same.setdefault(kind, self.variable(kind))
+        if way == "item":
+            return self.item(self.variable(kind), depth)
+        if kind in SCHEMAS and way in ("low", "high", "least", "most"):
+            return self.bounds[self.variable(kind)][way]
         return self.variable(kind) if way else self.expression(kind, depth)
 
     # ---- calls
@@ -252,8 +309,19 @@ class Maker:
         return way != "routine" or bool(self.fitting(kind))
 
     def call(self, routine, depth):
-        given = [self.actual(*it, depth) for it in routine.parameters]
+        given = [", ".join(self.actuals(*it, depth)) for it in routine.parameters]
         return routine.name + (f"({', '.join(given)})" if given else "")
+
+    def actuals(self, way, name, kind, depth):
+        """What is given for the names of one section, which are several only where it is conformant."""
+        if kind not in SCHEMAS or way == "routine":
+            return [self.actual(way, name, kind, depth)]
+        template = self.random.choice(self.fillable(GIVEN[kind]))
+        if way == "value" and kind == "text" and self.chance(0.4):
+            template = self.random.choice(STRINGS)
+        if not template.startswith(("{row", "{table", "{signs", "{letters")):
+            template = self.filled(template, 0)  # one and the same for all names
+        return [self.filled(template, 0) for _ in name.split(", ")]
 
     def actual(self, way, _, kind, depth):
         if way == "routine":
@@ -267,7 +335,8 @@ class Maker:
     # ---- statements
 
     def statement(self, depth):
-        weights, templates = zip(*STATEMENTS)
+        templates = self.fillable([it for _, it in STATEMENTS])
+        weights = [weight for weight, it in STATEMENTS if it in templates]
         template = self.random.choices(templates, weights)[0]
         if depth <= 0 and ("{block}" in template or template == "{for}"):
             template = "{int:target} := {int};"
@@ -320,6 +389,27 @@ class Maker:
         known = self.routines(None)
         if known:
             self.put(f"{self.call(self.random.choice(known), 2)};")
+
+    def section_statement(self, depth):
+        """Whole arrays, or rows, of one section; or a loop over all of an array."""
+        pairs = [it for scope in self.scopes for it in scope.sections if len(it) == 2]
+        if pairs and self.chance(0.7):
+            to, of = self.random.sample(self.random.choice(pairs), 2)
+            bounds = self.bounds[to]
+            is_row = self.kind_of(to) == "grid" and self.chance(0.5)
+            self.put(f"{to}[{bounds['low']}] := {of}[{bounds['high']}];" if is_row else f"{to} := {of};")
+        elif self.variables("ints") and self.scopes[-1].counters:
+            self.all_of(self.variable("ints"), depth)
+
+    def all_of(self, name, depth):
+        scope = self.scopes[-1]
+        free = [it for it in scope.counters if it not in scope.counting]
+        if free:
+            bounds = self.bounds[name]
+            self.put(f"for {free[0]} := {bounds['low']} to {bounds['high']} do")
+            scope.counting.append(free[0])
+            self.put(f"  {name}[{free[0]}] := {self.expression('int', 1)};")
+            scope.counting.pop()
 
     def goto_statement(self, depth):
         labels = [label for scope in self.scopes for label in scope.labels]
@@ -381,7 +471,9 @@ class Maker:
     def new_parameter(self):
         way = self.random.choice(["value", "value", "var", "var", "routine"])
         if way == "routine":
-            return way, self.fresh("r"), self.random.choice([ACT, MAP])
+            return way, self.fresh("r"), self.random.choice([ACT, MAP, ADD, SAY])
+        if self.chance(0.4):
+            return way, ", ".join(self.fresh("c") for _ in range(self.random.choice([1, 1, 2]))), self.random.choice(list(SCHEMAS))
         return way, self.fresh("a"), self.random.choice(list(TYPES))
 
     def block(self, level, routine):
@@ -392,7 +484,11 @@ class Maker:
             if way == "routine":
                 scope.routines.append(Routine(name, kind.parameters, kind.result))
             else:
-                scope.variables.append((name, kind))
+                names = name.split(", ")
+                scope.variables += [(it, kind) for it in names]
+                if kind in SCHEMAS:
+                    scope.sections.append(names)
+                    self.bounds.update((it, bounds_of(name)) for it in names)
         self.declare_labels(level)
         self.put("var")
         self.put("  i, j: integer;")
@@ -429,6 +525,8 @@ class Maker:
             self.put(f"{late.heading()};\nforward;")
         self.routine(1, Routine("step", ACT.parameters))
         self.routine(1, Routine("twice", MAP.parameters, "int"))
+        self.routine(1, Routine("sum", ADD.parameters, "int"))
+        self.routine(1, Routine("tell", SAY.parameters))
         for _ in range(self.random.randint(1, 5)):
             self.routine(1)
         if is_late:
@@ -445,7 +543,9 @@ class Maker:
         self.lines[at] += f"\n  fuel := {fuel};"
 
 
-SPECIAL = {"{for}": Maker.for_statement, "{call}": Maker.call_statement, "{goto}": Maker.goto_statement}
+SPECIAL = {
+    "{for}": Maker.for_statement, "{call}": Maker.call_statement, "{goto}": Maker.goto_statement, "{section}": Maker.section_statement,
+}  # fmt: skip
 
 
 def program(random):

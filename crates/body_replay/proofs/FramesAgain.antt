@@ -5,8 +5,9 @@ use Rattle.cell_value.specs.declared.{entries.Touch.Touch, values.Value.Value, w
 use Rattle.core_program.specs.{ProgramRows.ProgramRows, ProgramRows.routine_at, State.State, State.stack_end, Tree.way_of, declared.program.Routine.Routine}
 use Rattle.core_program.specs.Acts.{ActResult, Limited, OutOfSteps, Stops, Trouble, Went, spent}
 use Rattle.core_program.specs.Replay.{Replayed, Replaying, in_replaying, on_state, replay_of}
-use Rattle.core_program.specs.Run.{Halted, after_all, at_work, ends, framed_run, whole, with_frame, without_frame}
+use Rattle.core_program.specs.Run.{Halted, after_all, at_work, ends, frame_size, framed_run, whole, with_frame, without_frame}
 use Rattle.eval_ops.specs.Frames.{framing}
+use Rattle.program_run.specs.declared.runner.Begun.{Begun, TheVariants.Ended, TheVariants.Framed}
 use Rattle.body_replay.specs.Traces.{FrameMade}
 
 -- goes on in a frame that was made
@@ -22,55 +23,55 @@ by_tests hold go σ τ false true = refl
 by_tests hold go σ τ false false = refl
 
 -- a routine at work in a frame of its own at a state
-abbrev pub work_from : ProgramRows → (depth f : ℕ) → Routine → Replaying → State → Replayed
-work_from p depth f r s τ =
-    after_all (on_state (without_frame s.state.top r.cells)) (replay_of p depth (whole p f s.state.top r) (record s { state = τ }))
+abbrev pub work_from : ProgramRows → (depth f : ℕ) → Routine → List Value → Replaying → State → Replayed
+work_from p depth f r args s τ =
+    after_all (on_state (without_frame s.state.top (frame_size r args))) (replay_of p depth (whole p f s.state.top r) (record s { state = τ }))
 
 -- a routine in a new frame, by what making the frame did
 pub framed_again : (p : ProgramRows) (depth f : ℕ) (args : List Value) (r : Routine) (s : Replaying) → routine_at p f ≡ Some r
     → framed_run in_replaying (at_work p (replay_of p depth) f) args s (routine_at p f)
-    ≡ on_framing (framing r.cells args s.state) (λ τ. record s { state = τ }) (work_from p depth f r s)
+    ≡ on_framing (framing r args s.state) (λ τ. record s { state = τ }) (work_from p depth f r args s)
 framed_again p depth f args r s e = ap (framed_run in_replaying (at_work p (replay_of p depth) f) args s) e
-    ∙ by_tests (λ τ. record s { state = τ }) (work_from p depth f r s) s.state (with_frame r.cells args s.state)
-    (nat_lt stack_end (s.state.top + r.cells)) (nat_lt s.state.steps r.cells)
+    ∙ by_tests (λ τ. record s { state = τ }) (work_from p depth f r args s) s.state (with_frame r args s.state)
+    (nat_lt stack_end (s.state.top + frame_size r args)) (nat_lt s.state.steps (frame_size r args))
 
 -- what is left of the steps
 abbrev Fell : ActResult (Unit {0}) → ℕ → Type 0
 Fell (Went x w τ) most = τ.steps ≤ most
 Fell (Stops why w τ) most = τ.steps ≤ most
 
-fell_by : (n : ℕ) (args : List Value) (σ : State) (a b : Bool)
-    → Fell (if a then Stops (Limited Stack) [] σ else if b then Stops OutOfSteps [] (spent σ) else Went tt [] (with_frame n args σ)) σ.steps
-fell_by n args σ true b = omega arith
-fell_by n args σ false true = omega arith
-fell_by n args σ false false = omega arith
+fell_by : (r : Routine) (args : List Value) (σ : State) (a b : Bool)
+    → Fell (if a then Stops (Limited Stack) [] σ else if b then Stops OutOfSteps [] (spent σ) else Went tt [] (with_frame r args σ)) σ.steps
+fell_by r args σ true b = omega arith
+fell_by r args σ false true = omega arith
+fell_by r args σ false false = omega arith
 
-framing_fell : (n : ℕ) (args : List Value) (σ : State) → Fell (framing n args σ) σ.steps
-framing_fell n args σ = fell_by n args σ (nat_lt stack_end (σ.top + n)) (nat_lt σ.steps n)
+framing_fell : (r : Routine) (args : List Value) (σ : State) → Fell (framing r args σ) σ.steps
+framing_fell r args σ = fell_by r args σ (nat_lt stack_end (σ.top + frame_size r args)) (nat_lt σ.steps (frame_size r args))
 
-pub went_fell : (n : ℕ) (args : List Value) (σ τ : State) (w : List Touch) → framing n args σ ≡ Went tt w τ → τ.steps ≤ σ.steps
-went_fell n args σ τ w e = subst (λ d. Fell d σ.steps) e (framing_fell n args σ)
+pub went_fell : (r : Routine) (args : List Value) (σ τ : State) (w : List Touch) → framing r args σ ≡ Went tt w τ → τ.steps ≤ σ.steps
+went_fell r args σ τ w e = subst (λ d. Fell d σ.steps) e (framing_fell r args σ)
 
-stops_fell : (n : ℕ) (args : List Value) (σ τ : State) (why : Trouble) (w : List Touch) → framing n args σ ≡ Stops why w τ → τ.steps ≤ σ.steps
-stops_fell n args σ τ why w e = subst (λ d. Fell d σ.steps) e (framing_fell n args σ)
+stops_fell : (r : Routine) (args : List Value) (σ τ : State) (why : Trouble) (w : List Touch) → framing r args σ ≡ Stops why w τ → τ.steps ≤ σ.steps
+stops_fell r args σ τ why w e = subst (λ d. Fell d σ.steps) e (framing_fell r args σ)
 
 -- a frame that was made fits into the stack, and no call is entered by it
 pub record Fits (n : ℕ) (σ τ : State) : Type 0 where
   pub top : σ.top + n ≤ stack_end
   pub calls : τ.calls ≡ σ.calls
 
-fits_by : (n : ℕ) (args : List Value) (σ τ : State) (w : List Touch) (a b : Bool) → nat_lt stack_end (σ.top + n) ≡ a
+fits_by : (r : Routine) (args : List Value) (σ τ : State) (w : List Touch) (a b : Bool) → nat_lt stack_end (σ.top + frame_size r args) ≡ a
     → ◌≡◌ {A = ActResult (Unit {0})} (if a then Stops (Limited Stack) [] σ
-    else if b then Stops OutOfSteps [] (spent σ) else Went tt [] (with_frame n args σ)) (Went tt w τ) → Fits n σ τ
-fits_by n args σ τ w true b t e = absurd (let z : ⊥ = cc in z)
-fits_by n args σ τ w false true t e = absurd (let z : ⊥ = cc in z)
-fits_by n args σ τ w false false t e =
-    let s : with_frame n args σ ≡ τ = cc in
+    else if b then Stops OutOfSteps [] (spent σ) else Went tt [] (with_frame r args σ)) (Went tt w τ) → Fits (frame_size r args) σ τ
+fits_by r args σ τ w true b t e = absurd (let z : ⊥ = cc in z)
+fits_by r args σ τ w false true t e = absurd (let z : ⊥ = cc in z)
+fits_by r args σ τ w false false t e =
+    let s : with_frame r args σ ≡ τ = cc in
     record { top = grind (arith, nat_tests, t); calls = ap (λ (υ : State). υ.calls) (sym s) }
 
-pub fits : (n : ℕ) (args : List Value) (σ τ : State) (w : List Touch) → framing n args σ ≡ Went tt w τ → Fits n σ τ
-fits n args σ τ w e = fits_by n args σ τ w (nat_lt stack_end (σ.top + n)) (nat_lt σ.steps n) refl e
+pub fits : (r : Routine) (args : List Value) (σ τ : State) (w : List Touch) → framing r args σ ≡ Went tt w τ → Fits (frame_size r args) σ τ
+fits r args σ τ w e = fits_by r args σ τ w (nat_lt stack_end (σ.top + frame_size r args)) (nat_lt σ.steps (frame_size r args)) refl e
 
-pub made_fell : (n : ℕ) (args : List Value) (σ τ : State) (o : Option WayOut) → FrameMade (framing n args σ) o τ → τ.steps ≤ σ.steps
-made_fell n args σ τ None m = went_fell n args σ τ m.0 m.1
-made_fell n args σ τ (Some way) m = stops_fell n args σ τ m.1 m.0 m.2
+pub made_fell : (r : Routine) (args : List Value) (σ τ : State) (b : Begun) → FrameMade r args σ b τ → τ.steps ≤ σ.steps
+made_fell r args σ τ (Framed cells) m = went_fell r args σ τ m.0 m.1
+made_fell r args σ τ (Ended way) m = stops_fell r args σ τ m.1 m.0 m.2

@@ -5,7 +5,7 @@ use Rattle.std.specs.List.{All}
 use Rattle.cell_value.specs.declared.{entries.Touch.Touch, values.Value.Value, ways_out.WayOut.WayOut, ways_out.Which.Which}
 use Rattle.core_program.proofs.{Events.events_append, Events.unmarked, OutcomesCompose.none_some, OutcomesCompose.some_same, OutcomesCompose.walk_bind}
 use Rattle.core_program.proofs.MoreDepthSameResult.{Grows, joined_less, less_same, run_less}
-use Rattle.core_program.specs.{Layer.layer, ProgramRows.ProgramRows, RunLaws.IsMet, State.State}
+use Rattle.core_program.specs.{Layer.layer, Passed.Entering, Passed.args_at, Passed.cells_entered, ProgramRows.ProgramRows, RunLaws.IsMet, State.State}
 use Rattle.core_program.specs.Acts.{ActResult, Answer, Spend, Stops, Went, limit_passed, perform}
 use Rattle.core_program.specs.Replay.{ChildOf, Event, Replayed, Replaying, end_of, next_call, replay_of, replaying, same_args}
 use Rattle.core_program.specs.Run.{Call, End, Ended, Halted, Marked, Result, ends, if_allowed, in_front, joined, on_done, on_end}
@@ -78,12 +78,13 @@ module _ (p : ProgramRows) (told : List Event) (r : Result Replaying Event) (sto
       at_once (AtEnd (Halted (way_of line why))) (record { state = τ; log = l ++ w }) s h
       (over_is told (Halted (way_of line why)) (with_state s τ) r f.rest f.is (past_more g f.past))
 
-  at_a_call : (n f : ℕ) (args : List Value) (next : Out → ActTree) (s : Replaying) (l : List Touch) (rest : Result Replaying Event) (o : Option Which)
-      → ◌≡◌ {A = Found} (Some (at_call o f args next, record { state = s.state; log = l })) (Some (stop, m'))
-      → if_allowed o s (joined (next_call f args s.state s.number s.calls) (λ out τ. replay_of p (suc n) (next out) τ)) ≡ Some rest → Past told r rest
-      → Stands p told stop (with_state s m'.state) r
-  at_a_call n f args next s l rest None h e g = at_once (AtCall f args next) _ s h (record { depth = n; rest = rest; is = e; past = g })
-  at_a_call n f args next s l rest (Some which) h e g =
+  at_a_call : (n : ℕ) (c : Entering) (next : Out → ActTree) (s : Replaying) (l : List Touch) (rest : Result Replaying Event) (o : Option Which)
+      → ◌≡◌ {A = Found} (Some (at_call o c s.state.top next, record { state = s.state; log = l })) (Some (stop, m'))
+      → if_allowed o s (joined (next_call c.routine (args_at c s.state.top) s.state s.number s.calls) (λ out τ. replay_of p (suc n) (next out) τ)) ≡ Some rest
+      → Past told r rest → Stands p told stop (with_state s m'.state) r
+  at_a_call n c next s l rest None h e g =
+      at_once (AtCall c.routine (args_at c s.state.top) next) _ s h (record { depth = n; rest = rest; is = e; past = g })
+  at_a_call n c next s l rest (Some which) h e g =
       at_once (AtEnd (Halted (WayOut.Limited which))) _ s h (over_is told (Halted (WayOut.Limited which)) s r rest e g)
 
   onward : (k n : ℕ) (t : ActTree) (s : Replaying) (l : List Touch) (rest : Result Replaying Event)
@@ -100,10 +101,10 @@ module _ (p : ProgramRows) (told : List Event) (r : Result Replaying Event) (sto
       (λ x w τ rest' h e f. onward k (suc n) (next x) (with_state s τ) (l ++ w) rest' h e (past_more g f)) h e g
   onward (suc k) (suc n) (Sub part next) s l rest h e g =
       onward k (suc n) (bind (layer p part) next) s l rest h
-      (walk_bind replaying _ _ (layer p part) next s
+      (walk_bind replaying (λ part τ. replay_of p n (layer p part) τ) (replaying.call (λ u τ. replay_of p n u τ)) (layer p part) next s
       ∙ (joined_less (replay_of p n (layer p part) s) (replay_of p (suc n) (layer p part) s) (λ out τ. replay_of p (suc n) (next out) τ)
       (λ out τ. replay_of p (suc n) (next out) τ) (run_less replaying grows p n (layer p part) s) (λ out τ. less_same _)).gives rest e) g
-  onward (suc k) (suc n) (Enter f cells args next) s l rest h e g = at_a_call n f args next s l rest (limit_passed s.state cells) h e g
+  onward (suc k) (suc n) (Enter c next) s l rest h e g = at_a_call n c next s l rest (limit_passed s.state (cells_entered c)) h e g
   onward (suc k) (suc n) (Line line next) s l rest h e g =
       on_stop line s l rest (Unit {0}) (perform (Spend 1) s.state) _ (λ _ τ. in_front [] (replaying.line line) (replay_of p (suc n) next τ))
       (λ x w τ rest' h e f. begun τ rest' w h e f) h e g

@@ -1,14 +1,14 @@
 -- The work of a call that was entered: its frame, and its end.
-use Rattle.std.proofs.Common.{◌+◌, ◌-◌, ◌∙◌, ◌∷◌, ◌≡◌, [], IsSome, List, None, Option, Some, ap, arith, drop, is_some, map, refl, subst, sym}
+use Rattle.std.proofs.Common.{◌+◌, ◌-◌, ◌∙◌, ◌∷◌, ◌≡◌, [], ℕ, IsSome, List, None, Option, Some, ap, arith, drop, is_some, map, refl, subst, sym}
 use Rattle.std.specs.List.{All}
 use Rattle.cell_value.specs.declared.ways_out.WayOut.{WayOut}
 use Rattle.core_program.proofs.OutcomesCompose.{none_some, some_same}
 use Rattle.core_program.specs.{ProgramRows.ProgramRows, ProgramRows.routine_at, RunLaws.IsMet, State.State, Tree.ActTree, declared.program.Routine.Routine}
 use Rattle.core_program.specs.Replay.{Event, Replaying, in_replaying, on_state, replay_of}
-use Rattle.core_program.specs.Run.{End, Halted, Result, at_work, ends, framed_run, result_in, way_out, whole, without_frame}
+use Rattle.core_program.specs.Run.{End, Halted, Result, at_work, ends, frame_size, framed_run, result_in, way_out, whole, without_frame}
 use Rattle.call_tree.specs.declared.records.Call as table
-use Rattle.eval_ops.specs.{Frames.framing, Machines.machine_state}
-use Rattle.program_run.specs.declared.history.History.{History}
+use Rattle.eval_ops.specs.Machines.{machine_state}
+use Rattle.program_run.specs.declared.{history.History.History, runner.Begun.TheVariants.Ended, runner.Begun.TheVariants.Framed}
 use Rattle.body_replay.proofs.FramesAgain.{fits, framed_again, on_framing, went_fell, work_from}
 use Rattle.body_replay.proofs.WorkBegins.{Before, before_change}
 use Rattle.body_replay.specs.{Replays.kept_event, Traces.EndsAs, Traces.FrameMade, Traces.FrameToMake, Traces.changed_result, declared.framed.WorkEnd.WorkEnd}
@@ -61,18 +61,20 @@ module _ {p : ProgramRows} {h : History} {j : Job h} {row : table.Call} {σ : St
 
   -- a frame that was not made
   pub ends_unframed : (r : Routine) (τ : State) (way : WayOut) (e : WorkEnd) → routine_at p row.routine ≡ Some r
-      → FrameMade (framing r.cells row.args σ) (Some way) τ → DidNothing way τ e → EndsAs j.work e
+      → FrameMade r row.args σ (Ended way) τ → DidNothing way τ e → EndsAs j.work e
   ends_unframed r τ way e found m d = halts way (record first { state = τ }) e
       (ap (λ w. ends (Halted w) (record first { state = τ })) (sym m.3)
       ∙ sym (framed_again p n.depth row.routine row.args r first found
-      ∙ ap (λ d. on_framing d (λ τ. record first { state = τ }) (work_from p n.depth row.routine r first)) m.2) ∙ n.is) d
+      ∙ ap (λ d. on_framing d (λ τ. record first { state = τ }) (work_from p n.depth row.routine r row.args first)) m.2) ∙ n.is) d
 
-  module _ (r : Routine) (τ : State) (found : routine_at p row.routine ≡ Some r) (m : FrameMade (framing r.cells row.args σ) None τ) where
+  module _ (r : Routine) (τ : State) (found : routine_at p row.routine ≡ Some r) (cells : ℕ) (m : FrameMade r row.args σ (Framed cells) τ) where
     -- what is left of it in the frame
-    framed : Before (on_state (without_frame σ.top r.cells)) (replay_of p n.depth (whole p row.routine σ.top r) (record first { state = τ })) j.work
-    framed = before_change (on_state (without_frame σ.top r.cells)) (replay_of p n.depth (whole p row.routine σ.top r) (record first { state = τ })) j.work
+    framed : Before (on_state (without_frame σ.top (frame_size r row.args))) (replay_of p n.depth (whole p row.routine σ.top r) (record first { state = τ }))
+        j.work
+    framed = before_change (on_state (without_frame σ.top (frame_size r row.args)))
+        (replay_of p n.depth (whole p row.routine σ.top r) (record first { state = τ })) j.work
         (sym (framed_again p n.depth row.routine row.args r first found
-        ∙ ap (λ d. on_framing d (λ τ. record first { state = τ }) (work_from p n.depth row.routine r first)) m.1) ∙ n.is)
+        ∙ ap (λ d. on_framing d (λ τ. record first { state = τ }) (work_from p n.depth row.routine r row.args first)) m.1) ∙ n.is)
 
     pub job_in_frame : Job h
     job_in_frame = record {
@@ -93,8 +95,8 @@ module _ {p : ProgramRows} {h : History} {j : Job h} {row : table.Call} {σ : St
     rests_at_first t e v same =
         let none : j.below ≡ drop (j.number + 1 - (j.number + 1)) j.below =
         ap (λ k. drop k j.below) (let z : 0 ≡ j.number + 1 - (j.number + 1) = omega arith in z) in
-        let fell = went_fell r.cells row.args σ τ m.0 m.1 in
-        let calls_same = (fits r.cells row.args σ τ m.0 m.1).calls in
+        let fell = went_fell r row.args σ τ m.0 m.1 in
+        let calls_same = (fits r row.args σ τ m.0 m.1).calls in
         let few = n.few in
         let calls = n.calls in
         let goes : LeadsTo p [] (whole p row.routine σ.top r) (record first { state = τ }) framed.rest =
@@ -116,11 +118,14 @@ module _ {p : ProgramRows} {h : History} {j : Job h} {row : table.Call} {σ : St
         })
 
     -- what is over in the frame is over
-    pub ends_framed : (e : WorkEnd) → EndsAs (changed_result (without_frame σ.top r.cells) job_in_frame.work) e → EndsAs j.work e
+    ends_of_size : (e : WorkEnd) → EndsAs (changed_result (without_frame σ.top (frame_size r row.args)) job_in_frame.work) e → EndsAs j.work e
     unfolding job_in_frame
-    ends_framed e d = record {
+    ends_of_size e d = record {
       way = ap way_out framed.end ∙ d.way;
       result = ap result_in framed.end ∙ d.result;
       after = ap (λ (s : Replaying). s.state) framed.after ∙ d.after;
       events = ap (λ es. map (λ e. kept_event e.event) es) framed.events ∙ d.events;
     }
+
+    pub ends_framed : (e : WorkEnd) → EndsAs (changed_result (without_frame σ.top cells) job_in_frame.work) e → EndsAs j.work e
+    ends_framed e d = ends_of_size e (subst (λ n. EndsAs (changed_result (without_frame σ.top n) job_in_frame.work) e) m.2 d)

@@ -1,15 +1,16 @@
 -- A call's own work in its frame, how it ends, and what is kept of it.
 use Rattle.std.specs.Prelude.{◌+◌, ◌≡◌, ◌≤◌, ℕ, List, None, Option, Some, map}
 use Rattle.std.specs.Option.{option_map}
-use Rattle.cell_value.specs.declared.{entries.Touch.Touch, ways_out.WayOut.WayOut}
-use Rattle.core_program.specs.{Acts.ActResult, Acts.Stops, Acts.Trouble, Acts.Went, ProgramRows.ProgramRows}
-use Rattle.core_program.specs.{ProgramRows.routine_at, State.State, State.most_calls, Tree.way_of}
+use Rattle.cell_value.specs.declared.{entries.Touch.Touch, values.Value.Value, ways_out.WayOut.WayOut}
+use Rattle.core_program.specs.{Acts.Stops, Acts.Trouble, Acts.Went, ProgramRows.ProgramRows, ProgramRows.routine_at}
+use Rattle.core_program.specs.{State.State, State.most_calls, Tree.way_of, declared.program.Routine.Routine}
 use Rattle.core_program.specs.Replay.{Event, Replayed, Replaying, in_replaying, on_state, replay_of}
-use Rattle.core_program.specs.Run.{Result, at_work, call_closed, framed_run, result_in, way_out}
+use Rattle.core_program.specs.Run.{Result, at_work, call_closed, frame_size, framed_run, result_in, way_out}
 use Rattle.call_tree.specs.declared.events.Event as kept
 use Rattle.call_tree.specs.declared.records.Call as table
-use Rattle.eval_ops.specs.{Machines.machine_state, declared.machine.Machine.Machine}
+use Rattle.eval_ops.specs.{Frames.framing, Machines.machine_state, declared.machine.Machine.Machine}
 use Rattle.program_run.specs.declared.history.History.{History}
+use Rattle.program_run.specs.declared.runner.Begun.{Begun, TheVariants.Ended, TheVariants.Framed}
 use Rattle.body_replay.specs.{Again.Job, Counting.Tally, Replays.events_in, Replays.kept_event}
 use Rattle.body_replay.specs.declared.{framed.WorkEnd.WorkEnd, replayer.Replayer.Replayer}
 use Rattle.body_replay.specs.declared.kept_state.KeptState.{KeptState}
@@ -23,9 +24,10 @@ pub record FrameToMake (p : ProgramRows) (h : History) (j : Job h) (row : table.
   pub calls : σ.calls ≤ most_calls
 
 -- a frame was made, or it was not, and the call ends so
-abbrev pub FrameMade : ActResult (Unit {0}) → Option WayOut → State → Type 0
-FrameMade did None τ = (w : List Touch) × (did ≡ Went tt w τ)
-FrameMade did (Some way) τ = (w : List Touch) × (why : Trouble) × (did ≡ Stops why w τ) × (way_of 0 why ≡ way)
+abbrev pub FrameMade : Routine → List Value → (σ : State) → Begun → (τ : State) → Type 0
+FrameMade r args σ (Framed cells) τ = (w : List Touch) × (framing r args σ ≡ Went tt w τ) × (cells ≡ frame_size r args)
+FrameMade r args σ (Ended way) τ =
+    (w : List Touch) × (why : Trouble) × (framing r args σ ≡ Stops why w τ) × (way_of 0 why ≡ way)
 
 -- the work ended so
 pub record EndsAs (work : Result Replaying Event) (e : WorkEnd) : Type 0 where

@@ -2,7 +2,7 @@
 
 ghost use Rattle.std.specs.Prelude.{◌+◌, ◌<◌, ◌≡◌, ◌≤◌, [], IfOk, None, OnOk};
 ghost use Rattle.core_program.specs.{Replay.end_of, Run.result_in, Run.way_out, Run.without_frame, State.stack_end};
-ghost use Rattle.eval_ops.specs.{Frames.framing, Machines.IsReady, Machines.machine_state};
+ghost use Rattle.eval_ops.specs.Machines.{IsReady, machine_state};
 ghost use Rattle.body_replay.specs.{Again.AtBody, Again.Job, Counting.CountsEachStep, Counting.Tally};
 ghost use Rattle.body_replay.specs.Traces.{EndsAs, FrameMade, FrameToMake, changed_result, tally, tally_of};
 
@@ -10,10 +10,10 @@ use crate::counted::count_steps;
 use crate::replayer::Replayer;
 use call_tree::{Call, Events};
 use cell_value::{Cells, Memory, Steps, Value, WayOut};
-use core_program::Program;
+use core_program::{Program, Routine};
 use eval_ops::{Halt, Machine, make_frame, remove_frame};
 use evaluator::Body;
-use program_run::History;
+use program_run::{Begun, History};
 use std::alloc::{AllocError, Global};
 
 /// What is left once a call's work has ended.
@@ -38,23 +38,23 @@ fn answer_of(way: WayOut, answer: Option<Value>) -> Option<Value>
     }
 }
 
-/// Makes the frame of a call, and answers how the call ends where the frame is not made.
+/// Makes the frame of a call of a routine, and answers how the call ends where the frame is not made.
 fn frame_made(
     alloc: Global,
     machine: &mut Machine,
     args: &Cells,
-    cells: u32,
-) -> Result<Option<WayOut>, Memory>
+    routine: Routine,
+) -> Result<Begun, Memory>
     requires ready { IsReady machine.old }
-    ensures made { IfOk result (λ halted. FrameMade (framing cells args.now (machine_state machine.old)) halted
+    ensures made { IfOk result (λ begun. FrameMade routine args.now (machine_state machine.old) begun
         (machine_state machine.new)) }
     ensures ready { OnOk result (IsReady machine.new) }
 {
-    match make_frame(alloc, machine, args, cells) {
-        Ok(()) => Ok(None),
-        Err(Halt::Fault(kind)) => Ok(Some(WayOut::Faulted(kind, 0))),
-        Err(Halt::OutOfSteps) => Ok(Some(WayOut::OutOfSteps)),
-        Err(Halt::Limited(which)) => Ok(Some(WayOut::Limited(which))),
+    match make_frame(alloc, machine, args, routine) {
+        Ok(cells) => Ok(Begun::Framed(cells)),
+        Err(Halt::Fault(kind)) => Ok(Begun::Ended(WayOut::Faulted(kind, 0))),
+        Err(Halt::OutOfSteps) => Ok(Begun::Ended(WayOut::OutOfSteps)),
+        Err(Halt::Limited(which)) => Ok(Begun::Ended(WayOut::Limited(which))),
         Err(Halt::Memory) => Err(AllocError),
     }
 }
@@ -119,10 +119,10 @@ pub(crate) fn work<L>(
     let routine = program.routine(row.routine).unwrap();
     let base = machine.top;
     let before = machine.steps;
-    let halted = frame_made(alloc, &mut machine, &row.args, routine.cells)?;
+    let begun = frame_made(alloc, &mut machine, &row.args, routine)?;
     count_steps(steps, before, machine.steps);
-    match halted {
-        None => {
+    match begun {
+        Begun::Framed(cells) => {
             let body = Body::new(alloc, row.routine, base);
             let events = Events::new(alloc);
             let replayer = Replayer {
@@ -131,10 +131,10 @@ pub(crate) fn work<L>(
                 events,
                 next: number + 1,
             };
-            let ending = in_frame(alloc, program, run, replayer, base, routine.cells, steps)?;
+            let ending = in_frame(alloc, program, run, replayer, base, cells, steps)?;
             Ok(ending)
         }
-        Some(way) => Ok(refused(alloc, machine, way)),
+        Begun::Ended(way) => Ok(refused(alloc, machine, way)),
     }
 }
 

@@ -139,6 +139,10 @@ fn type_words(row: TypeRow) -> &'static str {
         TypeRow::Pointer { .. } => "a pointer to type #",
         TypeRow::Array { packed: true, .. } => "a packed array, index #, component #, cells #",
         TypeRow::Array { .. } => "an array, index #, component #, cells #",
+        TypeRow::Conformant { packed: true, .. } => {
+            "a packed conformant array, index #, component #, place #"
+        }
+        TypeRow::Conformant { .. } => "a conformant array, index #, component #, place #",
         TypeRow::Record { packed: true, .. } => "a packed record, region #, cells #",
         TypeRow::Record { .. } => "a record, region #, cells #",
     }
@@ -161,6 +165,12 @@ fn type_numbers(row: TypeRow) -> [i64; 3] {
             cells,
             ..
         } => [index.into(), component.into(), cells.into()],
+        TypeRow::Conformant {
+            index,
+            component,
+            place,
+            ..
+        } => [index.into(), component.into(), place.into()],
         TypeRow::Record { region, cells, .. } => [region.into(), cells.into(), 0],
     }
 }
@@ -179,6 +189,7 @@ fn variable_words(mode: Mode) -> &'static str {
         Mode::Own => "a variable of type #, place #, level #",
         Mode::Value => "a value parameter of type #, place #, level #",
         Mode::Place => "a variable parameter of type #, place #, level #",
+        Mode::Copy => "a conformant value parameter of type #, place #, level #",
     }
 }
 
@@ -204,6 +215,10 @@ fn name_answer(row: Row) -> Answer {
                 [of.into(), place.into(), level.into()],
             )
         }
+        NameRow::Bound { of, place, level } => (
+            "a bound of type #, place #, level #",
+            [of.into(), place.into(), level.into()],
+        ),
         NameRow::RoutineFormal { place, level, .. } => {
             (
                 "a routine parameter, place #, level #",

@@ -1,4 +1,5 @@
 mod CellsAlike
+mod CopiesBefore
 pub mod Decimals
 mod FieldsPassed
 mod IndicesPassed
@@ -12,6 +13,7 @@ mod PartsPushed
 mod PartsSplit
 mod RecordsInTurn
 mod RootsPassed
+mod SpecsInTurn
 mod VariablesPassed
 mod WaysDown
 pub mod WrittenInTurn

@@ -3,10 +3,10 @@ use Rattle.std.proofs.Common.{◌++◌, ◌+◌, ◌-◌, ◌<◌, ◌∙◌, �
 use Rattle.std.proofs.Common.{filter, filter_map, option_to_list, refl, suc, sym, true, zero}
 use Rattle.std.{proofs.lemmas.List.Elements.filter-append, specs.List.cons_option, specs.List.range_with_len}
 use Rattle.cell_value.specs.Effects.{last_of}
-use Rattle.core_program.specs.ProgramRows.{ProgramRows, row_at}
+use Rattle.core_program.specs.ProgramRows.{ProgramRows, row_at, type_at}
 use Rattle.cell_names.specs.{Places.finds, Places.is_begun, Places.last_at, declared.places.PlacedPart.PlacedPart}
-use Rattle.cell_names.specs.Layouts.{block_start, is_name_of, most_sections, next_name, own_between, own_in, parts_after, parts_at, section_after, section_of}
-use Rattle.cell_names.specs.Layouts.{section_parts, sections_parts, token_or_zero}
+use Rattle.cell_names.specs.Layouts.{block_start, bounds_by, bounds_parts, component_in, is_name_of, most_sections, next_name, own_between, own_in, parts_after}
+use Rattle.cell_names.specs.Layouts.{parts_at, section_after, section_of, section_parts, sections_parts, spec_parts, token_or_zero}
 
 later : {X : Type 0} → Option X → Option X → Option X
 later None earlier = earlier
@@ -95,6 +95,35 @@ sections_end p old all counter slot past so_far =
     let m = most_is in
     let e : most_sections - counter ≡ zero = omega (arith, past, m) in
     finds_all old all (ap (λ n. finds (old ++ sections_parts p n slot)) (sym e) ∙ so_far)
+
+bounds_left : (p : ProgramRows) (old all : List PlacedPart) (most counter spec : ℕ) (o : Option ℕ) → counter < most → o ≡ component_in (type_at p spec)
+    → finds (old ++ bounds_parts p (most - counter) spec) ≡ finds all
+    → finds (old ++ bounds_by p (bounds_parts p (most - (counter + 1))) spec o) ≡ finds all
+bounds_left p old all most counter spec o below is so_far =
+    let e : most - counter ≡ suc (most - (counter + 1)) = omega (arith, below) in
+    ap (λ c. finds (old ++ bounds_by p (bounds_parts p (most - (counter + 1))) spec c)) is ∙ ap (λ n. finds (old ++ bounds_parts p n spec)) (sym e) ∙ so_far
+
+-- the bounds of one more spec
+pub bounds_on : (p : ProgramRows) (old new all : List PlacedPart) (most counter spec component : ℕ) → counter < most
+    → Some component ≡ component_in (type_at p spec)
+    → finds new ≡ finds (old ++ spec_parts p spec) → finds (old ++ bounds_parts p (most - counter) spec) ≡ finds all
+    → finds (new ++ bounds_parts p (most - (counter + 1)) component) ≡ finds all
+bounds_on p old new all most counter spec component below is pushed so_far =
+    finds_on old new (spec_parts p spec) (bounds_parts p (most - (counter + 1)) component) all pushed
+    (bounds_left p old all most counter spec (Some component) below is so_far)
+
+-- there are no more specs
+pub bounds_none : (p : ProgramRows) (old all : List PlacedPart) (most counter spec : ℕ) → counter < most
+    → ◌≡◌ {A = Option ℕ} None (component_in (type_at p spec))
+    → finds (old ++ bounds_parts p (most - counter) spec) ≡ finds all → finds old ≡ finds all
+bounds_none p old all most counter spec below is so_far = finds_all old all (bounds_left p old all most counter spec None below is so_far)
+
+pub bounds_end : (p : ProgramRows) (old all : List PlacedPart) (counter spec : ℕ) → 1048576 ≤ counter
+    → finds (old ++ bounds_parts p (most_sections - counter) spec) ≡ finds all → finds old ≡ finds all
+bounds_end p old all counter spec past so_far =
+    let m = most_is in
+    let e : most_sections - counter ≡ zero = omega (arith, past, m) in
+    finds_all old all (ap (λ n. finds (old ++ bounds_parts p n spec)) (sym e) ∙ so_far)
 
 range_last : (a n : ℕ) → range_with_len a (suc n) ≡ range_with_len a n ++ (a + n) ∷ []
 range_last a zero = ap (λ k. k ∷ []) (let e : a ≡ a + zero = omega arith in e)

@@ -7,7 +7,7 @@ use Rattle.cell_names.proofs.NamesPassed.{block_unnamed, call_unnamed, neither, 
 use Rattle.cell_names.specs.{Places.is_begun_by, Values.heap_number, Walks.limited, Walks.moved_root, declared.names.Held.Held, declared.names.Local.Local}
 use Rattle.cell_names.specs.{declared.names.Origin.Origin, declared.names.Root.Root, declared.places.PlacedPart.PlacedPart, declared.walks.Walked.Walked}
 use Rattle.cell_names.specs.NamedBy.{after_part, block_text, call_text, is_named_by, then_part}
-use Rattle.cell_names.specs.Names.{Scene, heap_root, local_at, local_root, root, root_at, root_in, spot, stack_root}
+use Rattle.cell_names.specs.Names.{Scene, frame, heap_root, local_at, local_root, root, root_at, root_in, spot, stack_root}
 use Rattle.cell_names.specs.Walks.{NoneAfter, Walks, WalksOver, ends_or_dots, is_named_at, is_named_root, is_of_block, is_of_frame, is_of_heap, is_of_routine}
 
 -- no more than this many are passed over
@@ -26,19 +26,19 @@ local_not_called : (s : Scene) (name : List ℕ) (call routine : ℕ) (l : Optio
 local_not_called s name call routine None first none = refl
 local_not_called s name call routine (Some l) first none = call_unnamed s call routine l.token l.spot name first none
 
-routine_unnamed : (s : Scene) (name : List ℕ) (call place : ℕ) (routine : Option ℕ) → is_of_routine s call routine name ≡ false
-    → is_named_root s name (root_in s call place routine) ≡ false
-routine_unnamed s name call place None e = refl
-routine_unnamed s name call place (Some routine) e =
+routine_unnamed : (s : Scene) (name : List ℕ) (call top place : ℕ) (routine : Option ℕ) → is_of_routine s call routine name ≡ false
+    → is_named_root s name (root_in s call top place routine) ≡ false
+routine_unnamed s name call top place None e = refl
+routine_unnamed s name call top place (Some routine) e =
     let both = neither (call == 0) (ends_or_dots (after_part (call_text s.program call routine) name)) e in
-    local_not_called s name call routine (local_at s routine place) both.0 both.1
+    local_not_called s name call routine (local_at s (frame call routine top) place) both.0 both.1
 
 -- a frame that the name is not of
 frame_unnamed : (s : Scene) (name : List ℕ) (address : ℕ) (part : Option PlacedPart) → is_of_frame s part name ≡ false
     → is_named_root s name (stack_root s address part) ≡ false
 frame_unnamed s name address None e = refl
 frame_unnamed s name address (Some part) e =
-    routine_unnamed s name part.number (address - part.place) (slice_get s.routines part.number) e
+    routine_unnamed s name part.number part.place (address - part.place) (slice_get s.routines part.number) e
 
 -- frames that the name is not of, from an address on
 pub frames_passed : (s : Scene) (name : List ℕ) (address first last : ℕ) (part : Option PlacedPart)
@@ -51,12 +51,12 @@ frames_passed s name address first last part same other none = λ k below.
     (λ j within. ap (λ o. is_of_frame s o name) (same j within) ∙ other) none k below)
 
 pub frame_there : (s : Scene) (name : List ℕ) (address : ℕ) (part : PlacedPart) (w : Walked) → is_begun_by address (Some part) ≡ true
-    → WalksOver s name (λ k. root_in s part.number ((address - part.place) + k) (slice_get s.routines part.number)) w
+    → WalksOver s name (λ k. root_in s part.number part.place ((address - part.place) + k) (slice_get s.routines part.number)) w
     → WalksOver s name (λ k. stack_root s (address + k) (Some part)) w
 frame_there s name address part (Walked.Named r) begun h =
-    (ap (λ n. root_in s part.number n (slice_get s.routines part.number)) (after_begin part.place address 0 begun) ∙ h.0, h.1)
+    (ap (λ n. root_in s part.number part.place n (slice_get s.routines part.number)) (after_begin part.place address 0 begun) ∙ h.0, h.1)
 frame_there s name address part (Walked.Unnamed m) begun h = λ k below.
-    ap (λ n. is_named_root s name (root_in s part.number n (slice_get s.routines part.number))) (after_begin part.place address k begun) ∙ h k below
+    ap (λ n. is_named_root s name (root_in s part.number part.place n (slice_get s.routines part.number))) (after_begin part.place address k begun) ∙ h k below
 
 abbrev root_of : Root → Option Root → Root
 root_of d None = d

@@ -1,7 +1,7 @@
 -- The way down to a cell, step by step.
 use Rattle.std.proofs.Common.{◌++◌, ◌+◌, ◌-◌, ◌<◌, ◌∙◌, ◌≡◌, ◌≤◌, ℕ, List, None, Option, Some, ap, append-nil, append_assoc, arith, suc, sym, zero}
 use Rattle.cell_names.specs.Names.{Scene, WayDown, most_types, next_step, selector_text, way_after, way_by, way_down, way_here, way_within}
-use Rattle.cell_names.specs.declared.names.{Spot.Spot, Step.Step}
+use Rattle.cell_names.specs.declared.names.{Held.Held, Spot.Spot, Step.Step}
 
 -- all selectors of the way were written, and this is where it ends
 pub record WentDown (before : List ℕ) (w : WayDown) (after : List ℕ) (end : Spot) : Type 0 where
@@ -9,11 +9,11 @@ pub record WentDown (before : List ℕ) (w : WayDown) (after : List ℕ) (end : 
   pub ends : end ≡ w.end
 
 -- this many steps were taken, and what is left of the way begins here
-pub record IsOnWay (s : Scene) (wanted : Option ℕ) (from : Spot) (before now : List ℕ) (at : Spot) (taken : ℕ) : Type 0 where
+pub record IsOnWay (s : Scene) (wanted : Option Held) (from : Spot) (before now : List ℕ) (at : Spot) (taken : ℕ) : Type 0 where
   pub text : now ++ (way_within s wanted (most_types - taken) at).text ≡ before ++ (way_down s wanted from).text
   pub end : (way_within s wanted (most_types - taken) at).end ≡ (way_down s wanted from).end
 
-pub begins : (s : Scene) (wanted : Option ℕ) (from : Spot) (out : List ℕ) → IsOnWay s wanted from out out from 0
+pub begins : (s : Scene) (wanted : Option Held) (from : Spot) (out : List ℕ) → IsOnWay s wanted from out out from 0
 begins s wanted from out =
     let e : most_types - 0 ≡ most_types = omega arith in
     record {
@@ -25,13 +25,13 @@ pub left : (taken : ℕ) → taken < 1048576 → most_types - taken ≡ suc (mos
 unfolding most_types
 left taken below = omega (arith, below)
 
-next_way : (s : Scene) (wanted : Option ℕ) (at : Spot) (taken : ℕ) (o : Option Step) → taken < 1048576 → o ≡ next_step s wanted at
+next_way : (s : Scene) (wanted : Option Held) (at : Spot) (taken : ℕ) (o : Option Step) → taken < 1048576 → o ≡ next_step s wanted at
     → way_within s wanted (most_types - taken) at ≡ way_by s.program (way_within s wanted (most_types - (taken + 1))) at o
 next_way s wanted at taken o below is =
     ap (λ n. way_within s wanted n at) (left taken below) ∙ ap (way_by s.program (way_within s wanted (most_types - (taken + 1))) at) (sym is)
 
 -- the way ends here
-pub ends_here : (s : Scene) (wanted : Option ℕ) (from : Spot) (before now : List ℕ) (at : Spot) (taken : ℕ) (o : Option Step) → taken < 1048576
+pub ends_here : (s : Scene) (wanted : Option Held) (from : Spot) (before now : List ℕ) (at : Spot) (taken : ℕ) (o : Option Step) → taken < 1048576
     → o ≡ next_step s wanted at → o ≡ None → IsOnWay s wanted from before now at taken → WentDown before (way_down s wanted from) now at
 ends_here s wanted from before now at taken o below is none on =
     let w : way_within s wanted (most_types - taken) at ≡ way_here at =
@@ -42,7 +42,7 @@ ends_here s wanted from before now at taken o below is none on =
     }
 
 -- one more step is taken
-pub goes_on : (s : Scene) (wanted : Option ℕ) (from : Spot) (before now more : List ℕ) (at : Spot) (taken : ℕ) (o : Option Step) (x : Step)
+pub goes_on : (s : Scene) (wanted : Option Held) (from : Spot) (before now more : List ℕ) (at : Spot) (taken : ℕ) (o : Option Step) (x : Step)
     → taken < 1048576 → o ≡ next_step s wanted at → o ≡ Some x → more ≡ now ++ selector_text s.program x.selector
     → IsOnWay s wanted from before now at taken → IsOnWay s wanted from before more x.spot (taken + 1)
 goes_on s wanted from before now more at taken o x below is some written on =
@@ -56,7 +56,7 @@ goes_on s wanted from before now more at taken o x below is some written on =
     }
 
 -- no more steps are taken
-pub all_taken : (s : Scene) (wanted : Option ℕ) (from : Spot) (before now : List ℕ) (at : Spot) (taken : ℕ) → 1048576 ≤ taken
+pub all_taken : (s : Scene) (wanted : Option Held) (from : Spot) (before now : List ℕ) (at : Spot) (taken : ℕ) → 1048576 ≤ taken
     → IsOnWay s wanted from before now at taken → WentDown before (way_down s wanted from) now at
 unfolding most_types
 all_taken s wanted from before now at taken past on =

@@ -8,7 +8,7 @@ drop_get (y ∷ ys) zero x e = ap (λ z. z ∷ ys) (let h : y ≡ x = cc in h)
 drop_get (y ∷ ys) (suc at) x e = drop_get ys at x e
 
 -- one more element of a part of a list, from its front
-range_front : {X : Type 0} (xs : List X) (at to : ℕ) (x : X) → slice_get xs at ≡ Some x → at < to
+pub range_front : {X : Type 0} (xs : List X) (at to : ℕ) (x : X) → slice_get xs at ≡ Some x → at < to
     → slice_range xs at to ≡ x ∷ slice_range xs (suc at) to
 range_front {X} xs at to x found below =
     ap (λ n. take n (drop at xs)) (let e : to - at ≡ suc (to - suc at) = omega (arith, below) in e)

@@ -3,8 +3,8 @@ use Rattle.std.specs.Prelude.{if◌then◌else◌, ◌++◌, ◌+◌, ◌-◌, �
 use Rattle.std.specs.Prelude.{filter_map, min, option_to_list, suc, zero}
 use Rattle.std.specs.List.{range_with_len}
 use Rattle.cell_value.specs.Effects.{last_of}
-use Rattle.core_program.specs.ProgramRows.{ProgramRows, routine_at, row_at}
-use Rattle.core_program.specs.declared.program.Routine.{Routine}
+use Rattle.core_program.specs.ProgramRows.{ProgramRows, routine_at, row_at, type_at}
+use Rattle.core_program.specs.declared.{program.Routine.Routine, rows.TypeRow.TypeRow}
 use Rattle.core_program.specs.declared.rows.{ItemRow.ItemRow, Mode.Mode, NameRow.NameRow, PartRow.PartRow, Row.Row}
 use Rattle.cell_names.specs.declared.places.PlacedPart.{PlacedPart}
 
@@ -13,6 +13,7 @@ part place number = record { place = place; number = number }
 
 abbrev pub named_part : (number : ℕ) → Row → Option PlacedPart
 named_part number (Row.Name (NameRow.Variable mode' of' place level)) = Some (part place number)
+named_part number (Row.Name (NameRow.Bound of' place level)) = Some (part place number)
 named_part number (Row.Name (NameRow.RoutineFormal place level heading)) = Some (part place number)
 named_part number r = None
 
@@ -34,9 +35,41 @@ abbrev pub heading_part : ProgramRows → Row → List PlacedPart
 heading_part p (Row.Part (PartRow.Heading name sections result)) = parts_at p name
 heading_part p r = []
 
--- the parameters of a section
+-- more sections, and more specs of a schema, than a source of 1,048,576 bytes has
+unfoldable pub most_sections : ℕ
+most_sections = 1048576
+
+-- the token this many after another; numbers of tokens end with the last of 32 bits
+abbrev pub token_after : (token more : ℕ) → ℕ
+token_after token more = min (token + more) 4294967295
+
+-- the two bounds of a spec, which stand after its bracket or semicolon with `..` between them
+abbrev pub spec_parts : ProgramRows → (spec : ℕ) → List PlacedPart
+spec_parts p spec = parts_at p (token_after spec 1) ++ parts_at p (token_after spec 3)
+
+-- the type of the components by a spec
+abbrev pub component_in : Option TypeRow → Option ℕ
+component_in (Some (TypeRow.Conformant packed index component place)) = Some component
+component_in t = None
+
+-- the bounds of a schema and of those inside it
+abbrev pub bounds_by : ProgramRows → (go : ℕ → List PlacedPart) → (spec : ℕ) → Option ℕ → List PlacedPart
+bounds_by p go spec None = []
+bounds_by p go spec (Some component) = spec_parts p spec ++ go component
+
+abbrev pub bounds_parts : ProgramRows → (most : ℕ) → (spec : ℕ) → List PlacedPart
+bounds_parts p zero spec = []
+bounds_parts p (suc most) spec = bounds_by p (bounds_parts p most) spec (component_in (type_at p spec))
+
+-- the bounds of the schema of a section, by the row of the section's first name
+abbrev pub bounds_before : ProgramRows → Row → List PlacedPart
+bounds_before p (Row.Name (NameRow.Variable mode' of' place level)) = bounds_parts p most_sections of'
+bounds_before p r = []
+
+-- the parameters of a section: the bounds come before the names
 abbrev pub section_of : ProgramRows → Row → List PlacedPart
-section_of p (Row.Item (ItemRow.Section mode' first count next)) = section_parts p count first
+section_of p (Row.Item (ItemRow.Section mode' first count next)) =
+    bounds_before p (row_at p first) ++ section_parts p count first
 section_of p (Row.Item (ItemRow.RoutineSection heading next)) = heading_part p (row_at p heading)
 section_of p r = []
 
@@ -55,10 +88,6 @@ abbrev pub sections_parts : ProgramRows → (most : ℕ) → (slot : ℕ) → Li
 sections_parts p zero slot = []
 sections_parts p (suc most) slot =
     section_of p (row_at p slot) ++ parts_after (sections_parts p most) (section_after (row_at p slot))
-
--- more sections than a source of 1,048,576 bytes has
-unfoldable pub most_sections : ℕ
-most_sections = 1048576
 
 abbrev pub parameters_in : ProgramRows → Row → List PlacedPart
 parameters_in p (Row.Part (PartRow.Heading name sections result)) = sections_parts p most_sections sections

@@ -1,3 +1,4 @@
+pub mod Conformant
 pub mod Finding
 pub mod Layouts
 pub mod NamedBy

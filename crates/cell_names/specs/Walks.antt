@@ -1,12 +1,13 @@
 -- A walk over the addresses of a run in search of the cells that a name names: what it may pass over at once.
 use Rattle.std.specs.Prelude.{if◌then◌else◌, ◌%◌, ◌++◌, ◌+ℤ◌, ◌+◌, ◌-◌, ◌/◌, ◌<◌, ◌==◌, ◌||◌, ◌≡◌, ◌≤◌, ℕ, Bool, List}
-use Rattle.std.specs.Prelude.{None, Option, Some, codes, false, is_some, min, nat_lt, pos, slice_get, slice_index_or}
-use Rattle.std.specs.Prelude.{suc, true, zero}
+use Rattle.std.specs.Prelude.{None, Option, Some, codes, false, is_some, min, nat_le, nat_lt, pos, slice_get}
+use Rattle.std.specs.Prelude.{slice_index_or, suc, true, zero}
 use Rattle.core_program.specs.ProgramRows.{ProgramRows, size_of, text_at, type_at}
-use Rattle.core_program.specs.declared.rows.TypeRow.{TypeRow}
+use Rattle.core_program.specs.declared.{components.Extent.Extent, program.Routine.Routine, rows.TypeRow.TypeRow}
+use Rattle.cell_names.specs.{Places.is_begun, Values.bounds_of, Values.within_bounds}
+use Rattle.cell_names.specs.Conformant.{cells_held, extent_of, held_in}
 use Rattle.cell_names.specs.NamedBy.{after_part, block_text, call_text, is_named_by, is_over, then_part}
 use Rattle.cell_names.specs.Names.{Scene, is_result, least_in, record_step, root, root_at, selector_text, spot, step}
-use Rattle.cell_names.specs.Values.{bounds_of, within_bounds}
 use Rattle.cell_names.specs.declared.{places.PlacedPart.PlacedPart, walks.Components.Components, walks.Walked.Walked}
 use Rattle.cell_names.specs.declared.names.{Held.Held, Local.Local, Root.Root, Spot.Spot, Step.Step}
 
@@ -56,18 +57,36 @@ abbrev pub components_in : ProgramRows → Option TypeRow → Option Components
 components_in p (Some (TypeRow.Array packed index component cells)) = Some (record {
   index = index;
   bounds = bounds_of p index;
-  component = component;
+  least = least_in (bounds_of p index);
+  component = Held.Variable component;
   size = size_of p component;
 })
 components_in p t = None
 
-abbrev pub components_of : ProgramRows → Held → Option Components
-components_of p (Held.Variable of') = components_in p (type_at p of')
-components_of p h = None
+-- the components of the array of a conformant parameter, where its bounds are known
+abbrev pub components_by : Scene → (call index component : ℕ) → Option Extent → Option Components
+components_by s call index component None = None
+components_by s call index component (Some e) = Some (record {
+  index = index;
+  bounds = bounds_of s.program index;
+  least = e.least;
+  component = held_in s.program call component;
+  size = cells_held s.program s.args call component;
+})
+
+abbrev pub conformant_components : Scene → (call : ℕ) → Option TypeRow → Option Components
+conformant_components s call (Some (TypeRow.Conformant packed index component place)) =
+    components_by s call index component (extent_of s.program s.args call index place)
+conformant_components s call t = None
+
+abbrev pub components_of : Scene → Held → Option Components
+components_of s (Held.Variable of') = components_in s.program (type_at s.program of')
+components_of s (Held.Conformant call of') = conformant_components s call (type_at s.program of')
+components_of s h = None
 
 -- whether a name goes on with the index of the component that has a place of an array
 abbrev pub index_text : ProgramRows → Components → (which : ℕ) → List ℕ
-index_text p a which = codes "[" ++ within_bounds p (least_in a.bounds +ℤ pos which) a.bounds ++ codes "]"
+index_text p a which = codes "[" ++ within_bounds p (a.least +ℤ pos which) a.bounds ++ codes "]"
 
 abbrev pub is_indexed_by : ProgramRows → Components → (place size : ℕ) → (name : List ℕ) → Bool
 is_indexed_by p a place zero name = false
@@ -112,13 +131,14 @@ abbrev pub is_of_frame : Scene → Option PlacedPart → (name : List ℕ) → B
 is_of_frame s None name = false
 is_of_frame s (Some part) name = is_of_routine s part.number (slice_get s.routines part.number) name
 
--- the same of what has a place of a record, and of a frame whose routine has its result at a place
+-- the same of what has a place of a record, and of a frame whose routine has its result at a place; copies are not
+-- looked at
 abbrev pub is_selected_at : Scene → (owner place : ℕ) → (name : List ℕ) → Bool
 is_selected_at s owner place name = is_selected s.program (s.finding.component owner place) name
 
-abbrev pub is_local_at : Scene → (routine : ℕ) → (result : Option ℕ) → (place : ℕ) → (left : List ℕ) → Bool
-is_local_at s routine result place left =
-    is_result result place || is_of_local s.program left (s.finding.frame routine place)
+abbrev pub is_local_at : Scene → (number : ℕ) → Routine → (place : ℕ) → (left : List ℕ) → Bool
+is_local_at s number r place left =
+    nat_le r.cells place || (is_result r.result place || is_of_local s.program left (s.finding.frame number place))
 
 -- none of the numbers after one, up to another, are such
 abbrev pub NoneAfter : (such : ℕ → Bool) → (first last : ℕ) → Type 0
@@ -149,6 +169,15 @@ left_of_component place (suc n) = n - place % suc n
 abbrev pub before_result : (result_place : Option ℕ) → (place more : ℕ) → ℕ
 before_result None place more = more
 before_result (Some at) place more = if nat_lt place at then min more (at - place - 1) else more
+
+-- how many places after one, of this many, are before a copy, if that begins after it
+abbrev pub before_copy : (place : ℕ) → Option PlacedPart → (more : ℕ) → Option ℕ
+before_copy place None more = Some more
+before_copy place (Some copy) more = if is_begun place copy then None else Some (min more (copy.place - place - 1))
+
+-- how many places before the end of a frame without its copies there are after one, of this many; beyond that none
+abbrev pub before_end : (cells place more : ℕ) → ℕ
+before_end cells place more = min more (cells - place - 1)
 
 -- no more than this many are passed over
 abbrev pub limited : Walked → (more : ℕ) → Walked

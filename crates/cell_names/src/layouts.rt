@@ -1,14 +1,15 @@
 //! What frames are made of, from the tables of a program.
 
 ghost use Rattle.std.specs.Prelude.{◌++◌, ◌≡◌, IfOk, OnOk, option_to_list};
-ghost use Rattle.core_program.specs.ProgramRows.{row_at};
-ghost use Rattle.cell_names.specs.{Layouts.variables_of, Places.finds};
-ghost use Rattle.cell_names.specs.Layouts.{block_start, frame_parts, heading_part, is_name_of, most_sections};
-ghost use Rattle.cell_names.specs.Layouts.{named_part, next_name, own_between, own_in, parameters_in, parameters_of};
-ghost use Rattle.cell_names.specs.Layouts.{parts_at, section_after, section_of, section_parts, sections_parts};
+ghost use Rattle.core_program.specs.ProgramRows.{row_at, type_at};
+ghost use Rattle.cell_names.specs.Layouts.{block_start, bounds_before, bounds_parts, component_in, frame_parts};
+ghost use Rattle.cell_names.specs.Layouts.{heading_part, is_name_of, most_sections, named_part, next_name, own_between};
+ghost use Rattle.cell_names.specs.Layouts.{own_in, parameters_in, parameters_of, parts_at, section_after, section_of};
+ghost use Rattle.cell_names.specs.Layouts.{section_parts, sections_parts, spec_parts, token_after, variables_of};
+ghost use Rattle.cell_names.specs.Places.{finds};
 
 use crate::places::{PlacedPart, PlacedParts};
-use core_program::rows::{ItemRow, Mode, NameRow, PartRow, Row};
+use core_program::rows::{ItemRow, Mode, NameRow, PartRow, Row, TypeRow};
 use core_program::{Program, Routine};
 use std::alloc::{AllocError, Global};
 
@@ -18,6 +19,10 @@ fn named_part(token: u32, row: Row) -> Option<PlacedPart>
 {
     match row {
         Row::Name(NameRow::Variable { place, .. }) => Some(PlacedPart {
+            place,
+            number: token,
+        }),
+        Row::Name(NameRow::Bound { place, .. }) => Some(PlacedPart {
             place,
             number: token,
         }),
@@ -80,6 +85,79 @@ fn push_heading(places: &mut PlacedParts, program: &Program, heading: Row) -> Re
     }
 }
 
+/// The token this many after another.
+fn token_after(token: u32, more: u32) -> u32
+    ensures { result ≡ token_after token more }
+{
+    token.saturating_add(more)
+}
+
+/// The two bounds of a spec, which stand after its bracket or semicolon with `..` between them.
+fn push_spec(places: &mut PlacedParts, program: &Program, spec: u32) -> Result<(), AllocError>
+    ensures { OnOk result (finds places.new ≡ finds (places.old ++ spec_parts program.now spec)) }
+{
+    push_name(places, program, token_after(spec, 1))?;
+    push_name(places, program, token_after(spec, 3))?;
+    Ok(())
+}
+
+/// The type of the components by a spec, if a type is one.
+fn component_of(program: &Program, spec: u32) -> Option<u32>
+    ensures { result ≡ component_in (type_at program.now spec) }
+{
+    match program.type_row(spec) {
+        Some(TypeRow::Conformant { component, .. }) => Some(component),
+        _ => None,
+    }
+}
+
+/// The bounds of a schema and of those inside it.
+fn push_bounds(places: &mut PlacedParts, program: &Program, schema: u32) -> Result<(), AllocError>
+    ensures { OnOk result (finds places.new
+        ≡ finds (places.old ++ bounds_parts program.now most_sections schema)) }
+{
+    let mut spec = schema;
+    'specs: for _ in 0..1_048_576u32 {
+        match component_of(program, spec) {
+            None => return Ok(()),
+            Some(component) => {
+                push_spec(places, program, spec)?;
+                spec = component;
+            }
+        }
+    }
+    Ok(())
+}
+
+/// The bounds of the schema of a section, by the row of the section's first name.
+fn push_bounds_before(
+    places: &mut PlacedParts,
+    program: &Program,
+    first: Row,
+) -> Result<(), AllocError>
+    ensures { OnOk result (finds places.new ≡ finds (places.old ++ bounds_before program.now first)) }
+{
+    match first {
+        Row::Name(NameRow::Variable { of, .. }) => push_bounds(places, program, of),
+        _ => Ok(()),
+    }
+}
+
+/// The parameters of a section, by the token of its first name: the bounds come before the names.
+fn push_bounds_and_names(
+    places: &mut PlacedParts,
+    program: &Program,
+    count: u32,
+    first: u32,
+) -> Result<(), AllocError>
+    ensures { OnOk result (finds places.new ≡ finds (places.old
+        ++ (bounds_before program.now (row_at program.now first) ++ section_parts program.now count first))) }
+{
+    push_bounds_before(places, program, program.row(first))?;
+    push_section(places, program, count, first)?;
+    Ok(())
+}
+
 /// The parameters of a section, by its row.
 fn push_section_of(
     places: &mut PlacedParts,
@@ -90,7 +168,7 @@ fn push_section_of(
 {
     match section {
         Row::Item(ItemRow::Section { first, count, .. }) => {
-            push_section(places, program, count, first)
+            push_bounds_and_names(places, program, count, first)
         }
         Row::Item(ItemRow::RoutineSection { heading, .. }) => {
             push_heading(places, program, program.row(heading))

@@ -3,6 +3,7 @@
 //! name is found without a look at all variables.
 #![tactic(auto)]
 
+mod conformant;
 mod finding;
 mod layouts;
 mod name_parts;
@@ -16,8 +17,8 @@ mod walks;
 
 pub use finding::NameFinder;
 pub use names::{
-    Held, Local, Origin, Root, Scene, Spot, is_link, local_at, result_of, root_at, write_address,
-    write_root, write_way,
+    CopyCells, Frame, Held, Local, Origin, Root, Scene, Spot, array_cells, copy_cells, is_link,
+    local_at, result_of, root_at, write_address, write_root, write_way,
 };
 pub use pieces::{write_long, write_number, write_quoted, write_quoted_items};
 pub use places::{PlacedPart, PlacedParts};

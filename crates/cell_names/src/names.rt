@@ -1,35 +1,41 @@
 //! Names of cells: the variable, whose it is, and the selectors on the way down to the cell.
 
-ghost use Rattle.std.specs.Prelude.{◌≡◌, Some, slice_get};
+ghost use Rattle.std.specs.Prelude.{◌≡◌, None, Some, slice_get};
 ghost use Rattle.edge_ports.specs.Printouts.{Prints};
 ghost use Rattle.core_program.specs.ProgramRows.{type_at};
-ghost use Rattle.cell_names.specs.Names.{address_text, begins_there, cell_held, cell_text, component_step, field_step};
-ghost use Rattle.cell_names.specs.Names.{heap_root, is_link, is_of_type, is_result, is_wanted, least_in, local_at};
-ghost use Rattle.cell_names.specs.Names.{local_in, local_root, named_local, next_step, origin_text, part_local};
-ghost use Rattle.cell_names.specs.Names.{record_step, result_local, result_of, root_at, root_in, scene_in};
-ghost use Rattle.cell_names.specs.Names.{selector_text, stack_root, step_down, typed_step, way_down, whose_text};
+ghost use Rattle.cell_names.specs.{Conformant.cells_held as cells_in_call, Names.way_down, Names.whose_text};
+ghost use Rattle.cell_names.specs.Names.{address_text, array_local, array_step, begins_there, begun_or, cell_held};
+ghost use Rattle.cell_names.specs.Names.{cell_text, cells_of_copy, conformant_step, copy_address, copy_before};
+ghost use Rattle.cell_names.specs.Names.{copy_cells, copy_local, copy_of, extent_step, field_step, heap_root, is_link};
+ghost use Rattle.cell_names.specs.Names.{is_result, is_wanted, least_in, local_at, local_in, local_root, named_local};
+ghost use Rattle.cell_names.specs.Names.{next_step, origin_text, part_local, record_step, result_local, result_of};
+ghost use Rattle.cell_names.specs.Names.{root_at, root_in, scene_in, selector_text, stack_root, step_down, typed_step};
 
+use crate::conformant::{argument, cells_held, extent_of, held_in, is_sought, reference_in};
 use crate::finding::NameFinder;
 use crate::pieces::write_number;
 use crate::places::{PlacedPart, PlacedParts};
 use crate::values::{Bounds, bounds_of, write_ordinal};
+use call_tree::Calls;
+use cell_value::Value;
 use core_program::rows::{Mode, NameRow, PartRow, Row, TypeRow};
-use core_program::{Program, Routine};
+use core_program::{Extent, Program, Routine};
 use edge_ports::Printer;
 use std::marker::Model;
 
 /// What the names of cells stand on: a program and what is found in it by its place; of each call of its run the
-/// routine; and the calls that are open, by the places where their frames begin.
+/// routine, and what it was entered with; and the calls that are open, by the places where their frames begin.
 #[derive(Drop)]
 pub struct Scene<'a> {
     pub program: &'a Program,
     pub names: &'a NameFinder,
     pub routines: &'a [u32],
+    pub calls: &'a Calls,
     pub opened: &'a PlacedParts,
 }
 
 impl<'a> Model for Scene<'a> {
-    ghost use Rattle.cell_names.specs.Names.{SceneLists};
+    ghost use Rattle.cell_names.specs.{Conformant.args_of, Names.SceneLists};
 
     ghost Value = { SceneLists };
 
@@ -37,6 +43,7 @@ impl<'a> Model for Scene<'a> {
       program = s.program.now;
       names = s.names.now;
       routines = s.routines.now;
+      args = args_of s.calls.now.calls;
       opened = s.opened.now;
     } };
 }
@@ -52,6 +59,10 @@ pub enum Held {
     Reference(u32),
     /// A procedure or function as a parameter.
     Routine,
+    /// The array of a conformant parameter, by the number of its type, of which a call has the bounds.
+    Conformant { call: u32, of: u32 },
+    /// The address of such an array: of the actual, or of the copy of a parameter by value.
+    ConformantReference { call: u32, of: u32 },
 }
 
 /// A cell of what is held, by its place there.
@@ -102,6 +113,21 @@ pub struct Local {
     pub spot: Spot,
 }
 
+/// The frame of a call of a routine, by the address where it begins.
+#[derive(Clone, Copy)]
+pub struct Frame {
+    pub call: u32,
+    pub routine: u32,
+    pub top: u32,
+}
+
+/// The copy of a conformant parameter by value: where it begins in the frame of its call, and how many cells it has.
+#[derive(Clone, Copy)]
+pub struct CopyCells {
+    pub place: u32,
+    pub cells: u32,
+}
+
 /// The least of some values.
 pub(crate) fn least_in(bounds: Option<Bounds>) -> i32
     ensures { result ≡ least_in bounds }
@@ -113,26 +139,19 @@ pub(crate) fn least_in(bounds: Option<Bounds>) -> i32
 }
 
 /// The component of an array that has a place of it.
-fn component_step(
-    program: &Program,
-    index: u32,
-    component: u32,
-    place: u32,
-    size: u32,
-) -> Option<Step>
-    ensures { result ≡ component_step program.now index component place size }
+fn array_step(index: u32, least: i32, component: Held, place: u32, size: u32) -> Option<Step>
+    ensures { result ≡ array_step index least component place size }
 {
     if size == 0 {
         return None;
     }
-    let least = least_in(bounds_of(program, index));
     Some(Step {
         selector: Selector::Index {
             of: index,
             value: i64::from(least) + i64::from(place / size),
         },
         spot: Spot {
-            held: Held::Variable(component),
+            held: component,
             place: place % size,
         },
     })
@@ -193,16 +212,56 @@ fn typed_step(scene: &Scene, of: u32, place: u32) -> Option<Step>
                 component,
                 ..
             },
-        ) => component_step(
-            scene.program,
+        ) => array_step(
             index,
-            component,
+            least_in(bounds_of(scene.program, index)),
+            Held::Variable(component),
             place,
             scene.program.size_of(component),
         ),
         Some(TypeRow::Record { .. }) => {
             record_step(scene.program, place, scene.names.component(of, place))
         }
+        _ => None,
+    }
+}
+
+/// The same by the bounds that are held, if there are such.
+fn extent_step(
+    index: u32,
+    extent: Option<Extent>,
+    component: Held,
+    place: u32,
+    size: u32,
+) -> Option<Step>
+    ensures { result ≡ extent_step index extent component place size }
+{
+    match extent {
+        None => None,
+        Some(extent) => array_step(index, extent.least, component, place, size),
+    }
+}
+
+/// One step down to the cell at a place of the array of a conformant parameter.
+fn conformant_step(scene: &Scene, call: u32, of: u32, place: u32) -> Option<Step>
+    ensures { result
+        ≡ conformant_step (scene_in scene.now) call place (type_at scene.now.program of) }
+{
+    match scene.program.type_row(of) {
+        Some(
+            TypeRow::Conformant {
+                index,
+                component,
+                place: at,
+                ..
+            },
+        ) => extent_step(
+            index,
+            extent_of(scene.program, scene.calls, call, index, at),
+            held_in(scene.program, call, component),
+            place,
+            cells_held(scene.program, scene.calls, call, component),
+        ),
         _ => None,
     }
 }
@@ -214,6 +273,7 @@ pub(crate) fn step_down(scene: &Scene, at: Spot) -> Option<Step>
 {
     match at.held {
         Held::Variable(of) => typed_step(scene, of, at.place),
+        Held::Conformant { call, of } => conformant_step(scene, call, of, at.place),
         _ => None,
     }
 }
@@ -236,40 +296,30 @@ fn write_selector<P: Printer>(out: &mut P, program: &Program, selector: Selector
     }
 }
 
-/// Whether this is a variable of a type.
-fn is_of_type(of: u32, held: Held) -> bool
-    ensures { result ≡ is_of_type of held }
-{
-    match held {
-        Held::Variable(found) => found == of,
-        _ => false,
-    }
-}
-
-/// Whether the way down ends here, since this is a variable of the type that is wanted.
-fn is_wanted(wanted: Option<u32>, at: Spot) -> bool
-    ensures { result ≡ is_wanted wanted at }
+/// Whether the way down ends here, since this is the variable that is wanted.
+fn is_wanted(scene: &Scene, wanted: Option<Held>, at: Spot) -> bool
+    ensures { result ≡ is_wanted (scene_in scene.now) wanted at }
 {
     match wanted {
         None => false,
-        Some(of) => is_of_type(of, at.held),
+        Some(wanted) => is_sought(scene.program, scene.calls, wanted, at.held),
     }
 }
 
 /// The next step down, unless the way ends here.
-fn next_step(scene: &Scene, wanted: Option<u32>, at: Spot) -> Option<Step>
+fn next_step(scene: &Scene, wanted: Option<Held>, at: Spot) -> Option<Step>
     ensures { result ≡ next_step (scene_in scene.now) wanted at }
 {
-    if is_wanted(wanted, at) {
+    if is_wanted(scene, wanted, at) {
         None
     } else {
         step_down(scene, at)
     }
 }
 
-/// Prints the selectors on the way down to a cell, or to the first variable of a wanted type; where the way ends is
+/// Prints the selectors on the way down to a cell, or to the first variable on it that is wanted; where the way ends is
 /// given.
-pub fn write_way<P: Printer>(out: &mut P, scene: &Scene, wanted: Option<u32>, from: Spot) -> Spot
+pub fn write_way<P: Printer>(out: &mut P, scene: &Scene, wanted: Option<Held>, from: Spot) -> Spot
     ensures writes { Prints (P.printout out.old) (P.printout out.new) (way_down (scene_in scene.now) wanted from).text }
     ensures ends { result ≡ (way_down (scene_in scene.now) wanted from).end }
 {
@@ -312,19 +362,21 @@ fn result_local(routine: Routine, of: Option<u32>) -> Option<Local>
     }
 }
 
-/// What a token names in a frame, by its row.
-fn named_local(token: u32, place: u32, row: Row) -> Option<Local>
-    ensures { result ≡ named_local token place row }
+/// What a token names in the frame of a call, by its row. The cell of a conformant parameter by value has the address
+/// of its copy.
+fn named_local(program: &Program, call: u32, token: u32, place: u32, row: Row) -> Option<Local>
+    ensures { result ≡ named_local program.now call token place row }
 {
     let held = match row {
         Row::Name(
             NameRow::Variable {
-                mode: Mode::Place,
+                mode: Mode::Place | Mode::Copy,
                 of,
                 ..
             },
-        ) => Held::Reference(of),
+        ) => reference_in(program, call, of),
         Row::Name(NameRow::Variable { of, .. }) => Held::Variable(of),
+        Row::Name(NameRow::Bound { of, .. }) => Held::Variable(of),
         Row::Name(NameRow::RoutineFormal { .. }) => Held::Routine,
         _ => return None,
     };
@@ -334,16 +386,114 @@ fn named_local(token: u32, place: u32, row: Row) -> Option<Local>
     })
 }
 
-/// What was found for a place of a frame.
-fn part_local(program: &Program, place: u32, part: Option<PlacedPart>) -> Option<Local>
-    ensures { result ≡ part_local program.now place part }
+/// What was found for a place of the frame of a call.
+fn part_local(program: &Program, call: u32, place: u32, part: Option<PlacedPart>) -> Option<Local>
+    ensures { result ≡ part_local program.now call place part }
 {
     match part {
         None => None,
         Some(part) => named_local(
+            program,
+            call,
             part.number,
             place.saturating_sub(part.place),
             program.row(part.number),
+        ),
+    }
+}
+
+/// The address of its copy, if this is a conformant parameter by value and its cell holds this.
+fn copy_address(row: Row, value: Option<Value>) -> Option<u32>
+    ensures { result ≡ copy_address row value }
+{
+    match (row, value) {
+        (
+            Row::Name(
+                NameRow::Variable {
+                    mode: Mode::Copy,
+                    ..
+                },
+            ),
+            Some(Value::Place(address)),
+        ) => Some(address),
+        _ => None,
+    }
+}
+
+/// The copy of what was found in a frame, by its place there, if that has one.
+pub(crate) fn copy_of(scene: &Scene, frame: Frame, part: PlacedPart) -> Option<PlacedPart>
+    ensures { result ≡ copy_of (scene_in scene.now) frame part }
+{
+    let value = argument(scene.calls, frame.call, part.place);
+    let address = copy_address(scene.program.row(part.number), value)?;
+    Some(PlacedPart {
+        place: address.saturating_sub(frame.top),
+        number: part.number,
+    })
+}
+
+/// The copy of what was found in a frame, if that has one and it begins at a place or before it.
+fn begun_copy(scene: &Scene, frame: Frame, part: PlacedPart, place: u32) -> Option<PlacedPart>
+    ensures { result ≡ begun_or place None (copy_of (scene_in scene.now) frame part) }
+{
+    match copy_of(scene, frame, part) {
+        None => None,
+        Some(copy) => {
+            if copy.place <= place {
+                Some(copy)
+            } else {
+                None
+            }
+        }
+    }
+}
+
+/// The last of the parameters from a place of a frame back whose copy begins at another place or before it, of which
+/// at most this many are gone through.
+fn copy_before(scene: &Scene, frame: Frame, place: u32, most: u32, from: u32) -> Option<PlacedPart>
+    ensures { result ≡ copy_before (scene_in scene.now) frame place most from }
+{
+    let mut from = from;
+    'parameters: for _ in 0..most {
+        match scene.names.local(frame.routine, from) {
+            None => return None,
+            Some(part) => match begun_copy(scene, frame, part, place) {
+                Some(copy) => return Some(copy),
+                None => from = part.place.saturating_sub(1),
+            },
+        }
+    }
+    None
+}
+
+/// The array of which a copy is, by the row of the parameter.
+fn array_local(call: u32, token: u32, place: u32, row: Row) -> Option<Local>
+    ensures { result ≡ array_local call token place row }
+{
+    match row {
+        Row::Name(NameRow::Variable { of, .. }) => Some(Local {
+            token,
+            spot: Spot {
+                held: Held::Conformant { call, of },
+                place,
+            },
+        }),
+        _ => None,
+    }
+}
+
+/// The copy that has a place of a frame.
+fn copy_local(scene: &Scene, frame: Frame, place: u32, routine: Routine) -> Option<Local>
+    ensures { result ≡ copy_local (scene_in scene.now) frame place routine }
+{
+    let most = routine.parameters;
+    match copy_before(scene, frame, place, most, most.saturating_sub(1)) {
+        None => None,
+        Some(copy) => array_local(
+            frame.call,
+            copy.number,
+            place.saturating_sub(copy.place),
+            scene.program.row(copy.number),
         ),
     }
 }
@@ -358,29 +508,75 @@ pub(crate) fn is_result(result_place: Option<u32>, place: u32) -> bool
     }
 }
 
-/// What has a place of the frame of a routine.
-fn local_in(scene: &Scene, number: u32, place: u32, routine: Routine) -> Option<Local>
-    ensures { result ≡ local_in (scene_in scene.now) number place (Some routine) }
+/// What has a place of the frame of a call of a routine.
+fn local_in(scene: &Scene, frame: Frame, place: u32, routine: Routine) -> Option<Local>
+    ensures { result ≡ local_in (scene_in scene.now) frame place (Some routine) }
 {
     if place == 0 {
         None
+    } else if place >= routine.cells {
+        copy_local(scene, frame, place, routine)
     } else if is_result(routine.result, place) {
         result_local(routine, result_of(scene.program.row(routine.heading)))
     } else {
-        part_local(scene.program, place, scene.names.local(number, place))
+        let part = scene.names.local(frame.routine, place);
+        part_local(scene.program, frame.call, place, part)
     }
 }
 
-/// What has a place of the frame of the routine of a number: a parameter or a variable, or the result of a function.
-/// The first cell of a frame, its link, has no name.
+/// What has a place of the frame of a call: a parameter or a variable, or the result of a function, and behind them the
+/// copies of conformant parameters by value. The first cell of a frame, its link, has no name.
 #[tactic(auto, unfolding(crate::specs::Names::local_at))]
-pub fn local_at(scene: &Scene, number: u32, place: u32) -> Option<Local>
-    ensures { result ≡ local_at (scene_in scene.now) number place }
+pub fn local_at(scene: &Scene, frame: Frame, place: u32) -> Option<Local>
+    ensures { result ≡ local_at (scene_in scene.now) frame place }
 {
-    match scene.program.routine(number) {
+    match scene.program.routine(frame.routine) {
         None => None,
-        Some(routine) => local_in(scene, number, place, routine),
+        Some(routine) => local_in(scene, frame, place, routine),
     }
+}
+
+/// The cells of a copy, by the row of its parameter.
+fn cells_of_copy(
+    scene: &Scene,
+    frame: Frame,
+    copy: Option<PlacedPart>,
+    row: Row,
+) -> Option<CopyCells>
+    ensures { result ≡ cells_of_copy (scene_in scene.now) frame copy row }
+{
+    match (copy, row) {
+        (Some(copy), Row::Name(NameRow::Variable { of, .. })) => Some(CopyCells {
+            place: copy.place,
+            cells: cells_held(scene.program, scene.calls, frame.call, of),
+        }),
+        _ => None,
+    }
+}
+
+/// The copy of the parameter at a place of the frame of a call, if that is a conformant one by value.
+#[tactic(auto, unfolding(crate::specs::Names::copy_cells))]
+pub fn copy_cells(scene: &Scene, frame: Frame, place: u32) -> Option<CopyCells>
+    ensures { result ≡ copy_cells (scene_in scene.now) frame place }
+{
+    match scene.names.local(frame.routine, place) {
+        None => None,
+        Some(part) => {
+            if part.place == place {
+                let row = scene.program.row(part.number);
+                cells_of_copy(scene, frame, copy_of(scene, frame, part), row)
+            } else {
+                None
+            }
+        }
+    }
+}
+
+/// The cells of the array of a conformant parameter of a call.
+pub fn array_cells(scene: &Scene, call: u32, of: u32) -> u32
+    ensures { result ≡ cells_in_call (scene_in scene.now).program (scene_in scene.now).args call of }
+{
+    cells_held(scene.program, scene.calls, call, of)
 }
 
 /// What was found in the frame of a call of a routine.
@@ -401,12 +597,15 @@ fn local_root(call: u32, routine: u32, local: Option<Local>) -> Option<Root>
 }
 
 /// What has a place of the frame of a call.
-fn root_in(scene: &Scene, call: u32, place: u32) -> Option<Root>
-    ensures { result ≡ root_in (scene_in scene.now) call place (slice_get scene.now.routines call) }
+fn root_in(scene: &Scene, call: u32, top: u32, place: u32) -> Option<Root>
+    ensures { result ≡ root_in (scene_in scene.now) call top place (slice_get scene.now.routines call) }
 {
     match scene.routines.get(call as usize).copied() {
         None => None,
-        Some(routine) => local_root(call, routine, local_at(scene, routine, place)),
+        Some(routine) => {
+            let frame = Frame { call, routine, top };
+            local_root(call, routine, local_at(scene, frame, place))
+        }
     }
 }
 
@@ -416,7 +615,12 @@ fn stack_root(scene: &Scene, address: u32, part: Option<PlacedPart>) -> Option<R
 {
     match part {
         None => None,
-        Some(part) => root_in(scene, part.number, address.saturating_sub(part.place)),
+        Some(part) => root_in(
+            scene,
+            part.number,
+            part.place,
+            address.saturating_sub(part.place),
+        ),
     }
 }
 
@@ -510,7 +714,7 @@ fn write_origin<P: Printer>(out: &mut P, program: &Program, origin: Origin)
 }
 
 /// Prints the name of a cell, and gives what the cell is.
-pub fn write_root<P: Printer>(out: &mut P, scene: &Scene, wanted: Option<u32>, root: Root) -> Held
+pub fn write_root<P: Printer>(out: &mut P, scene: &Scene, wanted: Option<Held>, root: Root) -> Held
     ensures writes { Prints (P.printout out.old) (P.printout out.new) (cell_text (scene_in scene.now) wanted root) }
     ensures is { result ≡ cell_held (scene_in scene.now) wanted root }
 {

@@ -1,23 +1,27 @@
 //! A walk over the addresses of a run in search of the cells that a name names: what has another name is passed over at
 //! once, be it a frame, a variable, a component of an array or a field of a record.
 
-ghost use Rattle.std.specs.Prelude.{◌+ℤ◌, ◌+◌, ◌<◌, ◌≡◌, ◌≤◌, ℕ, Bool, IfSome, List, Some, false, is_some, length};
+ghost use Rattle.std.specs.Prelude.{◌+ℤ◌, ◌+◌, ◌-◌, ◌<◌, ◌≡◌, ◌≤◌, ℕ, Bool, IfSome, List, Some, false, is_some, length};
 ghost use Rattle.std.specs.{Prelude.option_copied, Prelude.pos, Prelude.slice_get, Prelude.true, Option.MatchOption};
+ghost use Rattle.core_program.specs.ProgramRows.{type_at};
 ghost use Rattle.cell_names.specs.{Finding.finding_in, Names.stack_root, Names.step_down, Places.is_begun_by};
-ghost use Rattle.cell_names.specs.{Walks.moved_step, Walks.record_of, declared.names.Spot.Spot as SpotValue};
 ghost use Rattle.cell_names.specs.NamedBy.{after_part, leads_by, leads_within};
-ghost use Rattle.cell_names.specs.Names.{heap_root, least_in, local_at, local_in, most_types, root_in, scene_in};
-ghost use Rattle.cell_names.specs.Walks.{NoneAfter, NoneFrom, Walks, WalksOver, before_result, components_of};
-ghost use Rattle.cell_names.specs.Walks.{ends_or_dots, index_text, is_indexed, is_local_at, is_named_root, is_of_block};
-ghost use Rattle.cell_names.specs.Walks.{is_of_call, is_of_frame, is_of_heap, is_of_local, is_selected, is_selected_at};
-ghost use Rattle.cell_names.specs.Walks.{left_of_component, limited, may_select, moved, moved_local, moved_root};
+ghost use Rattle.cell_names.specs.Names.{copy_before, heap_root, local_at, local_in, most_types, root_in, scene_in};
+ghost use Rattle.cell_names.specs.Walks.{NoneAfter, NoneFrom, Walks, WalksOver, before_copy, before_end, before_result};
+ghost use Rattle.cell_names.specs.Walks.{components_in, components_of, conformant_components, ends_or_dots, index_text};
+ghost use Rattle.cell_names.specs.Walks.{is_indexed, is_local_at, is_named_root, is_of_block, is_of_call, is_of_frame};
+ghost use Rattle.cell_names.specs.Walks.{is_of_heap, is_of_local, is_selected, is_selected_at, left_of_component};
+ghost use Rattle.cell_names.specs.Walks.{limited, may_select, moved, moved_local, moved_root, moved_step, record_of};
+ghost use Rattle.cell_names.specs.declared.names.Spot.{Spot as SpotValue};
 
+use crate::conformant::{cells_held, extent_of, held_in};
 use crate::name_parts::{
     then_block, then_call, then_index, then_origin, then_part, then_selector, then_sign, then_whose,
 };
 use crate::named_by::{is_of_all, step_named};
 use crate::names::{
-    Held, Origin, Root, Scene, Spot, heap_root, is_result, least_in, local_at, record_step,
+    Frame, Held, Origin, Root, Scene, Spot, copy_of, heap_root, is_result, least_in, local_at,
+    record_step,
 };
 use crate::places::{PlacedPart, places_up_to};
 use crate::values::{Bounds, bounds_of};
@@ -70,6 +74,13 @@ fn alike_below(scene: &Scene, at: Spot) -> u32
             Some(TypeRow::Record { .. }) => scene.names.component_near(of, at.place).more,
             _ => 0,
         },
+        Held::Conformant { call, of } => match scene.program.type_row(of) {
+            Some(TypeRow::Conformant { component, .. }) => left_of_component(
+                at.place,
+                cells_held(scene.program, scene.calls, call, component),
+            ),
+            _ => 0,
+        },
         _ => 0,
     }
 }
@@ -80,42 +91,84 @@ pub(crate) struct Components {
     /// The type of the index, and its values.
     pub(crate) index: u32,
     pub(crate) bounds: Option<Bounds>,
-    /// The type of a component, and its cells.
-    pub(crate) component: u32,
+    /// The least index.
+    pub(crate) least: i32,
+    /// What a component is, and its cells.
+    pub(crate) component: Held,
     pub(crate) size: u32,
+}
+
+/// The components of an array of a type.
+#[inline]
+fn components_in(program: &Program, of: u32) -> Option<Components>
+    ensures { result ≡ components_in program.now (type_at program.now of) }
+{
+    match program.type_row(of) {
+        Some(
+            TypeRow::Array {
+                index,
+                component,
+                ..
+            },
+        ) => {
+            let bounds = bounds_of(program, index);
+            Some(Components {
+                index,
+                bounds,
+                least: least_in(bounds),
+                component: Held::Variable(component),
+                size: program.size_of(component),
+            })
+        }
+        _ => None,
+    }
+}
+
+/// The components of the array of a conformant parameter, where its bounds are known.
+fn conformant_components(scene: &Scene, call: u32, of: u32) -> Option<Components>
+    ensures { result
+        ≡ conformant_components (scene_in scene.now) call (type_at scene.now.program of) }
+{
+    match scene.program.type_row(of) {
+        Some(
+            TypeRow::Conformant {
+                index,
+                component,
+                place,
+                ..
+            },
+        ) => {
+            let extent = extent_of(scene.program, scene.calls, call, index, place)?;
+            Some(Components {
+                index,
+                bounds: bounds_of(scene.program, index),
+                least: extent.least,
+                component: held_in(scene.program, call, component),
+                size: cells_held(scene.program, scene.calls, call, component),
+            })
+        }
+        _ => None,
+    }
 }
 
 /// The components of the array that a cell is of, if it is of one.
 #[inline]
-fn components_of(program: &Program, held: Held) -> Option<Components>
-    ensures { result ≡ components_of program.now held }
+fn components_of(scene: &Scene, held: Held) -> Option<Components>
+    ensures { result ≡ components_of (scene_in scene.now) held }
 {
     match held {
-        Held::Variable(of) => match program.type_row(of) {
-            Some(
-                TypeRow::Array {
-                    index,
-                    component,
-                    ..
-                },
-            ) => Some(Components {
-                index,
-                bounds: bounds_of(program, index),
-                component,
-                size: program.size_of(component),
-            }),
-            _ => None,
-        },
+        Held::Variable(of) => components_in(scene.program, of),
+        Held::Conformant { call, of } => conformant_components(scene, call, of),
         _ => None,
     }
 }
 
 /// The ordinal of the index of the component of an array before which there are this many.
 #[inline]
-fn ordinal_of(bounds: Option<Bounds>, which: u32) -> i64
-    ensures { result ≡ least_in bounds +ℤ pos which }
+fn ordinal_of(least: i32, which: u32) -> i64
+    ensures { result ≡ least +ℤ pos which }
 {
-    i64::from(least_in(bounds)) + i64::from(which)
+    i64::from(least) + i64::from(which)
 }
 
 /// Whether a name goes on with the index of the component of an array before which there are this many.
@@ -123,7 +176,7 @@ fn ordinal_of(bounds: Option<Bounds>, which: u32) -> i64
 fn goes_on_by(program: &Program, array: Components, which: u32, name: &[u8]) -> bool
     ensures { result ≡ is_some (after_part (index_text program.now array which) name.now) }
 {
-    let value = ordinal_of(array.bounds, which);
+    let value = ordinal_of(array.least, which);
     then_index(Some(name), program, array.bounds, value).is_some()
 }
 
@@ -282,7 +335,7 @@ fn passed_over(scene: &Scene, at: Spot, name: &[u8], limit: u32) -> u32
         → leads_by scene.now.program go name.now (step_down (scene_in scene.now) (moved k at)) ≡ false }
 {
     let first = alike_below(scene, at);
-    match components_of(scene.program, at.held) {
+    match components_of(scene, at.held) {
         Some(array) => passed_components(scene.program, array, at.place, name, first, limit),
         None => match record_of(scene.program, at.held) {
             Some(of) => passed_fields(scene, of, at.place, name),
@@ -350,34 +403,86 @@ fn before_result(result_place: Option<u32>, place: u32, more: u32) -> u32
     }
 }
 
-/// How many places of the frame of a routine after one have the same variable as it has, or none as it.
+/// How many places before the end of a frame without its copies there are after one, of this many.
 #[inline]
-fn alike_in(scene: &Scene, number: u32, place: u32, routine: Routine) -> u32
-    ensures { (k : ℕ) → k ≤ result → local_in (scene_in scene.now) number (place + k) (Some routine)
-        ≡ moved_local k (local_in (scene_in scene.now) number place (Some routine)) }
+fn before_end(cells: u32, place: u32, more: u32) -> u32
+    ensures { result ≡ before_end cells place more }
+{
+    more.min(cells.saturating_sub(place).saturating_sub(1))
+}
+
+/// How many places after one, of this many, are before a copy, if that begins after it.
+#[inline]
+fn before_copy(place: u32, copy: Option<PlacedPart>, more: u32) -> Option<u32>
+    ensures { result ≡ before_copy place copy more }
+{
+    match copy {
+        None => Some(more),
+        Some(copy) => {
+            if copy.place <= place {
+                None
+            } else {
+                Some(more.min(copy.place - place - 1))
+            }
+        }
+    }
+}
+
+/// How many places of a frame after one have the same copy as it has, or none as it, of the parameters from a place of
+/// the frame back, of which at most this many are gone through.
+fn alike_copies(scene: &Scene, frame: Frame, place: u32, most: u32, from: u32) -> u32
+    ensures { (k : ℕ) → k ≤ result → copy_before (scene_in scene.now) frame (place + k) most from
+        ≡ copy_before (scene_in scene.now) frame place most from }
+{
+    let mut from = from;
+    let mut more = u32::MAX;
+    'parameters: for _ in 0..most {
+        match scene.names.local(frame.routine, from) {
+            None => return more,
+            Some(part) => match before_copy(place, copy_of(scene, frame, part), more) {
+                None => return more,
+                Some(fewer) => {
+                    more = fewer;
+                    from = part.place.saturating_sub(1);
+                }
+            },
+        }
+    }
+    more
+}
+
+/// How many places of the frame of a call after one have the same variable as it has, or none as it.
+#[inline]
+fn alike_in(scene: &Scene, frame: Frame, place: u32, routine: Routine) -> u32
+    ensures { (k : ℕ) → k ≤ result → local_in (scene_in scene.now) frame (place + k) (Some routine)
+        ≡ moved_local k (local_in (scene_in scene.now) frame place (Some routine)) }
 {
     if place == 0 {
         0
+    } else if place >= routine.cells {
+        let most = routine.parameters;
+        alike_copies(scene, frame, place, most, most.saturating_sub(1))
     } else if is_result(routine.result, place) {
         0
     } else {
-        before_result(
-            routine.result,
+        let more = scene.names.local_near(frame.routine, place).more;
+        before_end(
+            routine.cells,
             place,
-            scene.names.local_near(number, place).more,
+            before_result(routine.result, place, more),
         )
     }
 }
 
 /// The same of the routine of a number.
 #[tactic(auto, unfolding(crate::specs::Names::local_at))]
-fn alike_locals(scene: &Scene, number: u32, place: u32) -> u32
-    ensures { (k : ℕ) → k ≤ result → local_at (scene_in scene.now) number (place + k)
-        ≡ moved_local k (local_at (scene_in scene.now) number place) }
+fn alike_locals(scene: &Scene, frame: Frame, place: u32) -> u32
+    ensures { (k : ℕ) → k ≤ result → local_at (scene_in scene.now) frame (place + k)
+        ≡ moved_local k (local_at (scene_in scene.now) frame place) }
 {
-    match scene.program.routine(number) {
+    match scene.program.routine(frame.routine) {
         None => 0,
-        Some(routine) => alike_in(scene, number, place, routine),
+        Some(routine) => alike_in(scene, frame, place, routine),
     }
 }
 
@@ -419,57 +524,57 @@ fn passed_locals(
     first: u32,
 ) -> u32
     ensures { NoneAfter
-        (λ k. is_local_at (scene_in scene.now) number routine.result (place + k) left.now) first result }
+        (λ k. is_local_at (scene_in scene.now) number routine (place + k) left.now) first result }
 {
     let found = scene.names.local_near(number, place);
-    if first < found.more || is_result(routine.result, place) {
+    if first < found.more {
+        return first;
+    }
+    if place >= routine.cells || is_result(routine.result, place) {
         return first;
     }
     let locals = scene.names.locals(number);
     let last = first_local(scene.program, locals, left, found.begun);
     let passed = places_up_to(locals, place, found, last);
-    before_result(routine.result, place, passed)
+    before_end(
+        routine.cells,
+        place,
+        before_result(routine.result, place, passed),
+    )
 }
 
 /// How many places of the frame of a call after one have variables that a name is not of, where that is known of this
 /// many.
 #[inline]
-fn passed_variables(
-    scene: &Scene,
-    call: u32,
-    routine: u32,
-    place: u32,
-    name: &[u8],
-    first: u32,
-) -> u32
+fn passed_variables(scene: &Scene, frame: Frame, place: u32, name: &[u8], first: u32) -> u32
     requires { (k : ℕ) → k ≤ first → is_named_root (scene_in scene.now) name.now
-        (root_in (scene_in scene.now) call (place + k) (Some routine)) ≡ false }
+        (root_in (scene_in scene.now) frame.call frame.top (place + k) (Some frame.routine)) ≡ false }
     ensures { (k : ℕ) → k ≤ result → is_named_root (scene_in scene.now) name.now
-        (root_in (scene_in scene.now) call (place + k) (Some routine)) ≡ false }
+        (root_in (scene_in scene.now) frame.call frame.top (place + k) (Some frame.routine)) ≡ false }
 {
-    match scene.program.routine(routine) {
+    match scene.program.routine(frame.routine) {
         None => first,
-        Some(row) => match then_whose(Some(name), scene.program, call, routine) {
+        Some(row) => match then_whose(Some(name), scene.program, frame.call, frame.routine) {
             None => first,
-            Some(left) => passed_locals(scene, routine, row, place, left, first),
+            Some(left) => passed_locals(scene, frame.routine, row, place, left, first),
         },
     }
 }
 
-/// A walk over the variable of a call of a routine that has a place of its frame, from there on.
+/// A walk over the variable of a call that has a place of its frame, from there on.
 #[inline]
-fn walk_local(scene: &Scene, call: u32, routine: u32, place: u32, name: &[u8], limit: u32) -> Walked
+fn walk_local(scene: &Scene, frame: Frame, place: u32, name: &[u8], limit: u32) -> Walked
     ensures { WalksOver (scene_in scene.now) name.now
-        (λ k. root_in (scene_in scene.now) call (place + k) (Some routine)) result }
+        (λ k. root_in (scene_in scene.now) frame.call frame.top (place + k) (Some frame.routine)) result }
 {
-    let alike = alike_locals(scene, routine, place).min(limit);
-    match local_at(scene, routine, place) {
+    let alike = alike_locals(scene, frame, place).min(limit);
+    match local_at(scene, frame, place) {
         None => Walked::Unnamed(alike),
         Some(local) => {
             let root = Root {
                 origin: Origin::Local {
-                    call,
-                    routine,
+                    call: frame.call,
+                    routine: frame.routine,
                     token: local.token,
                 },
                 spot: local.spot,
@@ -479,23 +584,16 @@ fn walk_local(scene: &Scene, call: u32, routine: u32, place: u32, name: &[u8], l
     }
 }
 
-/// A walk over the variables of a call of a routine, from a place of its frame on.
+/// A walk over the variables of a call, from a place of its frame on.
 #[inline]
-fn walk_locals(
-    scene: &Scene,
-    call: u32,
-    routine: u32,
-    place: u32,
-    name: &[u8],
-    limit: u32,
-) -> Walked
+fn walk_locals(scene: &Scene, frame: Frame, place: u32, name: &[u8], limit: u32) -> Walked
     ensures { WalksOver (scene_in scene.now) name.now
-        (λ k. root_in (scene_in scene.now) call (place + k) (Some routine)) result }
+        (λ k. root_in (scene_in scene.now) frame.call frame.top (place + k) (Some frame.routine)) result }
 {
-    match walk_local(scene, call, routine, place, name, limit) {
+    match walk_local(scene, frame, place, name, limit) {
         Walked::Named(root) => Walked::Named(root),
         Walked::Unnamed(more) => {
-            Walked::Unnamed(passed_variables(scene, call, routine, place, name, more))
+            Walked::Unnamed(passed_variables(scene, frame, place, name, more))
         }
     }
 }
@@ -546,18 +644,25 @@ fn is_of_frame(scene: &Scene, part: Option<PlacedPart>, name: &[u8]) -> bool
 #[inline]
 fn walk_call(
     scene: &Scene,
-    call: u32,
     routine: Option<u32>,
+    part: PlacedPart,
     place: u32,
     name: &[u8],
     limit: u32,
 ) -> Walked
     ensures { WalksOver (scene_in scene.now) name.now
-        (λ k. root_in (scene_in scene.now) call (place + k) routine) result }
+        (λ k. root_in (scene_in scene.now) part.number part.place (place + k) routine) result }
 {
     match routine {
         None => Walked::Unnamed(limit),
-        Some(routine) => walk_locals(scene, call, routine, place, name, limit),
+        Some(routine) => {
+            let frame = Frame {
+                call: part.number,
+                routine,
+                top: part.place,
+            };
+            walk_locals(scene, frame, place, name, limit)
+        }
     }
 }
 
@@ -576,14 +681,11 @@ fn walk_part(
 {
     match part {
         None => Walked::Unnamed(limit),
-        Some(part) => walk_call(
-            scene,
-            part.number,
-            routine_of(scene, part.number),
-            address.saturating_sub(part.place),
-            name,
-            limit,
-        ),
+        Some(part) => {
+            let routine = routine_of(scene, part.number);
+            let place = address.saturating_sub(part.place);
+            walk_call(scene, routine, part, place, name, limit)
+        }
     }
 }
 

@@ -14,3 +14,4 @@ pub mod Seen
 pub mod Answered
 pub mod Falls
 pub mod Recalls
+pub mod TypeChains

@@ -1,11 +1,12 @@
 -- Which headings are congruous hangs on what is seen of a program alone.
-use Rattle.std.proofs.Common.{◌&&◌, ◌∙◌, ◌∷◌, ◌≡◌, [], ℕ, Bool, List, None, Option, Some, ap, map, option_map, refl, slice_get, slice_set, suc, sym, unwrap_or}
-use Rattle.std.proofs.{Common.zero, lemmas.Option.slice_get-map}
+use Rattle.std.proofs.Common.{◌&&◌, ◌||◌, ◌∙◌, ◌∷◌, ◌≡◌, [], ℕ, Bool, List, None, Option, Some, ap, length, map, nat_eq, option_map, refl, slice_get, slice_set}
+use Rattle.std.proofs.{Common.suc, Common.sym, Common.unwrap_or, Common.zero, lemmas.List.length-map, lemmas.Option.slice_get-map}
+use Rattle.core_program.specs.Headings.{pair_fits, pair_if, same_packing}
 use Rattle.core_program.specs.ProgramRows.{ProgramRows, row_at, type_at, type_in, with_row}
-use Rattle.core_program.specs.declared.rows.{ItemRow.ItemRow, NameRow.NameRow, PartRow.PartRow, Row.Row}
-use Rattle.check_steps.specs.{Compared.seen, Compared.seen_of, Headings.signature_in, Headings.signatures_match, Headings.variable_type}
-use Rattle.check_steps.specs.Headings.{both_match, congruous, is_same_type, lists_match, results_match, section_at, section_in, sections_match, signature_at}
-use Rattle.check_steps.specs.declared.headings.{FormalSection.FormalSection, Signature.Signature}
+use Rattle.core_program.specs.declared.rows.{ItemRow.ItemRow, NameRow.NameRow, PartRow.PartRow, Row.Row, TypeRow.TypeRow}
+use Rattle.check_steps.specs.{Compared.seen, Compared.seen_of, declared.headings.FormalSection.FormalSection, declared.headings.Signature.Signature}
+use Rattle.check_steps.specs.Headings.{both_match, components_alike, congruous, is_same_type, lists_match, results_match, same_mode, section_at, section_in}
+use Rattle.check_steps.specs.Headings.{sections_match, signature_at, signature_in, signatures_match, types_match, variable_type}
 
 -- ---- what is seen of a row
 
@@ -94,6 +95,32 @@ module _ (p : ProgramRows) where
       let y : type_at (seen_of p) b ≡ type_at p b = ap type_in (row_seen b) ∙ type_seen (row_at p b) in
       rw (x, y) refl
 
+  typed_seen : (n : ℕ) → type_at (seen_of p) n ≡ type_at p n
+  typed_seen n = ap type_in (row_seen n) ∙ type_seen (row_at p n)
+
+  pairs_seen : (x y : ℕ → ℕ → Bool) → ((a b : ℕ) → x a b ≡ y a b) → (o : Option (ℕ × ℕ)) → pair_fits x o ≡ pair_fits y o
+  pairs_seen x y same None = refl
+  pairs_seen x y same (Some q) = same q.0 q.1
+
+  alike_seen : (s t : Option TypeRow) → components_alike (seen_of p) s t ≡ components_alike p s t
+  alike_seen (Some (TypeRow.Conformant packed index c place)) (Some (TypeRow.Conformant other i d at)) =
+      ap (λ b. pair_if (same_packing packed other && b) c d) (same_type_seen index i)
+  alike_seen (Some (TypeRow.Conformant packed index c place)) t = refl
+  alike_seen s t = refl
+
+  types_seen : (n a b : ℕ) → types_match n (seen_of p) a b ≡ types_match n p a b
+  types_seen zero a b = same_type_seen a b
+  types_seen (suc n) a b =
+      ap (λ u. u || pair_fits (types_match n (seen_of p)) (components_alike (seen_of p) (type_at (seen_of p) a) (type_at (seen_of p) b))) (same_type_seen a b)
+      ∙ ap (λ o. is_same_type p a b || pair_fits (types_match n (seen_of p)) (components_alike (seen_of p) o (type_at (seen_of p) b))) (typed_seen a)
+      ∙ ap (λ o. is_same_type p a b || pair_fits (types_match n (seen_of p)) (components_alike (seen_of p) (type_at p a) o)) (typed_seen b)
+      ∙ ap (λ o. is_same_type p a b || pair_fits (types_match n (seen_of p)) o) (alike_seen (type_at p a) (type_at p b))
+      ∙ ap (λ c. is_same_type p a b || c)
+      (pairs_seen (types_match n (seen_of p)) (types_match n p) (types_seen n) (components_alike p (type_at p a) (type_at p b)))
+
+  matched_seen : (a b : ℕ) → types_match (length (map seen p.rows)) (seen_of p) a b ≡ types_match (length p.rows) p a b
+  matched_seen a b = ap (λ n. types_match n (seen_of p) a b) (length-map p.rows seen) ∙ types_seen (length p.rows) a b
+
   heading_seen : (n : ℕ) → signature_at (seen_of p) n ≡ signature_at p n
   heading_seen n = ap signature_in (row_seen n) ∙ signature_seen (row_at p n)
 
@@ -138,7 +165,8 @@ module _ (p : ProgramRows) where
 
   matches_seen : (x y : ℕ → ℕ → Bool) → ((a b : ℕ) → x a b ≡ y a b) → (s t : FormalSection)
       → sections_match (seen_of p) x s t ≡ sections_match p y s t
-  matches_seen x y same (FormalSection.Names m a count) (FormalSection.Names n b other) = rw (same_type_seen a b) refl
+  matches_seen x y same (FormalSection.Names m a count) (FormalSection.Names n b other) =
+      ap (λ z. same_mode m n && nat_eq count other && z) (matched_seen a b)
   matches_seen x y same (FormalSection.Names m a count) (FormalSection.Heading h) = refl
   matches_seen x y same (FormalSection.Heading g) (FormalSection.Names n b other) = refl
   matches_seen x y same (FormalSection.Heading g) (FormalSection.Heading h) =

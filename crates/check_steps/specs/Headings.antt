@@ -1,7 +1,9 @@
 -- Headings by their rows, and congruous lists of formal parameters (6.6.3.6).
-use Rattle.std.specs.Prelude.{◌&&◌, ◌||◌, ℕ, Bool, None, Option, Some, false, is_none, nat_eq, suc, true, zero}
+use Rattle.std.specs.Prelude.{◌&&◌, ◌||◌, ℕ, Bool, None, Option, Some, false, is_none, length, nat_eq, suc, true, zero}
+use Rattle.core_program.specs.Headings.{pair_fits, pair_if, same_packing}
 use Rattle.core_program.specs.ProgramRows.{ProgramRows, row_at, type_at}
 use Rattle.core_program.specs.declared.rows.{ItemRow.ItemRow, Mode.Mode, NameRow.NameRow, PartRow.PartRow, Row.Row}
+use Rattle.core_program.specs.declared.rows.TypeRow.{TypeRow, TheVariants.Conformant}
 use Rattle.check_steps.specs.declared.headings.{FormalSection.FormalSection, Signature.Signature}
 
 -- ---- headings and their sections by rows
@@ -34,11 +36,26 @@ abbrev pub same_mode : Mode → Mode → Bool
 same_mode Mode.Own Mode.Own = true
 same_mode Mode.Value Mode.Value = true
 same_mode Mode.Place Mode.Place = true
+same_mode Mode.Copy Mode.Copy = true
 same_mode m n = false
 
 -- A type that is unknown is the same as any.
 abbrev pub is_same_type : ProgramRows → ℕ → ℕ → Bool
 is_same_type p a b = nat_eq a b || is_none (type_at p a) || is_none (type_at p b)
+
+-- The component types of two arrays of conformant parameters that are packed or not alike and have one type of their
+-- specs.
+abbrev pub components_alike : ProgramRows → Option TypeRow → Option TypeRow → Option (ℕ × ℕ)
+components_alike p (Some (Conformant packed index c place)) (Some (Conformant other i d at)) =
+    pair_if (same_packing packed other && is_same_type p index i) c d
+components_alike p s t = None
+
+-- One type, or schemas that are equivalent, in which at most this many specs are looked at (6.6.3.6). What the bounds
+-- are called and where they stand does not count.
+abbrev pub types_match : ℕ → ProgramRows → ℕ → ℕ → Bool
+types_match zero p a b = is_same_type p a b
+types_match (suc n) p a b =
+    is_same_type p a b || pair_fits (types_match n p) (components_alike p (type_at p a) (type_at p b))
 
 abbrev pub results_match : ProgramRows → Option ℕ → Option ℕ → Bool
 results_match p None None = true
@@ -49,10 +66,10 @@ results_match p a b = false
 abbrev pub signatures_match : ProgramRows → (ℕ → ℕ → Bool) → Signature → Signature → Bool
 signatures_match p lists g h = results_match p g.result h.result && lists g.sections h.sections
 
--- both by value or both `var`, with equally many names and the same type; or headings that match
+-- both by value or both `var`, with equally many names and the same type or equivalent schemas; or headings that match
 abbrev pub sections_match : ProgramRows → (ℕ → ℕ → Bool) → FormalSection → FormalSection → Bool
 sections_match p lists (FormalSection.Names m a count) (FormalSection.Names n b other) =
-    same_mode m n && nat_eq count other && is_same_type p a b
+    same_mode m n && nat_eq count other && types_match (length p.rows) p a b
 sections_match p lists (FormalSection.Heading g) (FormalSection.Heading h) =
     signatures_match p lists (signature_at p g) (signature_at p h)
 sections_match p lists s t = false

@@ -8,6 +8,8 @@ use Rattle.check_steps.specs.Steps.{◌>>=◌, Step, give, look, put}
 abbrev pub actual_on : ItemRow → ℕ → ItemRow
 actual_on (ItemRow.Value v of' end) next = ItemRow.Value v of' next
 actual_on (ItemRow.Place access end) next = ItemRow.Place access next
+actual_on (ItemRow.ArrayPlace first access of' end) next = ItemRow.ArrayPlace first access of' next
+actual_on (ItemRow.ArrayValue first v of' end) next = ItemRow.ArrayValue first v of' next
 actual_on (ItemRow.Routine routine levels end) next = ItemRow.Routine routine levels next
 actual_on (ItemRow.RoutineFormal formal levels end) next = ItemRow.RoutineFormal formal levels next
 actual_on (ItemRow.Written v of' end) next = ItemRow.Written v of' next

@@ -1,12 +1,12 @@
 //! Headings by their rows, and congruous lists of formal parameters (6.6.3.6).
 
-ghost use Rattle.std.specs.Prelude.{◌≡◌};
-ghost use Rattle.check_steps.specs.Headings.{congruous, is_same_type, lists_match, results_match, same_mode};
-ghost use Rattle.check_steps.specs.Headings.{section_at, section_in, sections_match, signature_at, signature_in};
-ghost use Rattle.check_steps.specs.Headings.{signatures_match, variable_type};
+ghost use Rattle.std.specs.Prelude.{◌≡◌, length};
+ghost use Rattle.check_steps.specs.Headings.{components_alike, congruous, is_same_type, lists_match, results_match};
+ghost use Rattle.check_steps.specs.Headings.{same_mode, section_at, section_in, sections_match, signature_at};
+ghost use Rattle.check_steps.specs.Headings.{signature_in, signatures_match, types_match, variable_type};
 
-use core_program::ProgramTables;
-use core_program::rows::{ItemRow, LIST_END, Mode, NameRow, PartRow, Row};
+use core_program::rows::{ItemRow, LIST_END, Mode, NameRow, PartRow, Row, TypeRow};
+use core_program::{ProgramTables, same_packing};
 
 /// The parameters and the result of a heading.
 #[derive(Clone, Copy)]
@@ -97,6 +97,7 @@ fn same_mode(left: Mode, right: Mode) -> bool
         (Mode::Own, Mode::Own) => true,
         (Mode::Value, Mode::Value) => true,
         (Mode::Place, Mode::Place) => true,
+        (Mode::Copy, Mode::Copy) => true,
         _ => false,
     }
 }
@@ -106,6 +107,67 @@ pub fn is_same_type(program: &ProgramTables, left: u32, right: u32) -> bool
     ensures { result ≡ is_same_type program.now left right }
 {
     left == right || program.type_row(left).is_none() || program.type_row(right).is_none()
+}
+
+/// The component types of two arrays of conformant parameters that fit each other.
+fn components_alike(
+    program: &ProgramTables,
+    left: Option<TypeRow>,
+    right: Option<TypeRow>,
+) -> Option<(u32, u32)>
+    ensures { result ≡ components_alike program.now left right }
+{
+    match (left, right) {
+        (
+            Some(
+                TypeRow::Conformant {
+                    packed,
+                    index,
+                    component,
+                    ..
+                },
+            ),
+            Some(
+                TypeRow::Conformant {
+                    packed: other_packed,
+                    index: other_index,
+                    component: other_component,
+                    ..
+                },
+            ),
+        ) => {
+            if same_packing(packed, other_packed) && is_same_type(program, index, other_index) {
+                Some((component, other_component))
+            } else {
+                None
+            }
+        }
+        _ => None,
+    }
+}
+
+/// Whether two types are one, or of equivalent schemas. A type that is unknown is the same as any.
+#[tactic(auto, using(crate::proofs::TypeChains::types_onward))]
+fn types_match(program: &ProgramTables, left: u32, right: u32) -> bool
+    ensures { result ≡ types_match (length program.now.rows) program.now left right }
+{
+    let mut at = left;
+    let mut other = right;
+    'specs: for _passed in 0..program.rows() {
+        if is_same_type(program, at, other) {
+            return true;
+        }
+        let Some((component, other_component)) = components_alike(
+            program,
+            program.type_row(at),
+            program.type_row(other),
+        ) else {
+            return false;
+        };
+        at = component;
+        other = other_component;
+    }
+    is_same_type(program, at, other)
 }
 
 fn results_match(program: &ProgramTables, left: Option<u32>, right: Option<u32>) -> bool
@@ -147,7 +209,7 @@ fn sections_match(
         ) => {
             same_mode(mode, other_mode)
                 && count == other_count
-                && is_same_type(program, of, other_type)
+                && types_match(program, of, other_type)
         }
         (FormalSection::Heading(g), FormalSection::Heading(h)) => {
             signatures_match(

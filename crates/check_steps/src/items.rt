@@ -13,6 +13,28 @@ fn actual_on(item: ItemRow, next: u32) -> ItemRow
     match item {
         ItemRow::Value { value, of, .. } => ItemRow::Value { value, of, next },
         ItemRow::Place { access, .. } => ItemRow::Place { access, next },
+        ItemRow::ArrayPlace {
+            first,
+            access,
+            of,
+            ..
+        } => ItemRow::ArrayPlace {
+            first,
+            access,
+            of,
+            next,
+        },
+        ItemRow::ArrayValue {
+            first,
+            value,
+            of,
+            ..
+        } => ItemRow::ArrayValue {
+            first,
+            value,
+            of,
+            next,
+        },
         ItemRow::Routine {
             routine,
             levels,

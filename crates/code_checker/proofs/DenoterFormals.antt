@@ -1,20 +1,24 @@
 -- What the steps of `Rattle.denoter_checker.specs.Formals` keep.
 use Rattle.std.proofs.Common.{ℕ, false}
 use Rattle.pas_tree.specs.HeadingPlaces.{heading_name}
-use Rattle.pas_tree.specs.HeadingTrees.{FormalTree, FormalTrees, FormalsTree, HeadingTree, HeldFormals}
+use Rattle.pas_tree.specs.HeadingTrees.{FormalNamesTree, FormalTree, FormalTrees, FormalsTree, HeadingTree, HeldFormals}
 use Rattle.pas_tree.specs.HeadingTrees as tree
-use Rattle.pas_tree.specs.TreeNodes.{formal_node, formals_node, heading_node, held_formals_node, more_formals_node}
+use Rattle.pas_tree.specs.TreeNodes.{formal_names_node, formal_node, formals_node, heading_node, held_formals_node, more_formals_node}
 use Rattle.check_steps.specs.Known.{frame_at}
 use Rattle.kind_checker.specs.{Names.define_name, declared.names.NameKind.NameKind}
-use Rattle.denoter_checker.specs.Formals.{define_each_formal, define_formal, define_formals, define_formals_at, define_held, define_more_formals, formals_of}
-use Rattle.code_checker.proofs.{KindNames.define_name-holds, KindNames.each_name-holds, Parts.formals_of-in, TokenPlaces.heading_name-in, Within.Within}
-use Rattle.code_checker.proofs.Steps.{Holds, bind-holds, give-holds, look-holds}
+use Rattle.denoter_checker.specs.Formals.{define_each_formal, define_formal, define_formal_names, define_formals, define_formals_at, define_held}
+use Rattle.denoter_checker.specs.Formals.{define_more_formals, formals_of}
+use Rattle.code_checker.proofs.{DenoterSchemas.define_bounds-holds, KindNames.define_name-holds, KindNames.each_name-holds, Parts.formals_of-in, Steps.Holds}
+use Rattle.code_checker.proofs.{Steps.bind-holds, Steps.give-holds, Steps.look-holds, TokenPlaces.heading_name-in, Within.Within}
+
+define_formal_names-holds : {size : ℕ} (region : ℕ) (f : FormalNamesTree) → Within size (formal_names_node f) → Holds size false (define_formal_names region f)
+unfolding define_formal_names
+define_formal_names-holds region f f-in = bind-holds (each_name-holds (define_name region NameKind.Formal) tt f.names (λ a x h.
+    define_name-holds region NameKind.Formal a x h) f-in.0) (λ _. define_bounds-holds region f.of_type f-in.1.1)
 
 pub define_formal-holds : {size : ℕ} (region : ℕ) (formal : FormalTree) → Within size (formal_node formal) → Holds size false (define_formal region formal)
-define_formal-holds region (tree.value_formals f) formal-in = each_name-holds (define_name region NameKind.Formal) tt f.names (λ a x h.
-    define_name-holds region NameKind.Formal a x h) formal-in.0
-define_formal-holds region (tree.variable_formals word f) formal-in = each_name-holds (define_name region NameKind.Formal) tt f.names (λ a x h.
-    define_name-holds region NameKind.Formal a x h) formal-in.1.0
+define_formal-holds region (tree.value_formals f) formal-in = define_formal_names-holds region f formal-in
+define_formal-holds region (tree.variable_formals word f) formal-in = define_formal_names-holds region f formal-in.1
 define_formal-holds region (tree.a_routine_formal h) formal-in = define_name-holds region NameKind.Formal tt (heading_name h) (heading_name-in h formal-in)
 
 pub define_more_formals-holds : {size : ℕ} (region : ℕ) (rest : FormalTrees) → Within size (more_formals_node rest)

@@ -1,21 +1,20 @@
 -- What the steps of `Rattle.denoter_checker.specs.Headings` keep.
 use Rattle.std.proofs.Common.{◌+◌, ◌<◌, ℕ, Bool, None, Option, Some, false, nat_le, refl}
-use Rattle.pas_tree.specs.{HeadingPlaces.heading_name, HeadingPlaces.heading_word, Headings.result_node, SchemaTrees.FormalTypeTree}
-use Rattle.pas_tree.specs.{TreeNodes.more_formals_node, TreeNodes.procedure_node, declared.headings.ResultType.ResultType}
+use Rattle.pas_tree.specs.{Headings.result_node, TreeNodes.procedure_node, declared.headings.ResultType.ResultType}
+use Rattle.pas_tree.specs.HeadingPlaces.{heading_name, heading_word}
 use Rattle.pas_tree.specs.HeadingTrees.{FormalNamesTree, FormalTree, FormalTrees, FormalsTree, FunctionTree, HeadingTree, HeldFormals, ProcedureTree}
 use Rattle.pas_tree.specs.HeadingTrees as tree
-use Rattle.pas_tree.specs.SchemaTrees as schemas
-use Rattle.pas_tree.specs.TreeNodes.{formal_names_node, formal_node, formal_type_node, formals_node, function_node, heading_node, held_formals_node}
+use Rattle.pas_tree.specs.TreeNodes.{formal_names_node, formal_node, formals_node, function_node, heading_node, held_formals_node, more_formals_node}
 use Rattle.core_program.specs.ProgramRows.{size_of}
 use Rattle.core_program.specs.declared.rows.{Mode.Mode, NameRow.NameRow, PartRow.PartRow, Row.Row}
 use Rattle.check_steps.specs.Known.{frame_at, type_at}
 use Rattle.kind_checker.specs.Sizes.{frame_capped}
-use Rattle.denoter_checker.specs.{Formals.is_complete, Headings.untaken, Headings.value_cells}
-use Rattle.denoter_checker.specs.Headings.{cells_of, checked_result_type, formal_place, formal_type, function_row, function_signature, may_be_result}
-use Rattle.denoter_checker.specs.Headings.{more_places, open_heading, parameter, parameters, places, places_of, procedure_row, procedure_signature}
-use Rattle.denoter_checker.specs.Headings.{put_more_sections, put_section, put_sections, result_or, routine_formal, section_list, section_row, signature}
-use Rattle.code_checker.proofs.{KindNames.each_name-holds, KindTypes.named_type-holds, TokenPlaces.heading_name-in, Within.Within}
-use Rattle.code_checker.proofs.DenoterFormals.{define_formals_at-holds}
+use Rattle.denoter_checker.specs.{Formals.is_complete, Schemas.mode_in}
+use Rattle.denoter_checker.specs.Headings.{cells_of, checked_result_type, formal_place, function_row, function_signature, may_be_result, more_places}
+use Rattle.denoter_checker.specs.Headings.{open_heading, parameter, parameters, places, places_of, procedure_row, procedure_signature, put_more_sections}
+use Rattle.denoter_checker.specs.Headings.{put_section, put_sections, result_or, routine_formal, section_list, section_row, signature, value_cells}
+use Rattle.code_checker.proofs.{DenoterFormals.define_formals_at-holds, DenoterSchemas.formal_type-holds, KindNames.each_name-holds, KindTypes.named_type-holds}
+use Rattle.code_checker.proofs.{TokenPlaces.heading_name-in, Within.Within}
 use Rattle.code_checker.proofs.Steps.{Holds, bind-holds, early-holds, give-holds, late-holds, look-holds, open_region-holds, put-holds, too_big-holds}
 
 pub value_cells-holds : {size : ℕ} {later : Bool} (t : ℕ) (name : ℕ) → name < size → Holds size later (value_cells t name)
@@ -25,6 +24,7 @@ value_cells-holds t name name-in = bind-holds (look-holds (λ k. size_of k.progr
 
 pub cells_of-holds : {size : ℕ} {later : Bool} (m : Mode) (t : ℕ) (name : ℕ) → name < size → Holds size later (cells_of m t name)
 cells_of-holds Mode.Place t name name-in = give-holds 1
+cells_of-holds Mode.Copy t name name-in = give-holds 1
 cells_of-holds m t name name-in = value_cells-holds t name name-in
 
 pub parameter-holds : {size : ℕ} {later : Bool} (m : Mode) (level : ℕ) (t : ℕ) (at : ℕ) (name : ℕ) → name < size
@@ -33,20 +33,12 @@ unfolding parameter
 parameter-holds m level t at name name-in = bind-holds (put-holds name (Row.Name (NameRow.Variable m t at level))) (λ _.
     bind-holds (cells_of-holds m t name name-in) (λ cells. give-holds (frame_capped (at + cells))))
 
-untaken-holds : {size : ℕ} (first : ℕ) → first < size → Holds size false (untaken first)
-unfolding untaken
-untaken-holds first first-in = bind-holds (early-holds 1 first false refl first-in) (λ _. give-holds first)
-
-formal_type-holds : {size : ℕ} (frame : ℕ) (t : FormalTypeTree) → Within size (formal_type_node t) → Holds size false (formal_type frame t)
-formal_type-holds frame (schemas.a_formal_name n) t-in = named_type-holds frame n t-in
-formal_type-holds frame (schemas.a_schema (schemas.a_packed_schema p)) t-in = untaken-holds p.packed t-in.0
-formal_type-holds frame (schemas.a_schema (schemas.an_unpacked_schema word open' specs close of component)) t-in = untaken-holds word t-in.0
-
 pub parameters-holds : {size : ℕ} (m : Mode) (frame : ℕ) (at : ℕ) (f : FormalNamesTree) → Within size (formal_names_node f)
     → Holds size false (parameters m frame at f)
 unfolding parameters
-parameters-holds m frame at f f-in = bind-holds (look-holds (λ k. (frame_at k frame).level)) (λ level. bind-holds (formal_type-holds frame f.of_type f-in.1.1)
-    (λ t. each_name-holds (parameter m level t) at f.names (λ a x h. parameter-holds m level t a x h) f-in.0))
+parameters-holds m frame at f f-in = bind-holds (look-holds (λ k. (frame_at k frame).level)) (λ level.
+    bind-holds (formal_type-holds frame level at f.of_type f-in.1.1) (λ t. each_name-holds (parameter (mode_in m f.of_type) level t.of) t.place f.names
+    (λ a x h. parameter-holds (mode_in m f.of_type) level t.of a x h) f-in.0))
 
 pub routine_formal-holds : {size : ℕ} (frame : ℕ) (at : ℕ) (h : HeadingTree) → Within size (heading_node h) → Holds size false (routine_formal frame at h)
 unfolding routine_formal

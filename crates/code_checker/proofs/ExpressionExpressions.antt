@@ -15,12 +15,12 @@ use Rattle.expression_checker.specs.Operations.{adding_operator, multiplying_ope
 use Rattle.expression_checker.specs.declared.{actuals.Passing.Passing, names.Meaning.Meaning, typed.Typed.Typed}
 use Rattle.expression_checker.specs.declared.members.{Gathered.Gathered, MemberStart.MemberStart}
 use Rattle.code_checker.proofs.{CheckNames.use_again-holds, ExpressionActuals.actual_by-holds, ExpressionCallees.applied-holds}
-use Rattle.code_checker.proofs.{ExpressionCallees.called_function-holds, ExpressionNames.accessed_as-holds, ExpressionNames.variable-holds, Parts.name_alone-in}
-use Rattle.code_checker.proofs.{Steps.Holds, Steps.bind-holds, Steps.give-holds, Steps.look-holds, Within.Within}
+use Rattle.code_checker.proofs.{ExpressionCallees.called_function-holds, ExpressionNames.accessed_as-holds, ExpressionNames.bound_at-holds}
+use Rattle.code_checker.proofs.{ExpressionNames.variable-holds, ExpressionTyped.constant_at-holds, ExpressionTyped.literal-holds, ExpressionTyped.nil_at-holds}
+use Rattle.code_checker.proofs.{Parts.name_alone-in, Steps.Holds, Steps.bind-holds, Steps.give-holds, Steps.look-holds, Within.Within}
 use Rattle.code_checker.proofs.ExpressionMembers.{member_range-holds, one_member-holds, set_constructor-holds}
 use Rattle.code_checker.proofs.ExpressionOperations.{negated-holds, operated-holds, signed-holds}
 use Rattle.code_checker.proofs.ExpressionSelectors.{dereferenced-holds, indexed-holds, selected_field-holds}
-use Rattle.code_checker.proofs.ExpressionTyped.{constant_at-holds, literal-holds, nil_at-holds}
 use Rattle.code_checker.proofs.TokenPlaces.{adding_token-in, first_of_expression-in, multiplying_token-in, relational_token-in}
 
 pub designator-holds : {size : ℕ} {later : Bool} (frame : ℕ) (name : ℕ) → name < size → Holds size later (designator frame name)
@@ -29,6 +29,7 @@ designator-holds frame name name-in = bind-holds (called_function-holds frame na
 
 pub named_as-holds : {size : ℕ} {later : Bool} (frame : ℕ) (name : ℕ) (m : Meaning) → name < size → Holds size later (named_as frame name m)
 named_as-holds frame name (Meaning.Constant v) name-in = constant_at-holds name v
+named_as-holds frame name (Meaning.Bound r of') name-in = bound_at-holds name r of'
 named_as-holds frame name Meaning.Other name-in = designator-holds frame name name-in
 named_as-holds frame name m name-in = accessed_as-holds name m
 

@@ -19,6 +19,7 @@ pub mod DenoterFormals
 pub mod DenoterHeadings
 pub mod DenoterParts
 pub mod DenoterRoutineParts
+pub mod DenoterSchemas
 pub mod DenoterVariants
 pub mod ExpressionActuals
 pub mod ExpressionCallees

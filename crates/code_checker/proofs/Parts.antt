@@ -1,7 +1,6 @@
 -- What a step reads of its tree, or of the tables, is of the source's tokens.
-use Rattle.std.proofs.Common.{if◌then◌else◌, ◌&&◌, ◌+◌, ◌-◌, ◌<◌, ◌≡◌, ◌≤◌, ℕ, Bool, List, None, Option, Some, arith, false, is_none, length, refl}
-use Rattle.std.proofs.Common.{slice_get, suc, true, unwrap_or, zero}
-use Rattle.std.proofs.lemmas.Option.{slice_get_within}
+use Rattle.std.proofs.Common.{if◌then◌else◌, ◌&&◌, ◌+◌, ◌-◌, ◌<◌, ◌≡◌, ◌≤◌, ℕ, Bool, List, None, Option, Some, arith, false, is_none, length, refl, slice_get}
+use Rattle.std.proofs.{Common.suc, Common.true, Common.unwrap_or, Common.zero, lemmas.Option.slice_get_within}
 use Rattle.pas_tree.specs.{Headings.result_node, StatementPlaces.compound_word, StatementTrees.CompoundTree, StatementTrees.compound_body}
 use Rattle.pas_tree.specs.BlockTrees.{RoutineTree, RoutineTrees, routine_body, routine_heading}
 use Rattle.pas_tree.specs.BlockTrees as blocked
@@ -133,12 +132,15 @@ lone_of-in size k frame formal.File None h = tt
 lone_of-in size k frame formal.Unknown name h = tt
 lone_of-in size k frame (formal.Value of') name h = tt
 lone_of-in size k frame (formal.Variable of') name h = tt
+lone_of-in size k frame (formal.Array copied first of' measure) name h = tt
 lone_of-in size k frame (formal.Operand g) name h = tt
 
 pub rule_of-told : (f : ExpectedFormal) → is_told (Late (rule_of f)) ≡ true
 rule_of-told formal.Unknown = refl
 rule_of-told (formal.Value of') = refl
 rule_of-told (formal.Variable of') = refl
+rule_of-told (formal.Array true first of' measure) = refl
+rule_of-told (formal.Array false first of' measure) = refl
 rule_of-told (formal.Routine heading) = refl
 rule_of-told formal.File = refl
 rule_of-told (formal.Operand g) = refl

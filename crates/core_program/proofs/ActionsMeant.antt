@@ -103,9 +103,11 @@ variable_meant : (v : Value) → IsMeant (variable_of v)
 variable_meant (Value.Place addr) = tt
 variable_meant v = tt
 
+pub referred_meant : (addr : ℕ) → IsMeant (referred addr)
+referred_meant addr = next (read_value addr) variable_of (read_meant addr) variable_meant
+
 pub reference_meant : (levels base place : ℕ) → IsMeant (reference_out levels base place)
-reference_meant levels base place = next (cell_out levels base place) referred (cell_meant levels base place)
-    (λ addr. next (read_value addr) variable_of (read_meant addr) variable_meant)
+reference_meant levels base place = next (cell_out levels base place) referred (cell_meant levels base place) referred_meant
 
 -- a routine that may be an actual of the parameter
 abbrev pub MayStand : ProgramRows → (heading : ℕ) → ℕ × ℕ → Type 0

@@ -9,22 +9,26 @@ use Rattle.core_program.proofs.Events.{events_append, events_length, unmarked}
 use Rattle.core_program.proofs.RunsLeave.{Inner, IsProper, act_left, call_leaves, ran_leaves, sound_framed, sound_opened}
 use Rattle.core_program.proofs.Ways.{Ran, RanCall, RanFrame, changed, ending, front, of_call}
 use Rattle.core_program.proofs.Ways as ways
-use Rattle.core_program.specs.{Accesses.scalar, Apply.apply, Heap.pointer_result_at, Layer.layer, ProgramRows.ProgramRows, ProgramRows.routine_at}
-use Rattle.core_program.specs.{ProgramRows.row_at, Replay.same_numbers, Replay.same_value, Run.whole, Run.with_frame, Run.without_frame, RunLaws.IsMet}
-use Rattle.core_program.specs.{State.IsSound, State.State, State.moved, Statements.on_normal, declared.program.Routine.Routine, declared.rows.TypeRow.TypeRow}
+use Rattle.core_program.specs.{Accesses.scalar, Apply.apply, Heap.pointer_result_at, Layer.layer, Passed.Entering, Passed.args_at, Passed.cells_entered}
+use Rattle.core_program.specs.{Replay.same_numbers, Replay.same_value, RunLaws.IsMet, State.IsSound, State.State, State.moved, Statements.on_normal}
+use Rattle.core_program.specs.{Tree.way_of, declared.program.Routine.Routine, declared.rows.TypeRow.TypeRow}
 use Rattle.core_program.specs.Actions.{Action, Fail, Give, NoMeaning, Perform}
 use Rattle.core_program.specs.Acts.{Answer, Limited, OutOfSteps, Spend, limit_passed, spent}
+use Rattle.core_program.specs.ProgramRows.{ProgramRows, routine_at, row_at}
 use Rattle.core_program.specs.Replay.{ChildOf, Event, LineOf, Replayed, Replaying, end_of, in_replaying, next_call, on_state, replay_of, replaying, same_args}
-use Rattle.core_program.specs.Run.{Call, End, Ended, Halted, Marked, Result, after_all, at_work, call_closed, ends, framed_run, if_allowed, in_front, joined}
-use Rattle.core_program.specs.Run.{later_by, on_done, on_end, opened, record_of, result_in, result_of_type, result_read, return_of, type_in_heading, way_out}
-use Rattle.core_program.specs.Tree.{ActTree, Address, Cells, Do, Enter, Halt, Jump, Line, Meaningless, Nothing, Out, Ret, Scalar, Sub, doing, way_of}
+use Rattle.core_program.specs.Run.{Call, End, Ended, Halted, Marked, Result, after_all, at_work, call_closed, ends, frame_size, framed_run, if_allowed}
+use Rattle.core_program.specs.Run.{in_front, joined, later_by, on_done, on_end, opened, record_of, result_in, result_of_type, result_read, return_of}
+use Rattle.core_program.specs.Run.{type_in_heading, way_out, whole, with_frame, without_frame}
+use Rattle.core_program.specs.Tree.{ActTree, Actuals, Address, Bounded, Cells, Do, Enter, Halt, Jump, Line, Meaningless, Nothing, Out, Ret, Scalar, Sub, doing}
 
 -- ---- how a call's inside may end
 
 -- an end that a record tells: that of a statement, of a function, or by a jump
 abbrev pub IsCallEnd : End → Type 0
 IsCallEnd (Ended (Cells vs)) = ⊥
+IsCallEnd (Ended (Actuals passed)) = ⊥
 IsCallEnd (Ended (Address addr)) = ⊥
+IsCallEnd (Ended (Bounded addr frame)) = ⊥
 IsCallEnd e = Unit {0}
 
 abbrev Returns : ActTree → Type 0
@@ -33,7 +37,7 @@ Returns (Halt line why) = Unit {0}
 Returns Meaningless = Unit {0}
 Returns (Do line act next) = (x : Answer act) → Returns (next x)
 Returns (Sub part next) = (out : Out) → Returns (next out)
-Returns (Enter f cells args next) = (out : Out) → Returns (next out)
+Returns (Enter e next) = (out : Out) → Returns (next out)
 Returns (Line line next) = Returns next
 
 doing_returns : {A : Type 0} (line : ℕ) (a : Action A) (k : A → ActTree) → ((x : A) → Returns (k x)) → Returns (doing line a k)
@@ -60,7 +64,9 @@ whole_returns p f base q = λ out. by q.result out
     by o Nothing = normal o
     by o (Scalar v) = normal o
     by o (Cells vs) = normal o
+    by o (Actuals passed) = normal o
     by o (Address addr) = normal o
+    by o (Bounded addr frame) = normal o
 
 module _ (p : ProgramRows) where
   ran_returns : {n : ℕ} {t : ActTree} {σ : State} {r : Result State Call} → Ran p n t σ r → Returns t → IsCallEnd r.end
@@ -90,7 +96,9 @@ end_told (Ended Nothing) h k = refl
 end_told (Ended (Scalar v)) h k = refl
 end_told (Ended (Jump label base)) h k = refl
 end_told (Ended (Cells vs)) h k = absurd h
+end_told (Ended (Actuals passed)) h k = absurd h
 end_told (Ended (Address addr)) h k = absurd h
+end_told (Ended (Bounded addr frame)) h k = absurd h
 end_told (Halted WayOut.Returned) h k = absurd k
 end_told (Halted (WayOut.Jumped label base)) h k = absurd k
 end_told (Halted (WayOut.Faulted kind line)) h k = refl
@@ -281,8 +289,8 @@ module _ (p : ProgramRows) where
   abbrev next_of : ℕ → (Out → ActTree) → Out → Replaying → Replayed
   next_of n next out s = replay_of p (suc n) (next out) s
 
-  abbrev entered : ℕ → ℕ → List Value → (Out → ActTree) → Option Which → Replaying → Replayed
-  entered n f args next o s = if_allowed o s (joined (next_call f args s.state s.number s.calls) (next_of n next))
+  abbrev entered : ℕ → Entering → (Out → ActTree) → Option Which → Replaying → Replayed
+  entered n e next o s = if_allowed o s (joined (next_call e.routine (args_at e s.state.top) s.state s.number s.calls) (next_of n next))
 
   -- each run is the same again, from the effects of its calls
   ran_redo : {n : ℕ} {t : ActTree} {σ : State} {r : Result State Call} → (h : Ran p n t σ r) → IsSound σ → (k : ℕ) (cs : List Call)
@@ -300,17 +308,19 @@ module _ (p : ProgramRows) where
   ran_redo (ways.PartEnded {n = n} {part = part} {next = next} {σ = σ} {r = y} {s = z} h e g) s k cs =
       redo_at (ap (λ l. joined (replay_of p n (layer p part) (at σ k l)) (next_of n next)) (calls_after y.log y.events z cs))
       (ended_redo (next_of n next) (ran_redo h s k (unmarked z.events ++ cs)) e (ran_redo g (ran_leaves p h s).leaves.sound (k + length y.events) cs))
-  ran_redo (ways.AtLimit {n = n} {f = f} {args = args} {next = next} {σ = σ} {which = which} q) s k cs =
-      redo_at (ap (λ o. entered n f args next o (at σ k cs)) q) (ends_redo (Halted (WayOut.Limited which)) σ k cs)
-  ran_redo (ways.CallStopped {n = n} {f = f} {cells = cells} {args = args} {next = next} {σ = σ} {y = y} q h e) s k cs =
-      redo_at (ap (λ o. entered n f args next o (at σ k (unmarked (of_call f args σ y).events ++ cs))) q)
-      (stopped_redo (next_of n next) (met_call f args σ y k cs s (call_leaves p h s (limits_hold σ cells q)) (call_returns p h)) e)
-  ran_redo (ways.CallEnded {n = n} {f = f} {cells = cells} {args = args} {next = next} {σ = σ} {y = y} {s = z} q h e g) s k cs =
-      let i = call_leaves p h s (limits_hold σ cells q) in
-      redo_at (ap (λ l. entered n f args next (limit_passed σ cells) (at σ k l)) (calls_after y.log (of_call f args σ y).events z cs)
-      ∙ ap (λ o. entered n f args next o (at σ k (unmarked (of_call f args σ y).events ++ (unmarked z.events ++ cs)))) q)
-      (ended_redo (next_of n next) (met_call f args σ y k (unmarked z.events ++ cs) s i (call_returns p h)) e
-      (ran_redo g i.leaves.sound (k + length (of_call f args σ y).events) cs))
+  ran_redo (ways.AtLimit {n = n} {e = e} {next = next} {σ = σ} {which = which} q) s k cs =
+      redo_at (ap (λ o. entered n e next o (at σ k cs)) q) (ends_redo (Halted (WayOut.Limited which)) σ k cs)
+  ran_redo (ways.CallStopped {n = n} {e = e} {next = next} {σ = σ} {y = y} q h d) s k cs =
+      redo_at (ap (λ o. entered n e next o (at σ k (unmarked (of_call e.routine (args_at e σ.top) σ y).events ++ cs))) q)
+      (stopped_redo (next_of n next)
+      (met_call e.routine (args_at e σ.top) σ y k cs s (call_leaves p h s (limits_hold σ (cells_entered e) q)) (call_returns p h)) d)
+  ran_redo (ways.CallEnded {n = n} {e = e} {next = next} {σ = σ} {y = y} {s = z} q h d g) s k cs =
+      let i = call_leaves p h s (limits_hold σ (cells_entered e) q) in
+      let w = of_call e.routine (args_at e σ.top) σ y in
+      redo_at (ap (λ l. entered n e next (limit_passed σ (cells_entered e)) (at σ k l)) (calls_after y.log w.events z cs)
+      ∙ ap (λ o. entered n e next o (at σ k (unmarked w.events ++ (unmarked z.events ++ cs)))) q)
+      (ended_redo (next_of n next) (met_call e.routine (args_at e σ.top) σ y k (unmarked z.events ++ cs) s i (call_returns p h)) d
+      (ran_redo g i.leaves.sound (k + length w.events) cs))
   ran_redo (ways.NotBegun {n = n} {line = line} {next = next} {σ = σ} {why = why} {w = w} {τ = τ} q) s k cs =
       front_redo w [] w [] (from_zero (ends_redo (Halted (way_of line why)) τ k cs)) tt
       (ap (λ d. on_done replaying line (at σ k cs) d (λ x τ. in_front [] (replaying.line line) (replay_of p (suc n) next τ))) q)
@@ -328,10 +338,10 @@ module _ (p : ProgramRows) where
   choice n f args q s a b =
       if a then ends (Halted (way_of 0 (Limited Stack))) s
       else if b then ends (Halted (way_of 0 OutOfSteps)) (on_state spent s)
-      else after_all (on_state (without_frame s.state.top q.cells)) (replay_of p n (whole p f s.state.top q) (on_state (with_frame q.cells args) s))
+      else after_all (on_state (without_frame s.state.top (frame_size q args))) (replay_of p n (whole p f s.state.top q) (on_state (with_frame q args) s))
 
   abbrev chosen : ℕ → ℕ → List Value → Routine → Replaying → Bool → Replayed
-  chosen n f args q s a = choice n f args q s a (nat_lt s.state.steps q.cells)
+  chosen n f args q s a = choice n f args q s a (nat_lt s.state.steps (frame_size q args))
 
   frame_redo : {n f : ℕ} {args : List Value} {σ : State} {r : Result State Call} → RanFrame p n f args σ r → IsSound σ → (k : ℕ) (cs : List Call)
       → Redo k r cs (framed_again n f args (at σ k (unmarked r.events ++ cs)) (routine_at p f))
@@ -343,7 +353,7 @@ module _ (p : ProgramRows) where
   frame_redo (ways.Worked {n = n} {f = f} {args = args} {σ = σ} {q = q} {y = y} e t u h) s k cs =
       redo_at (ap (framed_again n f args (at σ k (unmarked y.events ++ cs))) e ∙ ap (chosen n f args q (at σ k (unmarked y.events ++ cs))) t
       ∙ ap (choice n f args q (at σ k (unmarked y.events ++ cs)) false) u)
-      (changed_redo (without_frame σ.top q.cells) (ran_redo h (sound_framed q.cells args σ s (grind (arith, nat_tests))) k cs))
+      (changed_redo (without_frame σ.top (frame_size q args)) (ran_redo h (sound_framed q args σ s (grind (arith, nat_tests))) k cs))
 
   -- a call's own work again
   pub call_redo : {n f : ℕ} {args : List Value} {σ : State} {r : Result State Call} → RanCall p n f args σ r → IsSound σ → MayEnter σ

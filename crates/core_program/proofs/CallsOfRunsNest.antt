@@ -6,11 +6,12 @@ use Rattle.std.{proofs.lemmas.List.length-map, proofs.lemmas.List.map-append, pr
 use Rattle.std.proofs.lemmas.List.Elements.{All-append, All-cons, All-map, All-nil, All-weaker}
 use Rattle.cell_value.specs.declared.{entries.Touch.Touch, values.Value.Value, values.Value.TheVariants.Nil, ways_out.Which.Which}
 use Rattle.core_program.proofs.NestedCallsAreIntervals.{Forest, forest_append, forest_call, forest_none}
-use Rattle.core_program.specs.{Layer.layer, Numbering.StandsAt, Numbering.belows, Numbering.last_below, ProgramRows.ProgramRows, ProgramRows.routine_at}
-use Rattle.core_program.specs.{Run.walk, Run.whole, Run.with_frame, Run.without_frame, State.State, State.stack_end, declared.program.Routine.Routine}
+use Rattle.core_program.specs.{Layer.layer, Numbering.StandsAt, Numbering.belows, Numbering.last_below, Passed.args_at, Passed.cells_entered}
+use Rattle.core_program.specs.{ProgramRows.ProgramRows, ProgramRows.routine_at, State.State, State.stack_end, declared.program.Routine.Routine}
 use Rattle.core_program.specs.Acts.{ActResult, Spend, Stops, Went, limit_passed, perform, spent}
 use Rattle.core_program.specs.Run.{Call, End, Ended, Halted, Marked, Outcome, Result, after_all, at_work, block, call_closed, call_of, depth_enough, ends}
-use Rattle.core_program.specs.Run.{if_allowed, in_frame, in_front, joined, later_by, on_done, on_end, opened, plain, record_of, recorded, run, run_of, start}
+use Rattle.core_program.specs.Run.{frame_size, if_allowed, in_frame, in_front, joined, later_by, on_done, on_end, opened, plain, record_of, recorded, run}
+use Rattle.core_program.specs.Run.{run_of, start, walk, whole, with_frame, without_frame}
 use Rattle.core_program.specs.Tree.{ActTree, Do, Enter, Halt, Line, Meaningless, Out, Part, Ret, Sub, way_of}
 
 -- where entries stand once others are before or after them
@@ -117,9 +118,9 @@ good_frame : (p : ProgramRows) (go : ActTree → State → Outcome) → ((t : Ac
     (o : Option Routine) → Good (in_frame (at_work p go f) args σ o)
 good_frame p go h f args σ None = good_none
 good_frame p go h f args σ (Some r) =
-    good_if (nat_lt stack_end (σ.top + r.cells)) _ _ (good_ends _ σ)
-    (good_if (nat_lt σ.steps r.cells) _ _ (good_ends _ (spent σ))
-    (good_after (without_frame σ.top r.cells) _ (h (whole p f σ.top r) (with_frame r.cells args σ))))
+    good_if (nat_lt stack_end (σ.top + frame_size r args)) _ _ (good_ends _ σ)
+    (good_if (nat_lt σ.steps (frame_size r args)) _ _ (good_ends _ (spent σ))
+    (good_after (without_frame σ.top (frame_size r args)) _ (h (whole p f σ.top r) (with_frame r args σ))))
 
 good_call : (p : ProgramRows) (go : ActTree → State → Outcome) → ((t : ActTree) (σ : State) → Good (go t σ)) → (f : ℕ) (args : List Value) (σ : State)
     → Good (call_of p go f args σ)
@@ -133,8 +134,8 @@ good_walk p sub call hs hc (Halt line why) σ = good_ends _ σ
 good_walk p sub call hs hc Meaningless σ = good_none
 good_walk p sub call hs hc (Do line act next) σ = good_done p line σ (perform act σ) _ (λ x τ. good_walk p sub call hs hc (next x) τ)
 good_walk p sub call hs hc (Sub part next) σ = good_joined (sub part σ) _ (hs part σ) (λ out τ. good_walk p sub call hs hc (next out) τ)
-good_walk p sub call hs hc (Enter f cells args next) σ = good_allowed (limit_passed σ cells) σ _
-    (good_joined (call f args σ) _ (hc f args σ) (λ out τ. good_walk p sub call hs hc (next out) τ))
+good_walk p sub call hs hc (Enter e next) σ = good_allowed (limit_passed σ (cells_entered e)) σ _
+    (good_joined (call e.routine (args_at e σ.top) σ) _ (hc e.routine (args_at e σ.top) σ) (λ out τ. good_walk p sub call hs hc (next out) τ))
 good_walk p sub call hs hc (Line line next) σ = good_done p line σ (perform (Spend 1) σ) _
     (λ x τ. good_front [] [] _ (fits_none []) (good_walk p sub call hs hc next τ))
 

@@ -1,6 +1,6 @@
 -- Cells after inserts and removals: frames, and the changes of an effect.
 use Rattle.std.proofs.Common.{if◌then◌else◌, ◌&&◌, ◌++◌, ◌+◌, ◌<◌, ◌||◌, ◌∙◌, ◌∷◌, ◌≡◌, ◌≢◌, ◌≤◌, ◌⊎◌, [], ℕ, Bool, List, None, Option, Some, ap, arith, cond}
-use Rattle.std.proofs.Common.{false, inl, inr, is_some, length, length-append, nat_le, nat_lt, refl, replicate, suc, sym, true, zero}
+use Rattle.std.proofs.Common.{false, inl, inr, is_some, length, length-append, nat_le, nat_lt, refl, replicate, suc, sym, take, true, zero}
 use Rattle.std.proofs.lemmas.{Bool.Decides.eqb_tells, Bool.Decides.nat_tests, List.length-replicate, List.length-take}
 use Rattle.std.specs.{Cmp.nat_cmp_total, Option.IsSome, Option.option_map, Ordering.eq_by_cmp, Ordering.nat_cmp}
 use Rattle.std.specs.FinMap.{FinMap, get, get-insert, get-remove, insert, remove}
@@ -9,7 +9,8 @@ use Rattle.cell_value.specs.Effects.{change_at, changed_block, changes_of, heap_
 use Rattle.cell_value.specs.declared.entries.{Change.Change, Change.TheVariants.Gone, Change.TheVariants.Set, Touch.Touch}
 use Rattle.cell_value.specs.declared.values.Value.{Value, TheVariants.Undefined}
 use Rattle.core_program.proofs.Touches.{left_with}
-use Rattle.core_program.specs.{Apply.changed_cells, Blocks.cleared, Blocks.filled, Run.frame_cells}
+use Rattle.core_program.specs.{Apply.changed_cells, Blocks.cleared, Blocks.filled, declared.program.Routine.Routine}
+use Rattle.core_program.specs.Run.{copies_in, frame_cells, frame_size}
 
 abbrev pub Map : Type 0
 Map = FinMap nat_cmp Value
@@ -49,8 +50,16 @@ filled_there base (v ∷ vs) m a h k = elim (eqb_tells a base) [
   | inr q ↦ filled_there (base + 1) vs (insert m base v) a (let n = q.1 in omega arith) (omega arith)
 ]
 
-pub frame_length : (n : ℕ) (args : List Value) → length (frame_cells n args) ≡ n
-frame_length n args = omega (arith, length-take n (args ++ replicate n Undefined), length-append args (replicate n Undefined), length-replicate n Undefined)
+pub frame_length : (r : Routine) (args : List Value) → length (frame_cells r args) ≡ frame_size r args
+frame_length r args =
+    let own = take r.cells (take r.parameters args ++ replicate r.cells Undefined) in
+    omega (
+      arith,
+      length-append own (copies_in r args),
+      length-take r.cells (take r.parameters args ++ replicate r.cells Undefined),
+      length-append (take r.parameters args) (replicate r.cells Undefined),
+      length-replicate r.cells Undefined,
+    )
 
 pub cleared_below : (base n : ℕ) (m : Map) (a : ℕ) → a < base → get (cleared base n m) a ≡ get m a
 cleared_below base zero m a h = refl

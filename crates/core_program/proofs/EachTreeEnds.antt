@@ -6,18 +6,21 @@ use Rattle.cell_value.specs.declared.{entries.Touch.Touch, values.Value.Value, w
 use Rattle.core_program.proofs.{ActionsMeant.no, ActsTakeSteps.Acted, ActsTakeSteps.acted, ActsTakeSteps.cost, WholeActions.below_length, WholeParts.Good}
 use Rattle.core_program.proofs.{WholeParts.Takes, WholeParts.gives, WholeParts.gives_call, WholeStatements.part_good, WholeStatements.routine_good}
 use Rattle.core_program.proofs.WholeParts as places
-use Rattle.core_program.specs.{Cells.routine_out, Expressions.expression_in, Expressions.of_actual, Expressions.of_members, Expressions.pass_routine}
-use Rattle.core_program.specs.{Input.next_char, Layer.layer, Layer.of_body, Output.char_type, ProgramRows.ProgramRows, ProgramRows.routine_at}
-use Rattle.core_program.specs.{ProgramRows.row_at, ProgramRows.type_at, State.State, State.stack_end, WholeTables.WholeTables, WholeTables.is_routine}
-use Rattle.core_program.specs.Accesses.{access_in, eval, is_end, locate_before, no_row, of_access, on_address, on_scalar, type_accessed, until_end, with_formal}
+use Rattle.core_program.specs.{Accesses.type_accessed, Accesses.until_end, Accesses.with_dimensions, Accesses.with_formal, Cells.routine_out}
+use Rattle.core_program.specs.{Conformant.Dimensions, Conformant.WholeArray, Conformant.dimensions_of, Input.next_char, Layer.layer, Layer.of_body}
+use Rattle.core_program.specs.{Output.char_type, Passed.Passed, Passed.args_at, Passed.cells_entered, ProgramRows.ProgramRows, ProgramRows.routine_at}
+use Rattle.core_program.specs.{ProgramRows.row_at, ProgramRows.type_at, State.State, State.stack_end, WholeTables.WholeTables, WholeTables.is_conformant}
+use Rattle.core_program.specs.{WholeTables.is_routine, declared.scan.Scan.Scan, declared.scan.Scan.TheVariants.Blanks, declared.scan.Scan.TheVariants.Digits}
+use Rattle.core_program.specs.Accesses.{access_in, bounded_before, eval, is_end, locate_before, no_row, of_access, on_address, on_bounded, on_scalar}
 use Rattle.core_program.specs.Acts.{Act, ActResult, Answer, Limited, OutOfSteps, Spend, Stops, Went, limit_passed, perform, spent}
-use Rattle.core_program.specs.Run.{Call as Record, End, Ended, Halted, Marked, Outcome, Result, after_all, at_work, call_closed, call_of, ends, if_allowed}
-use Rattle.core_program.specs.Run.{in_frame, in_front, joined, on_done, on_end, opened, plain, recorded, run_of, whole, with_frame, without_frame}
+use Rattle.core_program.specs.Expressions.{access_value, array_copied, array_placed, expression_in, of_actual, of_members, pass_routine, placed_in, whole_in}
+use Rattle.core_program.specs.Run.{Call as Record, End, Ended, Halted, Marked, Outcome, Result, after_all, at_work, call_closed, call_of, ends, frame_size}
+use Rattle.core_program.specs.Run.{if_allowed, in_frame, in_front, joined, on_done, on_end, opened, plain, recorded, run_of, whole, with_frame, without_frame}
 use Rattle.core_program.specs.Statements.{begins, line_of, of_count, of_records, of_sequence, of_turn, on_labelled, on_normal, statement_in}
 use Rattle.core_program.specs.Transfers.{of_printed, of_received, of_scan, read_for, received, with_host}
 use Rattle.core_program.specs.Tree.{ActTree, Body, Count, Do, Enter, Establish, Eval, Exec, Gather, Halt, Here, Jump, Line, Locate, Meaningless, Out, Part}
 use Rattle.core_program.specs.Tree.{Pass, Print, Receive, RestOfLine, Ret, Scanning, Sequence, Sub, Turn, doing, way_of}
-use Rattle.core_program.specs.declared.{program.Routine.Routine, scan.Scan.Scan, scan.Scan.TheVariants.Blanks, scan.Scan.TheVariants.Digits}
+use Rattle.core_program.specs.declared.{components.Extent.Extent, components.HeldSpec.HeldSpec, program.Routine.Routine}
 use Rattle.core_program.specs.declared.rows.{AccessRow.AccessRow, ItemRow.ItemRow, NameRow.NameRow, Row.Row, StatementRow.StatementRow, TypeRow.TypeRow}
 
 -- ---- ranks
@@ -57,7 +60,7 @@ Ranked R r b (Halt line why) = Unit {0}
 Ranked R r b Meaningless = Unit {0}
 Ranked R r b (Do line act next) = (1 ≤ cost act) ⊎ ((x : Answer act) → Ranked R r b (next x))
 Ranked R r b (Sub part next) = (rank R part < r) × ((pays part ≡ true) ⊎ ((out : Out) → Ranked R r b (next out)))
-Ranked R r b (Enter f cells args next) = 1 < r
+Ranked R r b (Enter e next) = 1 < r
 Ranked R r b (Line line next) = Unit {0}
 
 below_all : (R : ℕ) (part : Part) → rank R part < R + 3
@@ -83,7 +86,7 @@ any_tree R (Halt line why) = tt
 any_tree R Meaningless = tt
 any_tree R (Do line act next) = inr (λ x. any_tree R (next x))
 any_tree R (Sub part next) = (below_all R part, inr (λ out. any_tree R (next out)))
-any_tree R (Enter f cells args next) = omega arith
+any_tree R (Enter e next) = omega arith
 any_tree R (Line line next) = tt
 
 -- ---- each part has its rank
@@ -114,9 +117,20 @@ module _ (p : ProgramRows) where
       by true e = (grind (arith, nat_tests), inl refl)
       by false e = tt
 
+  bounded_locates : (row access : ℕ) (target : Bool) (here : Here) (go : ℕ → ℕ → ActTree) → row < R
+      → Fits (Locate row target here) (bounded_before row access target here go)
+  bounded_locates row access target here go h = by (nat_lt access row) refl
+    where
+      by : (b : Bool) → nat_lt access row ≡ b
+          → Fits (Locate row target here) (if b then Sub (Locate access target here) (on_bounded go) else no_row)
+      by true e = (grind (arith, nat_tests), inl refl)
+      by false e = tt
+
   access_fits : (row : ℕ) (target : Bool) (here : Here) (a : AccessRow) → row < R → Fits (Locate row target here) (of_access p row target here a)
   access_fits row target here (AccessRow.Variable place levels of') h = inl one
   access_fits row target here (AccessRow.Reference place levels of') h = inl one
+  access_fits row target here (AccessRow.Conformant place levels of') h = inl one
+  access_fits row target here (AccessRow.Component inner index array of') h = bounded_locates row inner target here _ h
   access_fits row target here (AccessRow.Within record' field of') h = inl one
   access_fits row target here (AccessRow.Index inner index array of') h = locates row inner target here _ h
   access_fits row target here (AccessRow.Field inner field of') h = locates row inner target here _ h
@@ -138,9 +152,13 @@ module _ (p : ProgramRows) where
     | inr h ↦ there row target here (row_at p row) h
   ]
 
+  valued : (row t : ℕ) (here : Here) (b : Bool) → Fits (Eval row here) (access_value p row t here b)
+  valued row t here true = (omega arith, inl refl)
+  valued row t here false = (omega arith, inl refl)
+
   evaluated : (row : ℕ) (here : Here) (r : Row) → Fits (Eval row here) (expression_in p row here r)
   evaluated row here (Row.Expression e) = inl one
-  evaluated row here (Row.Access a) = (omega arith, inl refl)
+  evaluated row here (Row.Access a) = valued row (type_accessed a) here (is_conformant p (type_accessed a))
   evaluated row here Row.Nothing = tt
   evaluated row here (Row.Type t) = tt
   evaluated row here (Row.Name n) = tt
@@ -148,19 +166,49 @@ module _ (p : ProgramRows) where
   evaluated row here (Row.Statement s) = tt
   evaluated row here (Row.Item i) = tt
 
-  passed_formal : (at next levels : ℕ) (vs : List Value) (here : Here) (r : Row)
+  passed_formal : (at next levels : ℕ) (vs : Passed) (here : Here) (r : Row)
       → Fits (Pass at vs here) (with_formal r (λ place heading. pass_routine here next vs (routine_out p heading levels here.base place)))
   passed_formal at next levels vs here (Row.Name (NameRow.RoutineFormal place level heading)) = inl one
   passed_formal at next levels vs here r = tt
 
-  passed_item : (at : ℕ) (vs : List Value) (here : Here) (i : ItemRow) → Fits (Pass at vs here) (of_actual p vs here (Row.Item i))
+  sized : (at : ℕ) (vs : Passed) (here : Here) (o : Option Dimensions) (go : Dimensions → ActTree) → ((d : Dimensions) → Fits (Pass at vs here) (go d))
+      → Fits (Pass at vs here) (with_dimensions o go)
+  sized at vs here None go h = tt
+  sized at vs here (Some d) go h = h d
+
+  placed : (at access t : ℕ) (vs : Passed) (specs : List HeldSpec) (here : Here) (b : Bool) (go : List Extent → ℕ → ActTree)
+      → Fits (Pass at vs here) (array_placed p access t specs here b go)
+  placed at access t vs specs here true go = (omega arith, inl refl)
+  placed at access t vs specs here false go = (omega arith, inl refl)
+
+  placed_row : (at row : ℕ) (vs : Passed) (specs : List HeldSpec) (here : Here) (r : Row) (go : List Extent → ℕ → ActTree)
+      → Fits (Pass at vs here) (placed_in p row specs here r go)
+  placed_row at row vs specs here (Row.Access a) go = placed at row (type_accessed a) vs specs here (is_conformant p (type_accessed a)) go
+  placed_row at row vs specs here r go = tt
+
+  copied : (at access t : ℕ) (vs : Passed) (specs : List HeldSpec) (here : Here) (b : Bool) (go : WholeArray → ActTree)
+      → Fits (Pass at vs here) (array_copied p access t specs here b go)
+  copied at access t vs specs here true go = (omega arith, inl refl)
+  copied at access t vs specs here false go = (omega arith, inl refl)
+
+  copied_row : (at row : ℕ) (vs : Passed) (specs : List HeldSpec) (here : Here) (r : Row) (go : WholeArray → ActTree)
+      → Fits (Pass at vs here) (whole_in p row specs here r go)
+  copied_row at row vs specs here (Row.Access a) go = copied at row (type_accessed a) vs specs here (is_conformant p (type_accessed a)) go
+  copied_row at row vs specs here (Row.Expression e) go = (omega arith, inl refl)
+  copied_row at row vs specs here r go = tt
+
+  passed_item : (at : ℕ) (vs : Passed) (here : Here) (i : ItemRow) → Fits (Pass at vs here) (of_actual p vs here (Row.Item i))
   passed_item at vs here (ItemRow.Value e of' next) = (omega arith, inl refl)
   passed_item at vs here (ItemRow.Place a next) = (omega arith, inl refl)
+  passed_item at vs here (ItemRow.ArrayPlace first a of' next) =
+      sized at vs here (dimensions_of p of') _ (λ d. placed_row at a vs d.specs here (row_at p a) _)
+  passed_item at vs here (ItemRow.ArrayValue first v of' next) =
+      sized at vs here (dimensions_of p of') _ (λ d. copied_row at v vs d.specs here (row_at p v) _)
   passed_item at vs here (ItemRow.Routine routine levels next) = inl one
   passed_item at vs here (ItemRow.RoutineFormal formal levels next) = passed_formal at next levels vs here (row_at p formal)
   passed_item at vs here i = tt
 
-  passed_row : (at : ℕ) (vs : List Value) (here : Here) (r : Row) → Fits (Pass at vs here) (of_actual p vs here r)
+  passed_row : (at : ℕ) (vs : Passed) (here : Here) (r : Row) → Fits (Pass at vs here) (of_actual p vs here r)
   passed_row at vs here (Row.Item i) = passed_item at vs here i
   passed_row at vs here r = tt
 
@@ -384,15 +432,15 @@ module _ (p : ProgramRows) (W : WholeTables p) where
       by : (r : Routine) → routine_at p f ≡ Some r → (a b : Bool) → Ends (gives_call p f) true σ.steps
           (if a then ends (Halted (way_of 0 (Limited Stack))) (opened σ)
           else if b then ends (Halted (way_of 0 OutOfSteps)) (spent (opened σ))
-          else after_all (without_frame σ.top r.cells) (run (whole p f σ.top r) (with_frame r.cells args (opened σ))))
+          else after_all (without_frame σ.top (frame_size r args)) (run (whole p f σ.top r) (with_frame r args (opened σ))))
       by r q true b = halts (gives_call p f) true σ.steps _ (opened σ) (omega arith)
       by r q false true = halts (gives_call p f) true σ.steps _ (spent (opened σ)) (omega arith)
-      by r q false false = ends_after (gives_call p f) true σ.steps (without_frame σ.top r.cells) (λ τ. refl) _
-          (ends_less (gives_call p f) true σ.steps _ _ (omega arith) (h r (with_frame r.cells args (opened σ)) q (omega arith)))
+      by r q false false = ends_after (gives_call p f) true σ.steps (without_frame σ.top (frame_size r args)) (λ τ. refl) _
+          (ends_less (gives_call p f) true σ.steps _ _ (omega arith) (h r (with_frame r args (opened σ)) q (omega arith)))
 
       framed_so : (o : Option Routine) → routine_at p f ≡ o → Ends (gives_call p f) true σ.steps (in_frame (at_work p run f) args (opened σ) o)
       framed_so None q = no (sym (ap is_some q) ∙ there)
-      framed_so (Some r) q = by r q (nat_lt stack_end ((opened σ).top + r.cells)) (nat_lt (opened σ).steps r.cells)
+      framed_so (Some r) q = by r q (nat_lt stack_end ((opened σ).top + frame_size r args)) (nat_lt (opened σ).steps (frame_size r args))
 
   act_ends : (j : Takes) (b : Bool) (line : ℕ) (act : Act) (next : Answer act → State → Outcome) (σ : State)
       → ((x : Answer act) (τ : State) → τ.steps + cost act ≤ σ.steps → Ends j b σ.steps (next x τ))
@@ -436,9 +484,10 @@ module _ (p : ProgramRows) (W : WholeTables p) where
       (h (layer p part) (gives p part) (pays part) (rank (length p.rows) part) (part_fits p part) (part_good p W part g.0) σ (omega (arith, k, l)))
       (λ out τ q u. let m = fell_no_more (pays part) (Ended out) τ.steps σ.steps q in
       ends_less j b σ.steps τ.steps _ m (ends_more n h (next out) j b r (f out) (g.1 out u) τ (omega (arith, k, need_less K r τ.steps σ.steps m))))
-  ends_more n h (Enter f cells args next) j b r d g σ k = ends_allowed j b (limit_passed σ cells) σ _
-      (ends_joined (gives_call p f) j true b σ.steps _ _
-      (call_ends (run_of p n) f args σ g.0 (λ q τ e m. h (whole p f σ.top q) (gives_call p f) true 1 (omega arith, inl refl) (routine_good p W f σ.top q e) τ
+  ends_more n h (Enter e next) j b r d g σ k = ends_allowed j b (limit_passed σ (cells_entered e)) σ _
+      (ends_joined (gives_call p e.routine) j true b σ.steps _ _
+      (call_ends (run_of p n) e.routine (args_at e σ.top) σ g.0 (λ q τ i m.
+      h (whole p e.routine σ.top q) (gives_call p e.routine) true 1 (omega arith, inl refl) (routine_good p W e.routine σ.top q i) τ
       (omega (arith, k, d, need_less K 1 τ.steps σ.steps m))))
       (λ out τ q u. ends_paid j b σ.steps τ.steps _ q
       (ends_more n h (next out) j false (length p.rows + 3) (whatever (next out)) (g.1 out u) τ (after_step n r σ τ k q))))

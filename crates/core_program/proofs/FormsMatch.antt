@@ -4,7 +4,8 @@ use Rattle.std.proofs.Common.{nat_eq, refl, subst, suc, sym, true, zero}
 use Rattle.std.proofs.lemmas.Bool.{and_from}
 use Rattle.core_program.proofs.{ActionsMeant.no, WholeParts.and_both}
 use Rattle.core_program.proofs.SectionsFollow.{Follows, InHeading, InSection, in_section_too, list_end, section_inside, sections_follow}
-use Rattle.core_program.specs.{Classes.class_at, Classes.form_at, Classes.form_inside, Classes.form_of, ProgramRows.ProgramRows, WholeTables.WholeTables}
+use Rattle.core_program.specs.{ProgramRows.ProgramRows, TypeClasses.AreTypeClasses, TypeClasses.type_class, WholeTables.WholeTables}
+use Rattle.core_program.specs.Classes.{class_at, form_at, form_inside, form_of}
 use Rattle.core_program.specs.Headings.{both_match, lists_match, same_mode, same_result, section_at, sections_match, signature_at, signatures_match}
 use Rattle.core_program.specs.declared.{classes.Form.Form, headings.FormalSection.FormalSection, headings.Signature.Signature, rows.Mode.Mode}
 
@@ -23,12 +24,19 @@ mode_one : (m n : Mode) → same_mode m n ≡ true → m ≡ n
 mode_one Mode.Own Mode.Own h = refl
 mode_one Mode.Own Mode.Value h = no h
 mode_one Mode.Own Mode.Place h = no h
+mode_one Mode.Own Mode.Copy h = no h
 mode_one Mode.Value Mode.Own h = no h
 mode_one Mode.Value Mode.Value h = refl
 mode_one Mode.Value Mode.Place h = no h
+mode_one Mode.Value Mode.Copy h = no h
 mode_one Mode.Place Mode.Own h = no h
 mode_one Mode.Place Mode.Value h = no h
 mode_one Mode.Place Mode.Place h = refl
+mode_one Mode.Place Mode.Copy h = no h
+mode_one Mode.Copy Mode.Own h = no h
+mode_one Mode.Copy Mode.Value h = no h
+mode_one Mode.Copy Mode.Place h = no h
+mode_one Mode.Copy Mode.Copy h = refl
 
 result_one : (s t : Option ℕ) → same_result s t ≡ true → s ≡ t
 result_one None None h = refl
@@ -58,6 +66,7 @@ mode_itself : (m : Mode) → same_mode m m ≡ true
 mode_itself Mode.Own = refl
 mode_itself Mode.Value = refl
 mode_itself Mode.Place = refl
+mode_itself Mode.Copy = refl
 
 result_itself : (t : Option ℕ) → same_result t t ≡ true
 result_itself None = refl
@@ -77,7 +86,7 @@ alike_decides x y = (alike_one x y, λ e. subst (λ z. alike x z ≡ true) e (al
 
 -- ---- one section
 
-module _ (p : ProgramRows) (cs : List ℕ) (P : ℕ → Type 0) (lists : ℕ → ℕ → Bool)
+module _ (p : ProgramRows) (ts cs : List ℕ) (types : AreTypeClasses p ts) (P : ℕ → Type 0) (lists : ℕ → ℕ → Bool)
     (h : (a b : ℕ) → P a → P b → lists a b ≡ nat_eq (class_at cs a) (class_at cs b)) where
   none_heading : (g : Option Signature) (r : ℕ) → InHeading P g → false ≡ alike None (form_inside cs g r)
   none_heading None r i = absurd i
@@ -104,18 +113,19 @@ module _ (p : ProgramRows) (cs : List ℕ) (P : ℕ → Type 0) (lists : ℕ →
       ∙ ap (λ z. (same_result g.result k.result && nat_eq (class_at cs g.sections) (class_at cs k.sections)) && z) (h a b q s)
 
   sections_alike : (s t : Option (FormalSection × ℕ)) → InSection p P s → InSection p P t
-      → both_match s t (sections_match p lists) lists ≡ alike (form_of p cs s) (form_of p cs t)
+      → both_match s t (sections_match p lists) lists ≡ alike (form_of p ts cs s) (form_of p ts cs t)
   sections_alike None None i j = refl
   sections_alike None (Some (FormalSection.Names n q d, b)) i j = refl
   sections_alike None (Some (FormalSection.Heading k, b)) i j = none_heading (signature_at p k) (class_at cs b) j.0
   sections_alike (Some (FormalSection.Names m o c, a)) None i j = refl
   sections_alike (Some (FormalSection.Heading g, a)) None i j = heading_none (signature_at p g) (class_at cs a) i.0
   sections_alike (Some (FormalSection.Names m o c, a)) (Some (FormalSection.Names n q d, b)) i j =
-      ap (λ z. (same_mode m n && nat_eq c d && nat_eq o q) && z) (h a b i j)
+      ap (λ z. (same_mode m n && nat_eq c d && z) && lists a b) (types o q)
+      ∙ ap (λ z. (same_mode m n && nat_eq c d && nat_eq (type_class p ts o) (type_class p ts q)) && z) (h a b i j)
   sections_alike (Some (FormalSection.Names m o c, a)) (Some (FormalSection.Heading k, b)) i j =
-      names_heading m c o (class_at cs a) (signature_at p k) (class_at cs b) j.0
+      names_heading m c (type_class p ts o) (class_at cs a) (signature_at p k) (class_at cs b) j.0
   sections_alike (Some (FormalSection.Heading g, a)) (Some (FormalSection.Names n q d, b)) i j =
-      heading_names (signature_at p g) (class_at cs a) n d q (class_at cs b) i.0
+      heading_names (signature_at p g) (class_at cs a) n d (type_class p ts q) (class_at cs b) i.0
   sections_alike (Some (FormalSection.Heading g, a)) (Some (FormalSection.Heading k, b)) i j =
       headings_alike (signature_at p g) (signature_at p k) a b i.0 j.0 i.1 j.1
 
@@ -125,8 +135,8 @@ module _ (p : ProgramRows) (cs : List ℕ) (P : ℕ → Type 0) (lists : ℕ →
 abbrev pub Enough : ProgramRows → (n at : ℕ) → Type 0
 Enough p n at = (0 < n) × ((at ≡ 0) ⊎ (length p.rows < n + at))
 
-module _ (p : ProgramRows) (w : WholeTables p) (cs : List ℕ)
-    (same : (a b : ℕ) → alike (form_at p cs a) (form_at p cs b) ≡ nat_eq (class_at cs a) (class_at cs b)) where
+module _ (p : ProgramRows) (w : WholeTables p) (ts cs : List ℕ) (types : AreTypeClasses p ts)
+    (same : (a b : ℕ) → alike (form_at p ts cs a) (form_at p ts cs b) ≡ nat_eq (class_at cs a) (class_at cs b)) where
   reach : (n a list : ℕ) → length p.rows < suc n + a → a < length p.rows → Follows a list → Enough p n list
   reach n a list far l f = (omega (arith, far, l), elim f [ inl z ↦ inl z | inr k ↦ inr (omega (arith, far, k)) ])
 
@@ -142,5 +152,5 @@ module _ (p : ProgramRows) (w : WholeTables p) (cs : List ℕ)
   pub lists_alike : (n a b : ℕ) → Enough p n a → Enough p n b → lists_match n p a b ≡ nat_eq (class_at cs a) (class_at cs b)
   lists_alike zero a b h k = absurd (omega (arith, h.0))
   lists_alike (suc n) a b h k =
-      sections_alike p cs (Enough p n) (lists_match n p) (λ c d. lists_alike n c d) (section_at p a) (section_at p b) (onward n a h) (onward n b k)
+      sections_alike p ts cs types (Enough p n) (lists_match n p) (λ c d. lists_alike n c d) (section_at p a) (section_at p b) (onward n a h) (onward n b k)
       ∙ same a b

@@ -12,12 +12,19 @@ mode_told : (m n : Mode) → equal_modes m n ≡ true → m ≡ n
 mode_told Mode.Own Mode.Own h = refl
 mode_told Mode.Own Mode.Value h = no h
 mode_told Mode.Own Mode.Place h = no h
+mode_told Mode.Own Mode.Copy h = no h
 mode_told Mode.Value Mode.Own h = no h
 mode_told Mode.Value Mode.Value h = refl
 mode_told Mode.Value Mode.Place h = no h
+mode_told Mode.Value Mode.Copy h = no h
 mode_told Mode.Place Mode.Own h = no h
 mode_told Mode.Place Mode.Value h = no h
 mode_told Mode.Place Mode.Place h = refl
+mode_told Mode.Place Mode.Copy h = no h
+mode_told Mode.Copy Mode.Own h = no h
+mode_told Mode.Copy Mode.Value h = no h
+mode_told Mode.Copy Mode.Place h = no h
+mode_told Mode.Copy Mode.Copy h = refl
 
 result_told : (s t : Option ℕ) → option_eq nat_eq s t ≡ true → s ≡ t
 result_told None None h = refl

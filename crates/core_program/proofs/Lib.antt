@@ -9,6 +9,7 @@ pub mod Cells
 pub mod EachTreeEnds
 pub mod Effects
 pub mod Events
+pub mod FormsKnown
 pub mod FormsMatch
 pub mod FormsTold
 pub mod ItemsInOrder
@@ -26,8 +27,10 @@ pub mod RunsRecord
 pub mod RunsRepeat
 pub mod SectionsFollow
 pub mod Touches
+pub mod TypesClassed
 pub mod Ways
 pub mod WholeActions
+pub mod WholeArrays
 pub mod WholeParts
 pub mod WholeRows
 pub mod WholeStatements

@@ -1,10 +1,11 @@
 -- More fuel gives the same result.
 use Rattle.std.proofs.Common.{if◌then◌else◌, ◌+◌, ◌∙◌, ◌≡◌, [], ℕ, Bool, List, None, Option, Some, ap, arith, false, nat_lt, refl, subst, suc, sym, true, zero}
 use Rattle.cell_value.specs.declared.{entries.Touch.Touch, values.Value.Value, ways_out.Which.Which}
-use Rattle.core_program.specs.{Layer.layer, ProgramRows.ProgramRows, ProgramRows.routine_at, State.State, State.stack_end, declared.program.Routine.Routine}
+use Rattle.core_program.specs.{Layer.layer, Passed.args_at, Passed.cells_entered, State.State, State.stack_end, declared.program.Routine.Routine}
 use Rattle.core_program.specs.Acts.{ActResult, Spend, Stops, Went, limit_passed, perform}
-use Rattle.core_program.specs.Run.{End, Ended, Halted, Marked, Outcome, Result, Rules, after_all, at_work, call_closed, call_of, if_allowed, in_frame, in_front}
-use Rattle.core_program.specs.Run.{joined, on_done, on_end, opened, plain, recorded, run_of, walk, whole, with_frame, within, without_frame}
+use Rattle.core_program.specs.ProgramRows.{ProgramRows, routine_at}
+use Rattle.core_program.specs.Run.{End, Ended, Halted, Marked, Outcome, Result, Rules, after_all, at_work, call_closed, call_of, frame_size, if_allowed}
+use Rattle.core_program.specs.Run.{in_frame, in_front, joined, on_done, on_end, opened, plain, recorded, run_of, walk, whole, with_frame, within, without_frame}
 use Rattle.core_program.specs.Tree.{ActTree, Do, Enter, Halt, Line, Meaningless, Out, Part, Ret, Sub}
 
 -- what the first gives, the second gives
@@ -52,9 +53,9 @@ module _ {S E : Type 0} where
       on_done_less rules line σ (perform act (rules.state_of σ)) _ _ (λ x τ. walk_less rules sub sub' call call' hs hc (next x) τ)
   walk_less rules sub sub' call call' hs hc (Sub part next) σ =
       joined_less _ _ _ _ (hs part σ) (λ out τ. walk_less rules sub sub' call call' hs hc (next out) τ)
-  walk_less rules sub sub' call call' hs hc (Enter f cells args next) σ =
-      allowed_less (limit_passed (rules.state_of σ) cells) σ _ _
-      (joined_less _ _ _ _ (hc f args σ) (λ out τ. walk_less rules sub sub' call call' hs hc (next out) τ))
+  walk_less rules sub sub' call call' hs hc (Enter e next) σ =
+      allowed_less (limit_passed (rules.state_of σ) (cells_entered e)) σ _ _
+      (joined_less _ _ _ _ (hc e.routine (args_at e (rules.state_of σ).top) σ) (λ out τ. walk_less rules sub sub' call call' hs hc (next out) τ))
   walk_less rules sub sub' call call' hs hc (Line line next) σ =
       on_done_less rules line σ (perform (Spend 1) (rules.state_of σ)) _ _
       (λ x τ. in_front_less [] (rules.line line) _ _ (walk_less rules sub sub' call call' hs hc next τ))
@@ -75,9 +76,9 @@ frame_less : (p : ProgramRows) (run run' : ActTree → State → Outcome) → ((
     (σ : State) (o : Option Routine) → Less (in_frame (at_work p run f) args σ o) (in_frame (at_work p run' f) args σ o)
 frame_less p run run' h f args σ None = less_same _
 frame_less p run run' h f args σ (Some r) =
-    if_less (nat_lt stack_end (σ.top + r.cells)) _ _ _ _ (less_same _)
-    (if_less (nat_lt σ.steps r.cells) _ _ _ _ (less_same _)
-    (after_less (without_frame σ.top r.cells) _ _ (h (whole p f σ.top r) (with_frame r.cells args σ))))
+    if_less (nat_lt stack_end (σ.top + frame_size r args)) _ _ _ _ (less_same _)
+    (if_less (nat_lt σ.steps (frame_size r args)) _ _ _ _ (less_same _)
+    (after_less (without_frame σ.top (frame_size r args)) _ _ (h (whole p f σ.top r) (with_frame r args σ))))
 
 pub call_less : (p : ProgramRows) (run run' : ActTree → State → Outcome) → ((t : ActTree) (σ : State) → Less (run t σ) (run' t σ))
     → (f : ℕ) (args : List Value) (σ : State) → Less (call_of p run f args σ) (call_of p run' f args σ)

@@ -4,6 +4,7 @@ use Rattle.std.proofs.lemmas.List.{map-append}
 use Rattle.cell_value.specs.declared.{entries.Touch.Touch, values.Value.Value, ways_out.Which.Which}
 use Rattle.core_program.proofs.MoreDepthSameResult.{Less}
 use Rattle.core_program.specs.Acts.{ActResult, Spend, Stops, Went, limit_passed, perform}
+use Rattle.core_program.specs.Passed.{args_at, cells_entered}
 use Rattle.core_program.specs.Run.{End, Ended, Halted, Marked, Result, Rules, ends, if_allowed, in_front, joined, later_by, on_done, on_end, walk}
 use Rattle.core_program.specs.Tree.{ActTree, Do, Enter, Halt, Line, Meaningless, Out, Part, Ret, Sub, bind, way_of}
 
@@ -86,10 +87,11 @@ module _ {S E : Type 0} where
       on_done_joined rules line σ (perform act (rules.state_of σ)) _ _ _ (λ x τ. walk_bind rules sub call (next x) f τ)
   walk_bind rules sub call (Sub part next) f σ =
       ap (joined (sub part σ)) (λ i out τ. walk_bind rules sub call (next out) f τ i) ∙ sym (joined_joined (sub part σ) _ _)
-  walk_bind rules sub call (Enter r cells args next) f σ =
-      ap (if_allowed (limit_passed (rules.state_of σ) cells) σ)
-      (ap (joined (call r args σ)) (λ i out τ. walk_bind rules sub call (next out) f τ i) ∙ sym (joined_joined (call r args σ) _ _))
-      ∙ sym (allowed_joined (limit_passed (rules.state_of σ) cells) σ _ (λ out τ. walk rules sub call (f out) τ))
+  walk_bind rules sub call (Enter e next) f σ =
+      ap (if_allowed (limit_passed (rules.state_of σ) (cells_entered e)) σ)
+      (ap (joined (call e.routine (args_at e (rules.state_of σ).top) σ)) (λ i out τ. walk_bind rules sub call (next out) f τ i)
+      ∙ sym (joined_joined (call e.routine (args_at e (rules.state_of σ).top) σ) _ _))
+      ∙ sym (allowed_joined (limit_passed (rules.state_of σ) (cells_entered e)) σ _ (λ out τ. walk rules sub call (f out) τ))
   walk_bind rules sub call (Line line next) f σ =
       on_done_joined rules line σ (perform (Spend 1) (rules.state_of σ)) _ _ _
       (λ x τ. ap (in_front [] (rules.line line)) (walk_bind rules sub call next f τ)

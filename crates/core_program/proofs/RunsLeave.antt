@@ -9,9 +9,10 @@ use Rattle.core_program.proofs.ActsLeave.{DoneLeaves, Leaves, MayEnter, act_leav
 use Rattle.core_program.proofs.Cells.{cleared_above, cleared_below, cleared_gone, filled_above, filled_below, filled_there, frame_length}
 use Rattle.core_program.proofs.Ways.{Ran, RanCall, RanFrame, ending, front, of_call}
 use Rattle.core_program.proofs.Ways as ways
-use Rattle.core_program.specs.{Blocks.cleared, Blocks.filled, ProgramRows.ProgramRows, State.IsSound, State.State, State.stack_end, Tree.ActTree, Tree.way_of}
+use Rattle.core_program.specs.{Blocks.cleared, Blocks.filled, Passed.args_at, Passed.cells_entered, ProgramRows.ProgramRows, State.IsSound, State.State}
+use Rattle.core_program.specs.{State.stack_end, Tree.ActTree, Tree.way_of, declared.program.Routine.Routine}
 use Rattle.core_program.specs.Acts.{Act, ActResult, Answer, Fault, Limited, OutOfSteps, Spend, Trouble, perform}
-use Rattle.core_program.specs.Run.{Call, End, Ended, Halted, Marked, Result, call_closed, frame_cells, opened, with_frame, without_frame}
+use Rattle.core_program.specs.Run.{Call, End, Ended, Halted, Marked, Result, call_closed, frame_cells, frame_size, opened, with_frame, without_frame}
 
 -- an end of a part by which the run goes on, or by which it stops
 abbrev pub IsProper : End → Type 0
@@ -67,18 +68,18 @@ shared_above base n a h = by (nat_lt a heap_end) (nat_lt a base) (nat_lt a (base
     by false y u z f g h = h
 
 -- a cell that is shared is none of a frame at the base, before and after
-pub framed_shared : (σ : State) (n : ℕ) (args : List Value) (a : ℕ) → σ.top + n ≤ stack_end → is_shared σ.top a ≡ true
-    → get (filled σ.top (frame_cells n args) σ.cells) a ≡ get σ.cells a
-framed_shared σ n args a k h = elim (shared_so σ.top a h) [
-  | inl l ↦ filled_below σ.top (frame_cells n args) σ.cells a l
-  | inr l ↦ filled_above σ.top (frame_cells n args) σ.cells a (omega (arith, frame_length n args))
+pub framed_shared : (σ : State) (q : Routine) (args : List Value) (a : ℕ) → σ.top + frame_size q args ≤ stack_end → is_shared σ.top a ≡ true
+    → get (filled σ.top (frame_cells q args) σ.cells) a ≡ get σ.cells a
+framed_shared σ q args a k h = elim (shared_so σ.top a h) [
+  | inl l ↦ filled_below σ.top (frame_cells q args) σ.cells a l
+  | inr l ↦ filled_above σ.top (frame_cells q args) σ.cells a (omega (arith, frame_length q args))
 ]
 
-pub sound_framed : (n : ℕ) (args : List Value) (σ : State) → IsSound σ → σ.top + n ≤ stack_end → IsSound (with_frame n args σ)
-sound_framed n args σ s k = record {
+pub sound_framed : (q : Routine) (args : List Value) (σ : State) → IsSound σ → σ.top + frame_size q args ≤ stack_end → IsSound (with_frame q args σ)
+sound_framed q args σ s k = record {
   stack = λ a h. stack a h (nat_lt a σ.top) refl;
-  above_stack = λ a h l. filled_above σ.top (frame_cells n args) σ.cells a (omega (arith, frame_length n args)) ∙ s.above_stack a (omega arith) l;
-  above_heap = λ a h. filled_above σ.top (frame_cells n args) σ.cells a (omega (arith, frame_length n args, s.heap_begins)) ∙ s.above_heap a h;
+  above_stack = λ a h l. filled_above σ.top (frame_cells q args) σ.cells a (omega (arith, frame_length q args)) ∙ s.above_stack a (omega arith) l;
+  above_heap = λ a h. filled_above σ.top (frame_cells q args) σ.cells a (omega (arith, frame_length q args, s.heap_begins)) ∙ s.above_heap a h;
   stack_fits = k;
   heap_begins = s.heap_begins;
   heap_fits = s.heap_fits;
@@ -87,21 +88,21 @@ sound_framed n args σ s k = record {
   depth = s.depth;
 }
   where
-    stack : (a : ℕ) → a < σ.top + n → (b : Bool) → nat_lt a σ.top ≡ b → is_some (get (filled σ.top (frame_cells n args) σ.cells) a) ≡ true
+    stack : (a : ℕ) → a < σ.top + frame_size q args → (b : Bool) → nat_lt a σ.top ≡ b → is_some (get (filled σ.top (frame_cells q args) σ.cells) a) ≡ true
     stack a h true e =
         let l : a < σ.top = grind (arith, nat_tests) in
-        ap is_some (filled_below σ.top (frame_cells n args) σ.cells a l) ∙ s.stack a l
+        ap is_some (filled_below σ.top (frame_cells q args) σ.cells a l) ∙ s.stack a l
     stack a h false e =
         let l : σ.top ≤ a = grind (arith, nat_tests) in
-        filled_there σ.top (frame_cells n args) σ.cells a l (omega (arith, frame_length n args))
+        filled_there σ.top (frame_cells q args) σ.cells a l (omega (arith, frame_length q args))
 
 -- a frame was made, something was done, and the frame is removed
-pub unframed_leaves : {τ : State} {w : List Touch} {k : ℕ} (n : ℕ) (args : List Value) (σ : State) → IsSound σ → σ.top + n ≤ stack_end
-    → Leaves (with_frame n args σ) w k τ → Leaves σ w k (without_frame σ.top n τ)
-unframed_leaves {τ = τ} {w = w} n args σ s fits h = record {
+pub unframed_leaves : {τ : State} {w : List Touch} {k : ℕ} (q : Routine) (args : List Value) (σ : State) → IsSound σ → σ.top + frame_size q args ≤ stack_end
+    → Leaves (with_frame q args σ) w k τ → Leaves σ w k (without_frame σ.top (frame_size q args) τ)
+unframed_leaves {τ = τ} {w = w} q args σ s fits h = record {
   top = refl;
-  cells = λ a q. after a (shared_so σ.top a q) ∙ h.cells a (shared_above σ.top n a q) ∙ ap (written a w) (framed_shared σ n args a fits q);
-  shows = λ a q. subst (λ o. Serves o a w) (framed_shared σ n args a fits q) (h.shows a (shared_above σ.top n a q));
+  cells = λ a c. after a (shared_so σ.top a c) ∙ h.cells a (shared_above σ.top (frame_size q args) a c) ∙ ap (written a w) (framed_shared σ q args a fits c);
+  shows = λ a c. subst (λ o. Serves o a w) (framed_shared σ q args a fits c) (h.shows a (shared_above σ.top (frame_size q args) a c));
   fresh = h.fresh;
   items = h.items;
   place = h.place;
@@ -111,9 +112,9 @@ unframed_leaves {τ = τ} {w = w} n args σ s fits h = record {
   depth = h.depth;
   countable = h.countable;
   sound = record {
-    stack = λ a l. ap is_some (cleared_below σ.top n τ.cells a l) ∙ h.sound.stack a (omega (arith, h.top));
-    above_stack = λ a l m. above a l m (nat_lt a (σ.top + n)) refl;
-    above_heap = λ a l. cleared_above σ.top n τ.cells a (omega (arith, h.sound.heap_begins)) ∙ h.sound.above_heap a l;
+    stack = λ a l. ap is_some (cleared_below σ.top (frame_size q args) τ.cells a l) ∙ h.sound.stack a (omega (arith, h.top));
+    above_stack = λ a l m. above a l m (nat_lt a (σ.top + frame_size q args)) refl;
+    above_heap = λ a l. cleared_above σ.top (frame_size q args) τ.cells a (omega (arith, h.sound.heap_begins)) ∙ h.sound.above_heap a l;
     stack_fits = s.stack_fits;
     heap_begins = h.sound.heap_begins;
     heap_fits = h.sound.heap_fits;
@@ -123,15 +124,16 @@ unframed_leaves {τ = τ} {w = w} n args σ s fits h = record {
   };
 }
   where
-    after : (a : ℕ) → (a < σ.top) ⊎ (heap_start ≤ a) → get (cleared σ.top n τ.cells) a ≡ get τ.cells a
-    after a (inl l) = cleared_below σ.top n τ.cells a l
-    after a (inr l) = cleared_above σ.top n τ.cells a (omega arith)
+    after : (a : ℕ) → (a < σ.top) ⊎ (heap_start ≤ a) → get (cleared σ.top (frame_size q args) τ.cells) a ≡ get τ.cells a
+    after a (inl l) = cleared_below σ.top (frame_size q args) τ.cells a l
+    after a (inr l) = cleared_above σ.top (frame_size q args) τ.cells a (omega arith)
 
-    above : (a : ℕ) → σ.top ≤ a → a < stack_end → (b : Bool) → nat_lt a (σ.top + n) ≡ b → get (cleared σ.top n τ.cells) a ≡ None
-    above a l m true e = cleared_gone σ.top n τ.cells a l (grind (arith, nat_tests))
+    above : (a : ℕ) → σ.top ≤ a → a < stack_end → (b : Bool) → nat_lt a (σ.top + frame_size q args) ≡ b
+        → get (cleared σ.top (frame_size q args) τ.cells) a ≡ None
+    above a l m true e = cleared_gone σ.top (frame_size q args) τ.cells a l (grind (arith, nat_tests))
     above a l m false e =
-        let q : σ.top + n ≤ a = grind (arith, nat_tests) in
-        cleared_above σ.top n τ.cells a q ∙ h.sound.above_stack a (omega (arith, h.top)) m
+        let z : σ.top + frame_size q args ≤ a = grind (arith, nat_tests) in
+        cleared_above σ.top (frame_size q args) τ.cells a z ∙ h.sound.above_stack a (omega (arith, h.top)) m
 
 pub sound_opened : (σ : State) → IsSound σ → MayEnter σ → IsSound (opened σ)
 sound_opened σ s m = record {
@@ -199,10 +201,10 @@ module _ (p : ProgramRows) where
         let l = (ran_leaves h s).leaves in
         left_front y.events l (ran_leaves g l.sound)
     ran_leaves (ways.AtLimit {σ = σ} q) s = left_ending σ tt s
-    ran_leaves (ways.CallStopped {cells = cells} {σ = σ} q h e) s = left_call (call_leaves h s (limits_hold σ cells q))
-    ran_leaves (ways.CallEnded {f = f} {cells = cells} {args = args} {σ = σ} {y = y} q h e g) s =
-        let l = (call_leaves h s (limits_hold σ cells q)).leaves in
-        left_front (of_call f args σ y).events l (ran_leaves g l.sound)
+    ran_leaves (ways.CallStopped {e = e} {σ = σ} q h d) s = left_call (call_leaves h s (limits_hold σ (cells_entered e) q))
+    ran_leaves (ways.CallEnded {e = e} {σ = σ} {y = y} q h d g) s =
+        let l = (call_leaves h s (limits_hold σ (cells_entered e) q)).leaves in
+        left_front (of_call e.routine (args_at e σ.top) σ y).events l (ran_leaves g l.sound)
     ran_leaves (ways.NotBegun {line = line} {why = why} {τ = τ} q) s =
         let l = act_left (Spend 1) s q in
         left_front [] l (left_ending τ (proper_stop line why) l.sound)
@@ -214,9 +216,9 @@ module _ (p : ProgramRows) where
     frame_leaves (ways.NoRoom {σ = σ} e t) s = left_ending σ tt s
     frame_leaves (ways.NoSteps {σ = σ} e t u) s = record { leaves = leaves_steps σ 0 (omega arith) s; proper = tt }
     frame_leaves (ways.Worked {args = args} {σ = σ} {q = q} e t u h) s =
-        let m : σ.top + q.cells ≤ stack_end = grind (arith, nat_tests) in
-        let l = ran_leaves h (sound_framed q.cells args σ s m) in
-        record { leaves = unframed_leaves q.cells args σ s m l.leaves; proper = l.proper }
+        let m : σ.top + frame_size q args ≤ stack_end = grind (arith, nat_tests) in
+        let l = ran_leaves h (sound_framed q args σ s m) in
+        record { leaves = unframed_leaves q args σ s m l.leaves; proper = l.proper }
 
     pub call_leaves : {n f : ℕ} {args : List Value} {σ : State} {r : Result State Call} → RanCall p n f args σ r → IsSound σ → MayEnter σ → Inner σ r
     call_leaves (ways.Closed {σ = σ} c h) s m =

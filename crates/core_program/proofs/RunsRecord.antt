@@ -6,7 +6,8 @@ use Rattle.core_program.proofs.{ActsLeave.MayEnter, ActsLeave.limits_hold, Event
 use Rattle.core_program.proofs.RunsLeave.{act_left, call_leaves, ran_leaves, sound_framed, sound_opened}
 use Rattle.core_program.proofs.Ways.{Ran, RanCall, RanFrame, front, of_call}
 use Rattle.core_program.proofs.Ways as ways
-use Rattle.core_program.specs.{Acts.Spend, ProgramRows.ProgramRows, Run.Call, Run.Marked, Run.Result, Run.record_of, State.IsSound, State.State, Tree.ActTree}
+use Rattle.core_program.specs.{Acts.Spend, Passed.args_at, Passed.cells_entered, ProgramRows.ProgramRows, State.IsSound, State.State, Tree.ActTree}
+use Rattle.core_program.specs.Run.{Call, Marked, Result, record_of}
 
 -- the record is that of a call, and the records of the calls below it come first of these
 pub record MadeBy (p : ProgramRows) (c : Call) (cs : List Call) : Type 0 where
@@ -80,13 +81,14 @@ module _ (p : ProgramRows) (xs : List ℕ) where
         let l = (ran_leaves p h s).leaves in
         records_front y.log y.events z (ran_records h s i) (ran_records g l.sound (l.items ∙ i))
     ran_records (ways.AtLimit q) s i = tt
-    ran_records (ways.CallStopped {cells = cells} {σ = σ} q h e) s i =
-        let m = limits_hold σ cells q in
+    ran_records (ways.CallStopped {e = e} {σ = σ} q h d) s i =
+        let m = limits_hold σ (cells_entered e) q in
         records_call h s m i (call_records h s m i)
-    ran_records (ways.CallEnded {f = f} {cells = cells} {args = args} {σ = σ} {y = y} {s = z} q h e g) s i =
-        let m = limits_hold σ cells q in
+    ran_records (ways.CallEnded {e = e} {σ = σ} {y = y} {s = z} q h d g) s i =
+        let m = limits_hold σ (cells_entered e) q in
         let l = (call_leaves p h s m).leaves in
-        records_front y.log (of_call f args σ y).events z (records_call h s m i (call_records h s m i)) (ran_records g l.sound (l.items ∙ i))
+        records_front y.log (of_call e.routine (args_at e σ.top) σ y).events z (records_call h s m i (call_records h s m i))
+        (ran_records g l.sound (l.items ∙ i))
     ran_records (ways.NotBegun q) s i = tt
     ran_records (ways.Began {w = w} {r = y} q h) s i =
         let l = act_left (Spend 1) s q in
@@ -95,7 +97,7 @@ module _ (p : ProgramRows) (xs : List ℕ) where
     frame_records : {n f : ℕ} {args : List Value} {σ : State} {r : Result State Call} → RanFrame p n f args σ r → IsSound σ → σ.items ≡ xs → Records r
     frame_records (ways.NoRoom e t) s i = tt
     frame_records (ways.NoSteps e t u) s i = tt
-    frame_records (ways.Worked {args = args} {σ = σ} {q = q} e t u h) s i = ran_records h (sound_framed q.cells args σ s (grind (arith, nat_tests))) i
+    frame_records (ways.Worked {args = args} {σ = σ} {q = q} e t u h) s i = ran_records h (sound_framed q args σ s (grind (arith, nat_tests))) i
 
     call_records : {n f : ℕ} {args : List Value} {σ : State} {r : Result State Call} → RanCall p n f args σ r → IsSound σ → MayEnter σ → σ.items ≡ xs
         → Records r

@@ -1,6 +1,6 @@
 -- Two states that agree on what a run's touches show of the first give the same run.
-use Rattle.std.proofs.Common.{if◌then◌else◌, ◌++◌, ◌+◌, ◌∙◌, ◌∷◌, ◌≡◌, ◌≤◌, [], ℕ, Bool, List, Option, Some, ap, append_assoc, arith, false, inl, inr, length}
-use Rattle.std.proofs.Common.{nat_lt, refl, subst, suc, sym, zero}
+use Rattle.std.proofs.Common.{if◌then◌else◌, ◌++◌, ◌+◌, ◌∙◌, ◌∷◌, ◌≡◌, ◌≤◌, [], ℕ, Bool, List, None, Option, Some, ap, append_assoc, arith, false, inl, inr}
+use Rattle.std.proofs.Common.{length, nat_lt, refl, subst, suc, sym, zero}
 use Rattle.std.{proofs.lemmas.Bool.Decides.eqb_tells, proofs.lemmas.Bool.Decides.nat_tests, specs.FinMap.insert, specs.FinMap.remove}
 use Rattle.cell_value.specs.declared.{entries.Touch.Touch, values.Value.Value, ways_out.WayOut.WayOut, ways_out.Which.Which, ways_out.Which.TheVariants.Stack}
 use Rattle.core_program.proofs.{Effects.SameLog, Effects.same_append, Events.events_append, Events.events_length, Events.unmarked, Touches.Serves}
@@ -10,11 +10,11 @@ use Rattle.core_program.proofs.Cells.{Map, got_other, got_same, removed_other, r
 use Rattle.core_program.proofs.RunsLeave.{act_left, call_leaves, ran_leaves, sound_framed, sound_opened}
 use Rattle.core_program.proofs.Ways.{Ran, RanCall, RanFrame, ending, front, inside, of_call}
 use Rattle.core_program.proofs.Ways as ways
-use Rattle.core_program.specs.{Agree.EndedByItself, Blocks.cleared, Blocks.filled, Tree.ActTree, Tree.Out, Tree.way_of, declared.program.Routine.Routine}
+use Rattle.core_program.specs.{Agree.EndedByItself, Blocks.cleared, Blocks.filled, Passed.Entering, Passed.args_at, Passed.cells_entered}
+use Rattle.core_program.specs.{ProgramRows.ProgramRows, ProgramRows.routine_at, Tree.ActTree, Tree.Out, Tree.way_of, declared.program.Routine.Routine}
 use Rattle.core_program.specs.Acts.{Fault, Limited, OutOfSteps, Spend, Trouble, perform, spent}
-use Rattle.core_program.specs.ProgramRows.{ProgramRows, routine_at}
-use Rattle.core_program.specs.Run.{Call, End, Ended, Halted, Marked, Outcome, Result, after_all, at_work, call_closed, call_of, ends, frame_cells, if_allowed}
-use Rattle.core_program.specs.Run.{in_frame, in_front, joined, on_done, on_end, opened, plain, recorded, run_of, whole, with_frame, without_frame}
+use Rattle.core_program.specs.Run.{Call, End, Ended, Halted, Marked, Outcome, Result, after_all, at_work, call_closed, call_of, ends, frame_cells, frame_size}
+use Rattle.core_program.specs.Run.{if_allowed, in_frame, in_front, joined, on_done, on_end, opened, plain, recorded, run_of, whole, with_frame, without_frame}
 use Rattle.core_program.specs.State.{IsSound, State, most_calls, most_depth, stack_end}
 
 -- an end that a record may stand for
@@ -175,13 +175,13 @@ same_cleared : (w : List Touch) (base n : ℕ) (m k : Map) → SameCells w m k �
 same_cleared w base zero m k h = h
 same_cleared w base (suc n) m k h = same_cleared w (base + 1) n (remove m base) (remove k base) (same_remove w m k base h)
 
-agree_framed : {from to : ℕ} {w : List Touch} {σ τ : State} (n : ℕ) (args : List Value) → Agree from to w σ τ
-    → Agree from to w (with_frame n args σ) (with_frame n args τ)
-agree_framed {w = w} {σ = σ} {τ = τ} n args h = record {
-  top = ap (λ b. b + n) h.top;
+agree_framed : {from to : ℕ} {w : List Touch} {σ τ : State} (q : Routine) (args : List Value) → Agree from to w σ τ
+    → Agree from to w (with_frame q args σ) (with_frame q args τ)
+agree_framed {w = w} {σ = σ} {τ = τ} q args h = record {
+  top = ap (λ b. b + frame_size q args) h.top;
   fresh = h.fresh;
-  cells = subst (λ b. SameCells w (filled σ.top (frame_cells n args) σ.cells) (filled b (frame_cells n args) τ.cells)) h.top
-      (same_filled w σ.top (frame_cells n args) σ.cells τ.cells h.cells);
+  cells = subst (λ b. SameCells w (filled σ.top (frame_cells q args) σ.cells) (filled b (frame_cells q args) τ.cells)) h.top
+      (same_filled w σ.top (frame_cells q args) σ.cells τ.cells h.cells);
   place = h.place;
   items = h.items;
 }
@@ -216,14 +216,14 @@ module _ (p : ProgramRows) where
   abbrev next_of : ℕ → (Out → ActTree) → Out → State → Outcome
   next_of n next out τ = run_of p (suc n) (next out) τ
 
-  abbrev entered : ℕ → ℕ → List Value → (Out → ActTree) → Option Which → State → Outcome
-  entered n f args next o τ = if_allowed o τ (joined (call_of p (run_of p n) f args τ) (next_of n next))
+  abbrev entered : ℕ → Entering → (base : ℕ) → (Out → ActTree) → Option Which → State → Outcome
+  entered n e base next o τ = if_allowed o τ (joined (call_of p (run_of p n) e.routine (args_at e base) τ) (next_of n next))
 
   abbrev choice : ℕ → ℕ → List Value → Routine → State → Bool → Bool → Outcome
   choice n f args q τ a b =
       if a then ends (Halted (way_of 0 (Limited Stack))) τ
       else if b then ends (Halted (way_of 0 OutOfSteps)) (spent τ)
-      else after_all (without_frame τ.top q.cells) (run_of p n (whole p f τ.top q) (with_frame q.cells args τ))
+      else after_all (without_frame τ.top (frame_size q args)) (run_of p n (whole p f τ.top q) (with_frame q args τ))
 
   abbrev pub InsideAgain : (n f : ℕ) → List Value → State → Result State Call → Type 0
   InsideAgain n f args σ r = (from to : ℕ) (τ : State) (v : List Touch) → Agree from to (r.log ++ v) σ τ → InnerRoom σ τ r
@@ -267,17 +267,19 @@ module _ (p : ProgramRows) where
         ended_again (next_of n next) (ran_again h s from to τ (z.log ++ v) (subst (λ w. Agree from to w σ τ) (append_assoc y.log z.log v) a)
         (room_before y z k m e)) e l k (ran_again g l.sound)
     ran_again (ways.AtLimit q) s = λ from to τ v a k. absurd k.itself
-    ran_again (ways.CallStopped {n = n} {f = f} {cells = cells} {args = args} {next = next} {σ = σ} {y = y} q h e) s = λ from to τ v a k.
+    ran_again (ways.CallStopped {n = n} {e = e} {next = next} {σ = σ} {y = y} q h d) s = λ from to τ v a k.
         let m = room_inside k in
-        again_at (ap (λ o. entered n f args next o τ) (limit_none σ τ cells a.top q m.1))
-        (stopped_again (next_of n next) (called_again n f args (call_again h s (limits_hold σ cells q) from to τ v a m.0)) e)
-    ran_again (ways.CallEnded {n = n} {f = f} {cells = cells} {args = args} {next = next} {σ = σ} {y = y} {s = z} q h e g) s = λ from to τ v a k.
-        let l = (call_leaves p h s (limits_hold σ cells q)).leaves in
-        let d = (ran_leaves p g l.sound).leaves.steps in
-        let m = room_inside (room_before (of_call f args σ y) z k d e) in
-        again_at (ap (λ o. entered n f args next o τ) (limit_none σ τ cells a.top q m.1))
-        (ended_again (next_of n next) (called_again n f args (call_again h s (limits_hold σ cells q) from to τ (z.log ++ v)
-        (subst (λ w. Agree from to w σ τ) (append_assoc y.log z.log v) a) m.0)) e l k (ran_again g l.sound))
+        again_at (ap (λ o. entered n e τ.top next o τ) (limit_none σ τ (cells_entered e) a.top q m.1) ∙ ap (λ b. entered n e b next None τ) (sym a.top))
+        (stopped_again (next_of n next)
+        (called_again n e.routine (args_at e σ.top) (call_again h s (limits_hold σ (cells_entered e) q) from to τ v a m.0)) d)
+    ran_again (ways.CallEnded {n = n} {e = e} {next = next} {σ = σ} {y = y} {s = z} q h d g) s = λ from to τ v a k.
+        let l = (call_leaves p h s (limits_hold σ (cells_entered e) q)).leaves in
+        let i = (ran_leaves p g l.sound).leaves.steps in
+        let m = room_inside (room_before (of_call e.routine (args_at e σ.top) σ y) z k i d) in
+        again_at (ap (λ o. entered n e τ.top next o τ) (limit_none σ τ (cells_entered e) a.top q m.1) ∙ ap (λ b. entered n e b next None τ) (sym a.top))
+        (ended_again (next_of n next)
+        (called_again n e.routine (args_at e σ.top) (call_again h s (limits_hold σ (cells_entered e) q) from to τ (z.log ++ v)
+        (subst (λ w. Agree from to w σ τ) (append_assoc y.log z.log v) a) m.0)) d l k (ran_again g l.sound))
     ran_again (ways.NotBegun {n = n} {line = line} {next = next} {σ = σ} {why = why} {w = w} {τ = ρ} q) s = λ from to τ v a k.
         let d = (subst (λ d. DoneAgain from to d (perform (Spend 1) τ) σ τ v) q (act_again from to (Spend 1) σ τ v))
         (subst (λ u. Agree from to u σ τ) (append_assoc w [] v) a) k.steps (stop_fault line why k.itself) in
@@ -300,23 +302,25 @@ module _ (p : ProgramRows) where
     frame_again (ways.NoRoom e t) s = λ from to τ v a k. absurd k.itself
     frame_again (ways.NoSteps e t u) s = λ from to τ v a k. absurd k.itself
     frame_again (ways.Worked {n = n} {f = f} {args = args} {σ = σ} {q = q} {y = y} e t u h) s = λ from to τ v a k.
-        let m : σ.top + q.cells ≤ stack_end = grind (arith, nat_tests) in
-        let sound = sound_framed q.cells args σ s m in
+        let m : σ.top + frame_size q args ≤ stack_end = grind (arith, nat_tests) in
+        let sound = sound_framed q args σ s m in
         let left = ran_leaves p h sound in
-        let j : q.cells ≤ σ.steps = grind (arith, nat_tests) in
-        let steps : q.cells ≤ τ.steps = omega (arith, j, k.steps, left.leaves.steps) in
-        let x : nat_lt stack_end (τ.top + q.cells) ≡ false = (let z : τ.top + q.cells ≤ stack_end = omega (arith, a.top) in grind (arith, nat_tests)) in
-        let z : nat_lt τ.steps q.cells ≡ false = grind (arith, nat_tests) in
-        let b = ran_again h sound from to (with_frame q.cells args τ) v (agree_framed q.cells args a)
+        let j : frame_size q args ≤ σ.steps = grind (arith, nat_tests) in
+        let steps : frame_size q args ≤ τ.steps = omega (arith, j, k.steps, left.leaves.steps) in
+        let x : nat_lt stack_end (τ.top + frame_size q args) ≡ false =
+        (let z : τ.top + frame_size q args ≤ stack_end = omega (arith, a.top) in grind (arith, nat_tests)) in
+        let z : nat_lt τ.steps (frame_size q args) ≡ false = grind (arith, nat_tests) in
+        let b = ran_again h sound from to (with_frame q args τ) v (agree_framed q args a)
         (record { itself = k.itself; steps = omega (arith, j, steps, k.steps); calls = k.calls; depth = k.depth }) in
         record {
-          run = record { end = b.run.end; after = without_frame τ.top q.cells b.run.after; log = b.run.log; events = b.run.events };
-          is = ap (in_frame (at_work p (run_of p n) f) args τ) e ∙ ap (λ a. choice n f args q τ a (nat_lt τ.steps q.cells)) x ∙ ap (choice n f args q τ false) z
-              ∙ ap (λ base. after_all (without_frame τ.top q.cells) (run_of p n (whole p f base q) (with_frame q.cells args τ))) (sym a.top)
-              ∙ ap (after_all (without_frame τ.top q.cells)) b.is;
+          run = record { end = b.run.end; after = without_frame τ.top (frame_size q args) b.run.after; log = b.run.log; events = b.run.events };
+          is = ap (in_frame (at_work p (run_of p n) f) args τ) e ∙ ap (λ a. choice n f args q τ a (nat_lt τ.steps (frame_size q args))) x
+              ∙ ap (choice n f args q τ false) z
+              ∙ ap (λ base. after_all (without_frame τ.top (frame_size q args)) (run_of p n (whole p f base q) (with_frame q args τ))) (sym a.top)
+              ∙ ap (after_all (without_frame τ.top (frame_size q args))) b.is;
           end = b.end;
           log = b.log;
-          agree = agree_unframed q.cells σ.top τ.top a.top b.agree;
+          agree = agree_unframed (frame_size q args) σ.top τ.top a.top b.agree;
           step = record { steps = omega (arith, j, steps, b.step.steps); calls = b.step.calls; depth = b.step.depth };
         }
 

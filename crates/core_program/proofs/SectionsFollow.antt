@@ -56,6 +56,8 @@ module _ (p : ProgramRows) (w : WholeTables p) where
   in_row at (Row.Item (ItemRow.Element x next)) f = tt
   in_row at (Row.Item (ItemRow.Value v of' next)) f = tt
   in_row at (Row.Item (ItemRow.Place a next)) f = tt
+  in_row at (Row.Item (ItemRow.ArrayPlace first a of' next)) f = tt
+  in_row at (Row.Item (ItemRow.ArrayValue first v of' next)) f = tt
   in_row at (Row.Item (ItemRow.Routine routine levels next)) f = tt
   in_row at (Row.Item (ItemRow.RoutineFormal formal levels next)) f = tt
   in_row at (Row.Item (ItemRow.Written v of' next)) f = tt

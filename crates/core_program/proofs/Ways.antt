@@ -4,11 +4,11 @@ use Rattle.std.proofs.Common.{zero}
 use Rattle.cell_value.specs.declared.{entries.Touch.Touch, values.Value.Value, ways_out.WayOut.WayOut, ways_out.Which.Which, ways_out.Which.TheVariants.Stack}
 use Rattle.cell_value.specs.declared.ways_out.WayOut.TheVariants as way
 use Rattle.core_program.proofs.{OutcomesCompose.none_some, OutcomesCompose.some_same, RunAtAnyDepth.call_deeper}
-use Rattle.core_program.specs.{Layer.layer, Run.without_frame, State.State, State.stack_end, WholeTables.WholeTables, declared.program.Routine.Routine}
+use Rattle.core_program.specs.{Layer.layer, Passed.Entering, Passed.args_at, Passed.cells_entered, ProgramRows.ProgramRows, ProgramRows.routine_at}
+use Rattle.core_program.specs.{Run.with_frame, Run.without_frame, State.State, State.stack_end, WholeTables.WholeTables, declared.program.Routine.Routine}
 use Rattle.core_program.specs.Acts.{Act, ActResult, Answer, Limited, OutOfSteps, Spend, Stops, Trouble, Went, limit_passed, perform, spent}
-use Rattle.core_program.specs.ProgramRows.{ProgramRows, routine_at}
-use Rattle.core_program.specs.Run.{Call, End, Ended, Halted, Marked, Outcome, Result, after_all, at_work, call_closed, call_of, depth_enough, ends, if_allowed}
-use Rattle.core_program.specs.Run.{in_frame, in_front, joined, later_by, on_done, on_end, opened, plain, record_of, recorded, run_of, whole, with_frame}
+use Rattle.core_program.specs.Run.{Call, End, Ended, Halted, Marked, Outcome, Result, after_all, at_work, call_closed, call_of, depth_enough, ends, frame_size}
+use Rattle.core_program.specs.Run.{if_allowed, in_frame, in_front, joined, later_by, on_done, on_end, opened, plain, record_of, recorded, run_of, whole}
 use Rattle.core_program.specs.Tree.{ActTree, Do, Enter, Halt, Line, Meaningless, Out, Part, Ret, Sub, way_of}
 
 -- a result with touches and events before it
@@ -50,15 +50,16 @@ mutual
         → Ran p n (layer p part) σ r
         → r.end ≡ Ended out → Ran p (suc n) (next out) r.after s → Ran p (suc n) (Sub part next) σ (front r.log r.events s)
     -- a limit would be passed
-    AtLimit : {n f cells : ℕ} {args : List Value} {next : Out → ActTree} {σ : State} {which : Which} → limit_passed σ cells ≡ Some which
-        → Ran p (suc n) (Enter f cells args next) σ (ending (Halted (way.Limited which)) σ)
+    AtLimit : {n : ℕ} {e : Entering} {next : Out → ActTree} {σ : State} {which : Which} → limit_passed σ (cells_entered e) ≡ Some which
+        → Ran p (suc n) (Enter e next) σ (ending (Halted (way.Limited which)) σ)
     -- a call stops the run
-    CallStopped : {n f cells : ℕ} {args : List Value} {next : Out → ActTree} {σ : State} {y : Result State Call} {way : WayOut} → limit_passed σ cells ≡ None
-        → RanCall p n f args σ y → y.end ≡ Halted way → Ran p (suc n) (Enter f cells args next) σ (of_call f args σ y)
+    CallStopped : {n : ℕ} {e : Entering} {next : Out → ActTree} {σ : State} {y : Result State Call} {way : WayOut} → limit_passed σ (cells_entered e) ≡ None
+        → RanCall p n e.routine (args_at e σ.top) σ y → y.end ≡ Halted way → Ran p (suc n) (Enter e next) σ (of_call e.routine (args_at e σ.top) σ y)
     -- or it ends, and the run goes on
-    CallEnded : {n f cells : ℕ} {args : List Value} {next : Out → ActTree} {σ : State} {y : Result State Call} {out : Out} {s : Result State Call}
-        → limit_passed σ cells ≡ None → RanCall p n f args σ y → y.end ≡ Ended out → Ran p (suc n) (next out) y.after s
-        → Ran p (suc n) (Enter f cells args next) σ (front (of_call f args σ y).log (of_call f args σ y).events s)
+    CallEnded : {n : ℕ} {e : Entering} {next : Out → ActTree} {σ : State} {y : Result State Call} {out : Out} {s : Result State Call}
+        → limit_passed σ (cells_entered e) ≡ None → RanCall p n e.routine (args_at e σ.top) σ y → y.end ≡ Ended out
+        → Ran p (suc n) (next out) y.after s → Ran p (suc n) (Enter e next) σ
+        (front (of_call e.routine (args_at e σ.top) σ y).log (of_call e.routine (args_at e σ.top) σ y).events s)
     -- a statement takes no step, or it takes one and its line is told
     NotBegun : {n line : ℕ} {next : ActTree} {σ : State} {why : Trouble} {w : List Touch} {τ : State} → perform (Spend 1) σ ≡ Stops why w τ
         → Ran p (suc n) (Line line next) σ (front w [] (ending (Halted (way_of line why)) τ))
@@ -67,13 +68,14 @@ mutual
 
   -- the frame of a routine at a state, and the routine at work in it
   pub data RanFrame (p : ProgramRows) : ℕ → ℕ → List Value → State → Result State Call → Type 0 where
-    NoRoom : {n f : ℕ} {args : List Value} {σ : State} {q : Routine} → routine_at p f ≡ Some q → nat_lt stack_end (σ.top + q.cells) ≡ true
+    NoRoom : {n f : ℕ} {args : List Value} {σ : State} {q : Routine} → routine_at p f ≡ Some q → nat_lt stack_end (σ.top + frame_size q args) ≡ true
         → RanFrame p n f args σ (ending (Halted (way_of 0 (Limited Stack))) σ)
-    NoSteps : {n f : ℕ} {args : List Value} {σ : State} {q : Routine} → routine_at p f ≡ Some q → nat_lt stack_end (σ.top + q.cells) ≡ false
-        → nat_lt σ.steps q.cells ≡ true → RanFrame p n f args σ (ending (Halted (way_of 0 OutOfSteps)) (spent σ))
+    NoSteps : {n f : ℕ} {args : List Value} {σ : State} {q : Routine} → routine_at p f ≡ Some q → nat_lt stack_end (σ.top + frame_size q args) ≡ false
+        → nat_lt σ.steps (frame_size q args) ≡ true → RanFrame p n f args σ (ending (Halted (way_of 0 OutOfSteps)) (spent σ))
     Worked : {n f : ℕ} {args : List Value} {σ : State} {q : Routine} {y : Result State Call} → routine_at p f ≡ Some q
-        → nat_lt stack_end (σ.top + q.cells) ≡ false → nat_lt σ.steps q.cells ≡ false → Ran p n (whole p f σ.top q) (with_frame q.cells args σ) y
-        → RanFrame p n f args σ (changed (without_frame σ.top q.cells) y)
+        → nat_lt stack_end (σ.top + frame_size q args) ≡ false → nat_lt σ.steps (frame_size q args) ≡ false
+        → Ran p n (whole p f σ.top q) (with_frame q args σ) y
+        → RanFrame p n f args σ (changed (without_frame σ.top (frame_size q args)) y)
 
   -- a call, but for its record: `inside` gives the result, and it came about so
   pub data RanCall (p : ProgramRows) : ℕ → ℕ → List Value → State → Result State Call → Type 0 where
@@ -112,16 +114,17 @@ module _ (p : ProgramRows) (n : ℕ) (R : (t : ActTree) (σ : State) → Gives (
   gives_frame : (f : ℕ) (args : List Value) (σ : State) (o : Option Routine) → routine_at p f ≡ o
       → Gives (RanFrame p n f args σ) (in_frame (at_work p (run_of p n) f) args σ o)
   gives_frame f args σ None h = λ r e. absurd (none_some e)
-  gives_frame f args σ (Some q) h = by (nat_lt stack_end (σ.top + q.cells)) (nat_lt σ.steps q.cells) refl refl
+  gives_frame f args σ (Some q) h = by (nat_lt stack_end (σ.top + frame_size q args)) (nat_lt σ.steps (frame_size q args)) refl refl
     where
-      by : (a b : Bool) → nat_lt stack_end (σ.top + q.cells) ≡ a → nat_lt σ.steps q.cells ≡ b
+      by : (a b : Bool) → nat_lt stack_end (σ.top + frame_size q args) ≡ a → nat_lt σ.steps (frame_size q args) ≡ b
           → Gives (RanFrame p n f args σ) (if a then ends (Halted (way_of 0 (Limited Stack))) σ
           else if b then ends (Halted (way_of 0 OutOfSteps)) (spent σ)
-          else after_all (without_frame σ.top q.cells) (run_of p n (whole p f σ.top q) (with_frame q.cells args σ)))
+          else after_all (without_frame σ.top (frame_size q args)) (run_of p n (whole p f σ.top q) (with_frame q args σ)))
       by true b t u = gives_this (RanFrame p n f args σ) _ (NoRoom h t)
       by false true t u = gives_this (RanFrame p n f args σ) _ (NoSteps h t u)
-      by false false t u = gives_changed (RanFrame p n f args σ) (without_frame σ.top q.cells) (run_of p n (whole p f σ.top q) (with_frame q.cells args σ))
-          (λ y c. Worked h t u (R (whole p f σ.top q) (with_frame q.cells args σ) y c))
+      by false false t u = gives_changed (RanFrame p n f args σ) (without_frame σ.top (frame_size q args))
+          (run_of p n (whole p f σ.top q) (with_frame q args σ))
+          (λ y c. Worked h t u (R (whole p f σ.top q) (with_frame q args σ) y c))
 
   pub gives_inside : (f : ℕ) (args : List Value) (σ : State) → Gives (RanCall p n f args σ) (inside p (run_of p n) f args σ)
   gives_inside f args σ = gives_changed (RanCall p n f args σ) (call_closed σ.depth) (in_frame (at_work p (run_of p n) f) args (opened σ) (routine_at p f))
@@ -149,18 +152,22 @@ module _ (p : ProgramRows) (n : ℕ) (R : (t : ActTree) (σ : State) → Gives (
   deeper (Sub part next) σ = gives_joined (Ran p (suc n) (Sub part next) σ) (run_of p n (layer p part) σ) (λ out τ. run_of p (suc n) (next out) τ)
       (λ way s c q. PartStopped (R (layer p part) σ s c) q)
       (λ out s c q t g. PartEnded (R (layer p part) σ s c) q (deeper (next out) s.after t g))
-  deeper (Enter f cells args next) σ = by (λ out τ. deeper (next out) τ) (limit_passed σ cells) refl
+  deeper (Enter e next) σ = by (λ out τ. deeper (next out) τ) (limit_passed σ (cells_entered e)) refl
     where
-      entered : Outcome
-      entered = joined (call_of p (run_of p n) f args σ) (λ out τ. run_of p (suc n) (next out) τ)
+      args : List Value
+      args = args_at e σ.top
 
-      by : ((out : Out) (τ : State) → Gives (Ran p (suc n) (next out) τ) (run_of p (suc n) (next out) τ)) → (o : Option Which) → limit_passed σ cells ≡ o
-          → Gives (Ran p (suc n) (Enter f cells args next) σ) (if_allowed o σ entered)
-      by k (Some which) q = gives_this (Ran p (suc n) (Enter f cells args next) σ) _ (AtLimit q)
-      by k None q = gives_joined (Ran p (suc n) (Enter f cells args next) σ) (call_of p (run_of p n) f args σ) (λ out τ. run_of p (suc n) (next out) τ)
-          (λ way. gives_call (λ s. s.end ≡ Halted way → Ran p (suc n) (Enter f cells args next) σ s) f args σ (λ y a h. CallStopped q a h))
-          (λ out. gives_call (λ s. s.end ≡ Ended out → Gives (λ t. Ran p (suc n) (Enter f cells args next) σ (front s.log s.events t))
-          (run_of p (suc n) (next out) s.after)) f args σ (λ y a h t g. CallEnded q a h (k out y.after t g)))
+      entered : Outcome
+      entered = joined (call_of p (run_of p n) e.routine args σ) (λ out τ. run_of p (suc n) (next out) τ)
+
+      by : ((out : Out) (τ : State) → Gives (Ran p (suc n) (next out) τ) (run_of p (suc n) (next out) τ)) → (o : Option Which)
+          → limit_passed σ (cells_entered e) ≡ o
+          → Gives (Ran p (suc n) (Enter e next) σ) (if_allowed o σ entered)
+      by k (Some which) q = gives_this (Ran p (suc n) (Enter e next) σ) _ (AtLimit q)
+      by k None q = gives_joined (Ran p (suc n) (Enter e next) σ) (call_of p (run_of p n) e.routine args σ) (λ out τ. run_of p (suc n) (next out) τ)
+          (λ way. gives_call (λ s. s.end ≡ Halted way → Ran p (suc n) (Enter e next) σ s) e.routine args σ (λ y a h. CallStopped q a h))
+          (λ out. gives_call (λ s. s.end ≡ Ended out → Gives (λ t. Ran p (suc n) (Enter e next) σ (front s.log s.events t))
+          (run_of p (suc n) (next out) s.after)) e.routine args σ (λ y a h t g. CallEnded q a h (k out y.after t g)))
   deeper (Line line next) σ = by (λ τ. deeper next τ) (perform (Spend 1) σ) refl
     where
       by : ((τ : State) → Gives (Ran p (suc n) next τ) (run_of p (suc n) next τ)) → (d : ActResult (Unit {0})) → perform (Spend 1) σ ≡ d

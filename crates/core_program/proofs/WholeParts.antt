@@ -3,17 +3,19 @@ use Rattle.std.proofs.Common.{if◌then◌else◌, ◌&&◌, ◌||◌, ◌≡◌
 use Rattle.std.proofs.Common.{subst, sym, true}
 use Rattle.cell_value.specs.declared.values.Value.{Value}
 use Rattle.core_program.proofs.ActionsMeant.{IsMeant, Meant, no}
-use Rattle.core_program.specs.{Accesses.with_formal, Accesses.with_size, Acts.Answer, Headings.heading_in, declared.components.Components.Components}
-use Rattle.core_program.specs.Accesses.{eval, eval_cells, locate, locate_target, on_address, on_cells, on_scalar, until_end, with_bounds, with_components}
+use Rattle.core_program.specs.{Acts.Answer, Conformant.Dimensions, Expressions.on_actuals, Headings.heading_in, Passed.Passed}
+use Rattle.core_program.specs.Accesses.{eval, eval_cells, locate, locate_target, on_address, on_bounded, on_cells, on_scalar, until_end, with_bounds}
+use Rattle.core_program.specs.Accesses.{with_components, with_dimensions, with_formal, with_size}
 use Rattle.core_program.specs.Actions.{Action, Fail, Give, NoMeaning, Perform}
 use Rattle.core_program.specs.ProgramRows.{ProgramRows, routine_at, row_at, type_at, type_in}
-use Rattle.core_program.specs.Tree.{ActTree, Address, Body, Cells, Count, Do, Enter, Establish, Eval, Exec, Gather, Halt, Here, Jump, Line, Locate, Meaningless}
-use Rattle.core_program.specs.Tree.{Out, Part, Pass, Print, Receive, RestOfLine, Ret, Scalar, Scanning, Sequence, Sub, Turn, doing}
-use Rattle.core_program.specs.WholeTables.{RowFits, ScopedRecords, ScopedRow, WholeTables, is_access, is_actual_item, is_array_type, is_cells, is_cells_row}
-use Rattle.core_program.specs.WholeTables.{is_element_of, is_end, is_function, is_list, is_member_item, is_ordinal_type, is_read_access, is_record_access}
-use Rattle.core_program.specs.WholeTables.{is_routine, is_scalar, is_scalar_row, is_simple_type, is_statement, is_structured_type, is_turns_row}
-use Rattle.core_program.specs.WholeTables.{is_written_item, type_accessed}
-use Rattle.core_program.specs.declared.rows.{ExpressionRow.ExpressionRow, NameRow.NameRow, Row.Row, StatementRow.StatementRow, TypeRow.TypeRow}
+use Rattle.core_program.specs.Tree.{ActTree, Actuals, Address, Body, Bounded, Cells, Count, Do, Enter, Establish, Eval, Exec, Gather, Halt, Here, Jump, Line}
+use Rattle.core_program.specs.Tree.{Locate, Meaningless, Out, Part, Pass, Print, Receive, RestOfLine, Ret, Scalar, Scanning, Sequence, Sub, Turn, doing}
+use Rattle.core_program.specs.WholeTables.{RowFits, ScopedRecords, ScopedRow, WholeTables, is_access, is_access_to, is_actual_item, is_array_type, is_bounded}
+use Rattle.core_program.specs.WholeTables.{is_bounded_row, is_cells, is_cells_row, is_conformant, is_conformant_type, is_element_of, is_end, is_function}
+use Rattle.core_program.specs.WholeTables.{is_list, is_member_item, is_ordinal_type, is_read_access, is_record_access, is_routine, is_scalar, is_scalar_row}
+use Rattle.core_program.specs.WholeTables.{is_simple_type, is_statement, is_structured_type, is_turns_row, is_written_item, type_accessed}
+use Rattle.core_program.specs.declared.{components.Components.Components, rows.ExpressionRow.ExpressionRow}
+use Rattle.core_program.specs.declared.rows.{AccessRow.AccessRow, NameRow.NameRow, Row.Row, StatementRow.StatementRow, TypeRow.TypeRow}
 
 -- ---- what a place takes
 
@@ -22,6 +24,8 @@ pub data Takes : Type 0 where
   OneCell : Takes
   ManyCells : Takes
   Variable : Takes
+  BoundedArray : Takes
+  Passing : Takes
 
 -- A jump goes on outward from each place.
 abbrev pub Fits : Takes → Out → Type 0
@@ -33,24 +37,47 @@ Fits ManyCells (Cells vs) = Unit {0}
 Fits ManyCells (Jump label base) = Unit {0}
 Fits ManyCells out = ⊥
 Fits Variable (Address addr) = Unit {0}
+Fits Variable (Bounded addr frame) = Unit {0}
 Fits Variable (Jump label base) = Unit {0}
 Fits Variable out = ⊥
+Fits BoundedArray (Bounded addr frame) = Unit {0}
+Fits BoundedArray (Jump label base) = Unit {0}
+Fits BoundedArray out = ⊥
+Fits Passing (Actuals passed) = Unit {0}
+Fits Passing (Jump label base) = Unit {0}
+Fits Passing out = ⊥
 
 pub jump_fits : (k : Takes) (label base : ℕ) → Fits k (Jump label base)
 jump_fits Anything label base = tt
 jump_fits OneCell label base = tt
 jump_fits ManyCells label base = tt
 jump_fits Variable label base = tt
+jump_fits BoundedArray label base = tt
+jump_fits Passing label base = tt
 
 -- ---- parts of whole tables
 
 abbrev pub cells_if : Bool → Takes
 cells_if one = if one then OneCell else ManyCells
 
+abbrev pub array_if : Bool → Takes
+array_if bounded = if bounded then BoundedArray else Variable
+
+-- an array with its bounds is a variable too
+pub as_variable : (b : Bool) (out : Out) → Fits (array_if b) out → Fits Variable out
+as_variable true (Bounded addr frame) f = tt
+as_variable true (Jump label base) f = tt
+as_variable true out f = absurd f
+as_variable false out f = f
+
+pub bounded_fits : (b : Bool) (addr frame : ℕ) → Fits (array_if b) (Bounded addr frame)
+bounded_fits true addr frame = tt
+bounded_fits false addr frame = tt
+
 abbrev pub gives : ProgramRows → Part → Takes
 gives p (Eval row here) = cells_if (is_scalar p row)
-gives p (Locate row target here) = Variable
-gives p (Pass at passed here) = ManyCells
+gives p (Locate row target here) = array_if (is_bounded p row)
+gives p (Pass at passed here) = Passing
 gives p (Gather at set here) = OneCell
 gives p (Scanning scan here) = OneCell
 gives p part = Anything
@@ -105,7 +132,7 @@ Good p W k (Halt line why) = Unit {0}
 Good p W k Meaningless = ⊥
 Good p W k (Do line act next) = (x : Answer act) → Good p W k (next x)
 Good p W k (Sub part next) = IsWhole p W part × ((out : Out) → Fits (gives p part) out → Good p W k (next out))
-Good p W k (Enter f cells args next) = (is_routine p f ≡ true) × ((out : Out) → Fits (gives_call p f) out → Good p W k (next out))
+Good p W k (Enter e next) = (is_routine p e.routine ≡ true) × ((out : Out) → Fits (gives_call p e.routine) out → Good p W k (next out))
 Good p W k (Line line next) = Good p W k next
 
 pub good_doing : (p : ProgramRows) (W : WholeTables p) (k : Takes) {A : Type 0} (Q : A → Type 0) (line : ℕ) (a : Action A) (go : A → ActTree) → Meant Q a
@@ -179,8 +206,39 @@ module _ (p : ProgramRows) (W : WholeTables p) where
 
   pub on_variable : (k : Takes) (go : ℕ → ActTree) → ((addr : ℕ) → Good p W k (go addr)) → (out : Out) → Fits Variable out → Good p W k (on_address go out)
   on_variable k go g (Address addr) f = g addr
+  on_variable k go g (Bounded addr frame) f = g addr
   on_variable k go g (Jump label base) f = jump_fits k label base
   on_variable k go g out f = absurd f
+
+  pub on_array : (k : Takes) (go : ℕ → ℕ → ActTree) → ((addr frame : ℕ) → Good p W k (go addr frame)) → (out : Out) → Fits BoundedArray out
+      → Good p W k (on_bounded go out)
+  on_array k go g (Bounded addr frame) f = g addr frame
+  on_array k go g (Jump label base) f = jump_fits k label base
+  on_array k go g out f = absurd f
+
+  pub on_passed : (k : Takes) (go : Passed → ActTree) → ((passed : Passed) → Good p W k (go passed)) → (out : Out) → Fits Passing out
+      → Good p W k (on_actuals go out)
+  on_passed k go g (Actuals passed) f = g passed
+  on_passed k go g (Jump label base) f = jump_fits k label base
+  on_passed k go g out f = absurd f
+
+  pub conformant_not_simple : (t : Option TypeRow) → is_conformant_type t ≡ true → is_simple_type t ≡ false
+  conformant_not_simple (Some (TypeRow.Conformant packed index component place)) h = refl
+  conformant_not_simple t h = no h
+
+  -- an access that finds bounds is one of a conformant array
+  pub bounded_conformant : (a : AccessRow) → is_bounded_row p (Row.Access a) ≡ true → is_conformant p (type_accessed a) ≡ true
+  bounded_conformant (AccessRow.Conformant place levels of') h = h
+  bounded_conformant (AccessRow.Component inner index array of') h = h
+  bounded_conformant a h = no h
+
+  conformant_there : (t : Option TypeRow) → is_conformant_type t ≡ true → is_some t ≡ true
+  conformant_there None h = no h
+  conformant_there (Some t) h = refl
+
+  pub bounded_is_access : (r : Row) → is_bounded_row p r ≡ true → is_access_to is_some p r ≡ true
+  bounded_is_access (Row.Access a) h = conformant_there (type_at p (type_accessed a)) (bounded_conformant a h)
+  bounded_is_access r h = no h
 
   simple_not_structured : (t : Option TypeRow) → is_structured_type t ≡ true → is_simple_type t ≡ false
   simple_not_structured (Some (TypeRow.Array packed index component cells)) h = refl
@@ -189,7 +247,11 @@ module _ (p : ProgramRows) (W : WholeTables p) where
 
   pub cells_not_scalar : (r : Row) → is_cells_row p r ≡ true → is_scalar_row p r ≡ false
   cells_not_scalar (Row.Expression (ExpressionRow.Text token)) h = refl
-  cells_not_scalar (Row.Access a) h = simple_not_structured (type_at p (type_accessed a)) h
+  cells_not_scalar (Row.Access a) h =
+      elim (or_cases (is_structured_type (type_at p (type_accessed a))) (is_bounded_row p (Row.Access a)) h) [
+        | inl e ↦ simple_not_structured (type_at p (type_accessed a)) e
+        | inr e ↦ conformant_not_simple (type_at p (type_accessed a)) (bounded_conformant a e)
+      ]
   cells_not_scalar r h = no h
 
   pub good_eval : (k : Takes) (n : ℕ) (here : Here) (go : Value → ActTree) → is_scalar p n ≡ true → Inside p W (length here.records) n
@@ -208,12 +270,23 @@ module _ (p : ProgramRows) (W : WholeTables p) where
   pub good_locate : (k : Takes) (n : ℕ) (here : Here) (go : ℕ → ActTree) → is_access p n ≡ true → Inside p W (length here.records) n
       → ((addr : ℕ) → Good p W k (go addr))
       → Good p W k (locate n here go)
-  good_locate k n here go h s g = ((h, s), λ out f. on_variable k go g out f)
+  good_locate k n here go h s g = ((h, s), λ out f. on_variable k go g out (as_variable (is_bounded p n) out f))
 
   pub good_target : (k : Takes) (n : ℕ) (here : Here) (go : ℕ → ActTree) → is_access p n ≡ true → Inside p W (length here.records) n
       → ((addr : ℕ) → Good p W k (go addr))
       → Good p W k (locate_target n here go)
-  good_target k n here go h s g = ((h, s), λ out f. on_variable k go g out f)
+  good_target k n here go h s g = ((h, s), λ out f. on_variable k go g out (as_variable (is_bounded p n) out f))
+
+  pub good_bounded : (k : Takes) (n : ℕ) (here : Here) (go : ℕ → ℕ → ActTree) → is_bounded p n ≡ true → Inside p W (length here.records) n
+      → ((addr frame : ℕ) → Good p W k (go addr frame))
+      → Good p W k (Sub (Locate n false here) (on_bounded go))
+  good_bounded k n here go h s g =
+      ((bounded_is_access (row_at p n) h, s), λ out f. on_array k go g out (subst (λ b. Fits (array_if b) out) h f))
+
+  pub good_dimensions : (k : Takes) (o : Option Dimensions) (go : Dimensions → ActTree) → is_some o ≡ true → ((d : Dimensions) → Good p W k (go d))
+      → Good p W k (with_dimensions o go)
+  good_dimensions k None go h g = no h
+  good_dimensions k (Some d) go h g = g d
 
   pub good_bounds : (k : Takes) (t : Option TypeRow) (go : ℤ → ℤ → ActTree) → is_ordinal_type t ≡ true → ((least greatest : ℤ) → Good p W k (go least greatest))
       → Good p W k (with_bounds t go)

@@ -2,17 +2,20 @@
 use Rattle.std.specs.Prelude.{if◌then◌else◌, [], ℕ, ℤ, Bool, List, None, Option, Some, false, nat_lt, slice_get, true}
 use Rattle.cell_value.specs.declared.values.Value.{Value}
 use Rattle.core_program.specs.ProgramRows.{ProgramRows, cells_in, row_at, type_at}
-use Rattle.core_program.specs.declared.rows.{Row.Row, TypeRow.TypeRow}
-use Rattle.core_program.specs.declared.rows.AccessRow.{AccessRow, TheVariants.Within}
-use Rattle.core_program.specs.declared.rows.AccessRow.TheVariants.{Dereference, Field, Index, Reference, Variable}
+use Rattle.core_program.specs.declared.rows.{AccessRow.AccessRow, Row.Row}
+use Rattle.core_program.specs.declared.rows.AccessRow.TheVariants.{Component, Conformant, Dereference, Field, Index}
+use Rattle.core_program.specs.declared.rows.AccessRow.TheVariants.{Reference, Variable, Within}
 use Rattle.core_program.specs.declared.rows.NameRow.TheVariants as named
 use Rattle.core_program.specs.declared.rows.Row.TheVariants as rows
-use Rattle.core_program.specs.declared.rows.TypeRow.TheVariants.{Array, Ordinal, Pointer, Record, Set, Subrange}
-pub use Rattle.core_program.specs.WholeTables.{is_end, type_accessed}
-use Rattle.core_program.specs.{Acts.Spend, Heap.pointed_at, Heap.pointer_at, Tree.Scalar, Tree.Sub, Tree.doing}
-use Rattle.core_program.specs.{Variants.field_at, declared.components.Components.Components}
-use Rattle.core_program.specs.Cells.{cell_out, component, ordinal_at, read_values, reference_out, set_at}
-use Rattle.core_program.specs.Tree.{ActTree, Address, Cells, Do, Eval, Here, Jump, Locate, Meaningless, Out, Ret}
+use Rattle.core_program.specs.declared.rows.TypeRow.{TypeRow, TheVariants.Record, TheVariants.Set, TheVariants.Subrange}
+use Rattle.core_program.specs.declared.rows.TypeRow.TheVariants.{Array, Conformant as ConformantType, Ordinal, Pointer}
+pub use Rattle.core_program.specs.WholeTables.{is_conformant, is_end, type_accessed}
+use Rattle.core_program.specs.{Actions.◌>>=◌, Actions.Give, Acts.Spend, Cells.set_at, Heap.pointed_at, Heap.pointer_at}
+use Rattle.core_program.specs.{State.moved, Variants.field_at, declared.components.Components.Components}
+use Rattle.core_program.specs.Cells.{cell_out, component, frame_out, ordinal_at, read_values, reference_out, referred}
+use Rattle.core_program.specs.Conformant.{Dimensions, conformant_component_at, dimensions_of}
+use Rattle.core_program.specs.Tree.{ActTree, Address, Bounded, Cells, Do, Eval, Here, Jump, Locate, Meaningless, Out}
+use Rattle.core_program.specs.Tree.{Ret, Scalar, Sub, doing}
 
 -- the tables name a row that they do not have, or that is of another kind than its place takes
 abbrev pub no_row : ActTree
@@ -39,8 +42,15 @@ on_cells go out = no_row
 
 abbrev pub on_address : (ℕ → ActTree) → Out → ActTree
 on_address go (Address addr) = go addr
+on_address go (Bounded addr frame) = go addr
 on_address go (Jump label base) = Ret (Jump label base)
 on_address go out = no_row
+
+-- goes on with a conformant array, and with the frame that has its bounds
+abbrev pub on_bounded : (ℕ → ℕ → ActTree) → Out → ActTree
+on_bounded go (Bounded addr frame) = go addr frame
+on_bounded go (Jump label base) = Ret (Jump label base)
+on_bounded go out = no_row
 
 abbrev pub eval : (row : ℕ) → Here → (Value → ActTree) → ActTree
 eval row here go = Sub (Eval row here) (on_scalar go)
@@ -65,6 +75,21 @@ address addr = Ret (Address addr)
 abbrev pub locate_before : (row access : ℕ) → (target : Bool) → Here → (ℕ → ActTree) → ActTree
 locate_before row access target here go =
     if nat_lt access row then Sub (Locate access target here) (on_address go) else no_row
+
+-- the same of a component of a conformant array
+abbrev pub bounded_before : (row access : ℕ) → (target : Bool) → Here → (ℕ → ℕ → ActTree) → ActTree
+bounded_before row access target here go =
+    if nat_lt access row then Sub (Locate access target here) (on_bounded go) else no_row
+
+-- goes on with the dimensions of a conformant array
+abbrev pub with_dimensions : Option Dimensions → (Dimensions → ActTree) → ActTree
+with_dimensions None go = no_row
+with_dimensions (Some d) go = go d
+
+-- a component of a conformant array, which may be one too
+abbrev pub component_found : (conformant : Bool) → (frame addr : ℕ) → ActTree
+component_found true frame addr = Ret (Bounded addr frame)
+component_found false frame addr = address addr
 
 -- goes on with the bounds of an ordinal type
 abbrev pub with_bounds : Option TypeRow → (ℤ → ℤ → ActTree) → ActTree
@@ -100,6 +125,12 @@ of_access p row target here (Variable place levels of') =
     spend here (doing here.line (cell_out levels here.base place) address)
 of_access p row target here (Reference place levels of') =
     spend here (doing here.line (reference_out levels here.base place) address)
+of_access p row target here (Conformant place levels of') = spend here (doing here.line
+    (frame_out levels here.base >>= λ frame. referred (moved frame place) >>= λ addr. Give (addr, frame))
+    (λ (addr, frame). Ret (Bounded addr frame)))
+of_access p row target here (Component access index array of') = bounded_before row access target here (λ addr frame.
+    spend here (eval index here (λ v. with_dimensions (dimensions_of p array) (λ d.
+    doing here.line (conformant_component_at d addr frame v) (component_found (is_conformant p of') frame)))))
 of_access p row target here (Index access index array of') = locate_before row access target here (λ addr. spend here
     (eval index here (λ v. with_components p (type_at p array) (λ a. doing here.line (component a addr v) address))))
 of_access p row target here (Field access field of') = locate_before row access target here (λ addr. spend here
@@ -126,6 +157,7 @@ value_at p line addr (Some (Set packed base)) =
 value_at p line addr (Some (Pointer domain)) = doing line (pointer_at addr) scalar
 value_at p line addr (Some (Array packed index component cells)) = cells_at line addr cells
 value_at p line addr (Some (Record packed region cells variants)) = cells_at line addr cells
+value_at p line addr (Some (ConformantType packed index component place)) = no_row
 value_at p line addr None = no_row
 
 -- goes on with the place of a routine parameter, by the row of its name, and with its heading

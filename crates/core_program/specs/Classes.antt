@@ -1,7 +1,7 @@
 -- Classes of lists of sections: the same number for two lists exactly if they are congruous (6.6.3.6).
 use Rattle.std.specs.Prelude.{◌<◌, ◌≡◌, ◌≤◌, ℕ, Bool, List, None, Option, Some, length, nat_eq, slice_get, unwrap_or}
 use Rattle.std.specs.Map.{update}
-use Rattle.core_program.specs.{ProgramRows.ProgramRows, declared.classes.Form.Form}
+use Rattle.core_program.specs.{ProgramRows.ProgramRows, TypeClasses.type_class, declared.classes.Form.Form}
 use Rattle.core_program.specs.Headings.{lists_match, section_at, signature_at}
 use Rattle.core_program.specs.contracts.classes.FormPartialEq.TheImpl as equality
 use Rattle.core_program.specs.declared.headings.{FormalSection.FormalSection, Signature.Signature}
@@ -24,15 +24,16 @@ abbrev pub form_inside : List ℕ → Option Signature → (rest : ℕ) → Opti
 form_inside classes None rest = None
 form_inside classes (Some g) rest = Some (Form.Routine g.result (class_at classes g.sections) rest)
 
-abbrev pub form_of : ProgramRows → List ℕ → Option (FormalSection × ℕ) → Option Form
-form_of p classes None = None
-form_of p classes (Some (FormalSection.Names m of' count, next)) = Some (Form.Names m count of' (class_at classes next))
-form_of p classes (Some (FormalSection.Heading heading, next)) =
+abbrev pub form_of : ProgramRows → (types classes : List ℕ) → Option (FormalSection × ℕ) → Option Form
+form_of p types classes None = None
+form_of p types classes (Some (FormalSection.Names m of' count, next)) =
+    Some (Form.Names m count (type_class p types of') (class_at classes next))
+form_of p types classes (Some (FormalSection.Heading heading, next)) =
     form_inside classes (signature_at p heading) (class_at classes next)
 
--- the first section of the list at a number, and the classes of the lists inside of it and after it
-abbrev pub form_at : ProgramRows → List ℕ → ℕ → Option Form
-form_at p classes list = form_of p classes (section_at p list)
+-- the first section of the list at a number, and the classes of its type and of the lists inside of it and after it
+abbrev pub form_at : ProgramRows → (types classes : List ℕ) → ℕ → Option Form
+form_at p types classes list = form_of p types classes (section_at p list)
 
 -- ---- classes by the forms that are known
 
@@ -49,11 +50,12 @@ Interned fresh old new (Some g) class =
     × (new g ≡ Some class)
 
 -- The lists from a number on have the classes of their forms.
-pub record Classed (p : ProgramRows) (known : Form → Option ℕ) (at : ℕ) (classes : List ℕ) : Type 0 where
-  pub size : length classes ≡ length p.rows
-  -- lists end at 0
-  pub end : class_at classes 0 ≡ 0
-  pub lists : (a : ℕ) → at ≤ a → class_in known (form_at p classes a) ≡ Some (class_at classes a)
-  -- no two forms have one class
-  pub apart : (f g : Form) (class : ℕ) → known f ≡ Some class → known g ≡ Some class → f ≡ g
-  pub taken : (f : Form) (class : ℕ) → known f ≡ Some class → (0 < class) × (at ≤ class)
+pub record Classed (p : ProgramRows) (types : List ℕ) (known : Form → Option ℕ) (at : ℕ) (classes : List ℕ) : Type 0
+  where
+    pub size : length classes ≡ length p.rows
+    -- lists end at 0
+    pub end : class_at classes 0 ≡ 0
+    pub lists : (a : ℕ) → at ≤ a → class_in known (form_at p types classes a) ≡ Some (class_at classes a)
+    -- no two forms have one class
+    pub apart : (f g : Form) (class : ℕ) → known f ≡ Some class → known g ≡ Some class → f ≡ g
+    pub taken : (f : Form) (class : ℕ) → known f ≡ Some class → (0 < class) × (at ≤ class)

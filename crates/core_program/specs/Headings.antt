@@ -1,9 +1,11 @@
 -- Headings by their rows, and which are congruous (6.6.3.6).
-use Rattle.std.specs.Prelude.{◌&&◌, ℕ, Bool, None, Option, Some, false, length, nat_eq, suc, true, zero}
-use Rattle.core_program.specs.ProgramRows.{ProgramRows, routine_at, row_at}
+use Rattle.std.specs.Prelude.{if◌then◌else◌, ◌&&◌, ◌||◌, ℕ, Bool, None, Option, Some, false, length, nat_eq, suc, true}
+use Rattle.std.specs.Prelude.{zero}
+use Rattle.core_program.specs.ProgramRows.{ProgramRows, routine_at, row_at, type_at}
 use Rattle.core_program.specs.declared.headings.{FormalSection.FormalSection, Signature.Signature}
 use Rattle.core_program.specs.declared.program.Routine.{Routine}
 use Rattle.core_program.specs.declared.rows.{ItemRow.ItemRow, Mode.Mode, NameRow.NameRow, PartRow.PartRow, Row.Row}
+use Rattle.core_program.specs.declared.rows.TypeRow.{TypeRow, TheVariants.Conformant}
 
 -- ---- headings and their sections by rows
 
@@ -34,12 +36,40 @@ section_in p r = None
 abbrev pub section_at : ProgramRows → ℕ → Option (FormalSection × ℕ)
 section_at p at = section_in p (row_at p at)
 
+-- ---- equivalent schemas
+
+abbrev pub same_packing : Bool → Bool → Bool
+same_packing true true = true
+same_packing false false = true
+same_packing p q = false
+
+abbrev pub pair_if : Bool → ℕ → ℕ → Option (ℕ × ℕ)
+pair_if fits a b = if fits then Some (a, b) else None
+
+abbrev pub pair_fits : (ℕ → ℕ → Bool) → Option (ℕ × ℕ) → Bool
+pair_fits fits None = false
+pair_fits fits (Some q) = fits q.0 q.1
+
+-- The component types of two arrays of conformant parameters that are packed or not alike and have one type of their
+-- specs.
+abbrev pub components_alike : Option TypeRow → Option TypeRow → Option (ℕ × ℕ)
+components_alike (Some (Conformant packed index c place)) (Some (Conformant other i d at)) =
+    pair_if (same_packing packed other && nat_eq index i) c d
+components_alike s t = None
+
+-- One type, or schemas that are equivalent, in which at most this many specs are looked at. What the bounds are called
+-- and where they stand does not count.
+abbrev pub types_match : ℕ → ProgramRows → ℕ → ℕ → Bool
+types_match zero p a b = nat_eq a b
+types_match (suc n) p a b = nat_eq a b || pair_fits (types_match n p) (components_alike (type_at p a) (type_at p b))
+
 -- ---- congruous lists
 
 abbrev pub same_mode : Mode → Mode → Bool
 same_mode Mode.Own Mode.Own = true
 same_mode Mode.Value Mode.Value = true
 same_mode Mode.Place Mode.Place = true
+same_mode Mode.Copy Mode.Copy = true
 same_mode m n = false
 
 abbrev pub same_result : Option ℕ → Option ℕ → Bool
@@ -52,10 +82,10 @@ abbrev pub signatures_match : (lists : ℕ → ℕ → Bool) → Option Signatur
 signatures_match lists (Some g) (Some h) = same_result g.result h.result && lists g.sections h.sections
 signatures_match lists g h = false
 
--- both by value or both `var`, with equally many names and the same type; or headings that match
+-- both by value or both `var`, with equally many names and the same type or equivalent schemas; or headings that match
 abbrev pub sections_match : ProgramRows → (lists : ℕ → ℕ → Bool) → FormalSection → FormalSection → Bool
 sections_match p lists (FormalSection.Names m a count) (FormalSection.Names n b other) =
-    same_mode m n && nat_eq count other && nat_eq a b
+    same_mode m n && nat_eq count other && types_match (length p.rows) p a b
 sections_match p lists (FormalSection.Heading g) (FormalSection.Heading h) =
     signatures_match lists (signature_at p g) (signature_at p h)
 sections_match p lists s t = false

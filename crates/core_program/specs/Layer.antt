@@ -5,7 +5,7 @@ use Rattle.core_program.specs.Expressions.{expression_in, of_actual, of_members}
 use Rattle.core_program.specs.ProgramRows.{ProgramRows, routine_at, row_at}
 use Rattle.core_program.specs.Statements.{nothing, of_count, of_records, of_sequence, of_turn, statement_in}
 use Rattle.core_program.specs.Transfers.{of_printed, of_received, of_rest_of_line, of_scan}
-use Rattle.core_program.specs.Tree.{ActTree, Body, Cells, Count, Establish, Eval, Exec, Gather, Here, Locate, Part}
+use Rattle.core_program.specs.Tree.{ActTree, Actuals, Body, Count, Establish, Eval, Exec, Gather, Here, Locate, Part}
 use Rattle.core_program.specs.Tree.{Pass, Print, Receive, RestOfLine, Ret, Scanning, Sequence, Sub, Turn}
 use Rattle.core_program.specs.declared.program.Routine.{Routine}
 
@@ -22,7 +22,7 @@ of_body base (Some r) =
 abbrev pub layer : ProgramRows → Part → ActTree
 layer p (Eval row here) = expression_in p row here (row_at p row)
 layer p (Locate row target here) = access_in p row target here (row_at p row)
-layer p (Pass at passed here) = until_end at (Ret (Cells passed)) (of_actual p passed here (row_at p at))
+layer p (Pass at passed here) = until_end at (Ret (Actuals passed)) (of_actual p passed here (row_at p at))
 layer p (Gather at set here) = until_end at (scalar set) (of_members set here (row_at p at))
 layer p (Establish at body here) = until_end at (Sub (Exec body here) Ret) (of_records here body (row_at p at))
 layer p (Exec row here) = statement_in p row here (row_at p row)

@@ -7,6 +7,7 @@ pub mod Blocks
 pub mod Cells
 pub mod Choices
 pub mod Classes
+pub mod Conformant
 pub mod Expressions
 pub mod Headings
 pub mod Heap
@@ -17,6 +18,7 @@ pub mod Lists
 pub mod Numbering
 pub mod Output
 pub mod Packing
+pub mod Passed
 pub mod ProgramRows
 pub mod Replay
 pub mod Run
@@ -25,6 +27,7 @@ pub mod State
 pub mod Statements
 pub mod Transfers
 pub mod Tree
+pub mod TypeClasses
 pub mod Values
 pub mod Variants
 pub mod WholeTables

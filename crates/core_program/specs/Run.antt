@@ -1,6 +1,6 @@
 -- The meaning of a tree, of a call and of a run.
 use Rattle.std.specs.Prelude.{if◌then◌else◌, ◌&&◌, ◌*◌, ◌++◌, ◌+◌, ◌-◌, ◌==◌, ◌∷◌, [], ℕ, ℤ, Err, List, None, Ok}
-use Rattle.std.specs.Prelude.{Option, Result as Outcome_of, Some, length, map, nat_lt, replicate, suc, take, zero}
+use Rattle.std.specs.Prelude.{Option, Result as Outcome_of, Some, drop, length, map, nat_lt, replicate, suc, take, zero}
 use Rattle.std.specs.FinMap.{empty}
 use Rattle.cell_value.specs.{Arithmetic.in_range_of, declared.entries.Touch.Touch, declared.faults.OpFault.OpFault}
 use Rattle.cell_value.specs.declared.values.Value.{Value, TheVariants.Nil, TheVariants.Undefined}
@@ -11,6 +11,7 @@ use Rattle.core_program.specs.{State.stack_end, Statements.nothing, Statements.o
 use Rattle.core_program.specs.{Tree.way_of, declared.program.Routine.Routine}
 use Rattle.core_program.specs.Actions.{◌>>=◌, Action, Fail, Give}
 use Rattle.core_program.specs.Acts.{ActResult, Fault, Limited, OutOfSteps, Spend, Stops, Went, limit_passed, perform}
+use Rattle.core_program.specs.Passed.{args_at, cells_entered, nothing_passed}
 use Rattle.core_program.specs.ProgramRows.{ProgramRows, routine_at, row_at, type_at}
 use Rattle.core_program.specs.Tree.{ActTree, Body, Do, Enter, Halt, Jump, Line, Meaningless, Out, Part, Ret, Scalar}
 use Rattle.core_program.specs.declared.rows.{PartRow.PartRow, Row.Row, TypeRow.TypeRow, TypeRow.TheVariants.Pointer}
@@ -90,8 +91,10 @@ module _ {S E : Type 0} where
   walk rules sub call (Do line act next) σ = on_done rules line σ (perform act (rules.state_of σ))
       (λ x τ. walk rules sub call (next x) τ)
   walk rules sub call (Sub part next) σ = joined (sub part σ) (λ out τ. walk rules sub call (next out) τ)
-  walk rules sub call (Enter routine cells args next) σ = if_allowed (limit_passed (rules.state_of σ) cells) σ
-      (joined (call routine args σ) (λ out τ. walk rules sub call (next out) τ))
+  walk rules sub call (Enter entering next) σ =
+      if_allowed (limit_passed (rules.state_of σ) (cells_entered entering)) σ
+      (joined (call entering.routine (args_at entering (rules.state_of σ).top) σ)
+      (λ out τ. walk rules sub call (next out) τ))
   walk rules sub call (Line line next) σ = on_done rules line σ (perform (Spend 1) (rules.state_of σ))
       (λ _ τ. in_front [] (rules.line line) (walk rules sub call next τ))
 
@@ -114,9 +117,19 @@ abbrev pub result_in : End → Option Value
 result_in (Ended (Scalar v)) = Some v
 result_in e = None
 
--- the n cells of a frame: the link and the parameters, and then cells of which none has a value
-abbrev pub frame_cells : ℕ → List Value → List Value
-frame_cells n args = take n (args ++ replicate n Undefined)
+-- The arguments of a call are the cells of the link and of the parameters, and after them the copies of arrays that
+-- were passed by value.
+abbrev pub copies_in : Routine → List Value → List Value
+copies_in r args = drop r.parameters args
+
+-- how many cells a frame has, with the copies
+abbrev pub frame_size : Routine → List Value → ℕ
+frame_size r args = r.cells + length (copies_in r args)
+
+-- the cells of a frame: the link and the parameters, then cells of which none has a value, and then the copies
+abbrev pub frame_cells : Routine → List Value → List Value
+frame_cells r args =
+    take r.cells (take r.parameters args ++ replicate r.cells Undefined) ++ copies_in r args
 
 -- a call is entered
 abbrev pub opened : State → State
@@ -126,12 +139,12 @@ opened σ = record σ { calls = σ.calls + 1; depth = σ.depth + 1 }
 abbrev pub call_closed : ℕ → State → State
 call_closed depth σ = record σ { depth = depth }
 
--- a frame of n cells is made at the top, with a step for each cell
-abbrev pub with_frame : ℕ → List Value → State → State
-with_frame n args σ = record σ {
-  cells = filled σ.top (frame_cells n args) σ.cells;
-  top = σ.top + n;
-  steps = σ.steps - n;
+-- a frame of a routine is made at the top, with a step for each cell
+abbrev pub with_frame : Routine → List Value → State → State
+with_frame r args σ = record σ {
+  cells = filled σ.top (frame_cells r args) σ.cells;
+  top = σ.top + frame_size r args;
+  steps = σ.steps - frame_size r args;
 }
 
 -- the frame of n cells at a base is removed
@@ -141,7 +154,7 @@ without_frame base n σ = record σ { cells = cleared base n σ.cells; top = bas
 -- a call; the calls below it come after it, in order of entry
 pub record Call : Type 0 where
   pub routine : ℕ
-  -- the link and the cells of the parameters
+  -- the link and the cells of the parameters, and then those of the copies
   pub args : List Value
   -- where its frame begins
   pub base : ℕ
@@ -230,10 +243,11 @@ abbrev pub framed_run : {S E : Type 0} → Holder S → (work : Routine → ℕ 
     → Option Routine → Option (Result S E)
 framed_run holder work args s None = None
 framed_run holder work args s (Some r) =
-    if nat_lt stack_end ((holder.state s).top + r.cells) then ends (Halted (way_of 0 (Limited Stack))) s
-    else if nat_lt (holder.state s).steps r.cells then ends (Halted (way_of 0 OutOfSteps)) (holder.change spent s)
-    else after_all (holder.change (without_frame (holder.state s).top r.cells))
-    (work r (holder.state s).top (holder.change (with_frame r.cells args) s))
+    if nat_lt stack_end ((holder.state s).top + frame_size r args) then ends (Halted (way_of 0 (Limited Stack))) s
+    else if nat_lt (holder.state s).steps (frame_size r args) then
+    ends (Halted (way_of 0 OutOfSteps)) (holder.change spent s)
+    else after_all (holder.change (without_frame (holder.state s).top (frame_size r args)))
+    (work r (holder.state s).top (holder.change (with_frame r args) s))
 
 -- the same where it works on the state itself
 abbrev pub in_frame : (work : Routine → ℕ → State → Outcome) → List Value → State → Option Routine → Outcome
@@ -280,7 +294,7 @@ start input budget = record {
 
 -- The program block is a call whose link leads nowhere. It is entered also where its frame is too large for the stack.
 abbrev pub block : ActTree
-block = Enter 0 0 (Nil ∷ []) Ret
+block = Enter (record { routine = 0; cells = 0; link = Nil; passed = nothing_passed }) Ret
 
 -- So deep can parts and calls stand in one another: each takes a step, or is an access before another, or a labelled
 -- statement, or one of a few that lead to one of these.

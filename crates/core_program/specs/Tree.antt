@@ -1,9 +1,9 @@
 -- What a construct does, as a tree: acts, whose answers decide how it goes on, parts, and calls.
 use Rattle.std.specs.Prelude.{ℕ, ℤ, Bool, List}
 use Rattle.cell_value.specs.declared.{values.Value.Value, ways_out.WayOut.WayOut}
+use Rattle.core_program.specs.{Passed.Entering, Passed.Passed, declared.scan.Scan.Scan}
 use Rattle.core_program.specs.Actions.{Action, Fail, Give, NoMeaning, Perform}
 use Rattle.core_program.specs.Acts.{Act, Answer, Fault, Limited, OutOfSteps, Trouble}
-use Rattle.core_program.specs.declared.scan.Scan.{Scan}
 
 -- how a part ends, if nothing stops the run
 pub data Out : Type 0 where
@@ -11,10 +11,14 @@ pub data Out : Type 0 where
   Nothing : Out
   -- the value of an expression of a type of one cell
   Scalar : (value : Value) → Out
-  -- the values of the cells of an array, a record or a string, or the cells of parameters
+  -- the values of the cells of an array, a record or a string
   Cells : (values : List Value) → Out
+  -- what is passed to a routine
+  Actuals : (passed : Passed) → Out
   -- the variable that an access denotes, by the address of its first cell
   Address : (address : ℕ) → Out
+  -- the same of a conformant array, and where the frame begins that has its bounds
+  Bounded : (address frame : ℕ) → Out
   -- a goto to a label, in the frame at a base
   Jump : (label base : ℕ) → Out
 
@@ -33,8 +37,8 @@ pub data Part : Type 0 where
   Eval : (row : ℕ) (here : Here) → Part
   -- the variable that an access denotes; a target access activates variants that have no tag field
   Locate : (row : ℕ) (target : Bool) (here : Here) → Part
-  -- the actual parameters from a position of a list on, where those before it gave these cells
-  Pass : (at : ℕ) (passed : List Value) (here : Here) → Part
+  -- the actual parameters from a position of a list on, where those before it were passed so
+  Pass : (at : ℕ) (passed : Passed) (here : Here) → Part
   -- the members of a set constructor from an item on, where those before it made this set
   Gather : (at : ℕ) (set : Value) (here : Here) → Part
   -- a statement
@@ -69,8 +73,8 @@ pub data ActTree : Type 0 where
   Do : (line : ℕ) (act : Act) (next : Answer act → ActTree) → ActTree
   -- a part, and how it goes on after it
   Sub : (part : Part) (next : Out → ActTree) → ActTree
-  -- a call of a routine with a frame of this many cells, unless a limit would be passed, and how it goes on after it
-  Enter : (routine cells : ℕ) (args : List Value) (next : Out → ActTree) → ActTree
+  -- a call of a routine, unless a limit would be passed, and how it goes on after it
+  Enter : (entering : Entering) (next : Out → ActTree) → ActTree
   -- a statement that is neither compound nor empty begins on this line, which takes a step
   Line : (line : ℕ) (next : ActTree) → ActTree
 
@@ -87,7 +91,7 @@ bind (Halt line why) f = Halt line why
 bind Meaningless f = Meaningless
 bind (Do line act next) f = Do line act (λ x. bind (next x) f)
 bind (Sub part next) f = Sub part (λ x. bind (next x) f)
-bind (Enter routine cells args next) f = Enter routine cells args (λ x. bind (next x) f)
+bind (Enter entering next) f = Enter entering (λ x. bind (next x) f)
 bind (Line line next) f = Line line (bind next f)
 
 -- goes on after an action of a statement on this line

@@ -30,6 +30,11 @@ is_structured_type (Some (TypeRow.Array packed index component cells)) = true
 is_structured_type (Some (TypeRow.Record packed region cells variants)) = true
 is_structured_type t = false
 
+-- the array of a conformant parameter
+abbrev pub is_conformant_type : Option TypeRow → Bool
+is_conformant_type (Some (TypeRow.Conformant packed index component place)) = true
+is_conformant_type t = false
+
 -- the type of a function's result
 abbrev pub is_result_type : Option TypeRow → Bool
 is_result_type (Some (TypeRow.Pointer domain)) = true
@@ -49,6 +54,9 @@ is_record_type t = false
 
 abbrev pub is_type : ProgramRows → ℕ → Bool
 is_type p n = is_some (type_at p n)
+
+abbrev pub is_conformant : ProgramRows → ℕ → Bool
+is_conformant p n = is_conformant_type (type_at p n)
 
 abbrev pub is_ordinal : ProgramRows → ℕ → Bool
 is_ordinal p n = is_ordinal_type (type_at p n)
@@ -104,6 +112,8 @@ is_turns_row r = false
 abbrev pub type_accessed : AccessRow → ℕ
 type_accessed (AccessRow.Variable place levels of') = of'
 type_accessed (AccessRow.Reference place levels of') = of'
+type_accessed (AccessRow.Conformant place levels of') = of'
+type_accessed (AccessRow.Component access index array of') = of'
 type_accessed (AccessRow.Within record' field of') = of'
 type_accessed (AccessRow.Index access index array of') = of'
 type_accessed (AccessRow.Field access field of') = of'
@@ -138,10 +148,16 @@ abbrev pub is_scalar_row : ProgramRows → Row → Bool
 is_scalar_row p (Row.Expression e) = gives_one_cell p e
 is_scalar_row p r = is_access_to is_simple_type p r
 
+-- an access that finds the bounds of the array of a conformant parameter
+abbrev pub is_bounded_row : ProgramRows → Row → Bool
+is_bounded_row p (Row.Access (AccessRow.Conformant place levels of')) = is_conformant p of'
+is_bounded_row p (Row.Access (AccessRow.Component access index array of')) = is_conformant p of'
+is_bounded_row p r = false
+
 -- an expression whose value is the cells of an array, a record or a string
 abbrev pub is_cells_row : ProgramRows → Row → Bool
 is_cells_row p (Row.Expression (ExpressionRow.Text token)) = true
-is_cells_row p r = is_access_to is_structured_type p r
+is_cells_row p r = is_access_to is_structured_type p r || is_bounded_row p r
 
 abbrev pub is_statement : ProgramRows → ℕ → Bool
 is_statement p n = is_statement_row (row_at p n)
@@ -159,6 +175,9 @@ is_read_access p n = is_access_to is_ordinal_type p (row_at p n)
 abbrev pub is_array_access : ProgramRows → ℕ → Bool
 is_array_access p n = is_access_to is_array_type p (row_at p n)
 
+abbrev pub is_bounded : ProgramRows → ℕ → Bool
+is_bounded p n = is_bounded_row p (row_at p n)
+
 abbrev pub is_scalar : ProgramRows → ℕ → Bool
 is_scalar p n = is_scalar_row p (row_at p n)
 
@@ -167,7 +186,8 @@ is_cells p n = is_cells_row p (row_at p n)
 
 -- a value for a variable of a type: of one cell, or the cells of an array, a record or a string
 abbrev pub is_value_for : ProgramRows → Option TypeRow → ℕ → Bool
-is_value_for p t n = (is_simple_type t && is_scalar p n) || (is_structured_type t && is_cells p n)
+is_value_for p t n =
+    (is_simple_type t && is_scalar p n) || ((is_structured_type t || is_conformant_type t) && is_cells p n)
 
 -- ---- lists
 
@@ -187,6 +207,8 @@ is_element_of fits r = false
 abbrev pub is_actual_item : Row → Bool
 is_actual_item (Row.Item (ItemRow.Value v of' next)) = true
 is_actual_item (Row.Item (ItemRow.Place a next)) = true
+is_actual_item (Row.Item (ItemRow.ArrayPlace first access of' next)) = true
+is_actual_item (Row.Item (ItemRow.ArrayValue first v of' next)) = true
 is_actual_item (Row.Item (ItemRow.Routine routine levels next)) = true
 is_actual_item (Row.Item (ItemRow.RoutineFormal formal levels next)) = true
 is_actual_item r = false
@@ -213,14 +235,16 @@ is_section_item r = false
 
 -- ---- what each row may name
 
--- the types that a type names
-abbrev pub TypeFits : ProgramRows → TypeRow → Type 0
-TypeFits p (TypeRow.Ordinal least greatest) = Unit {0}
-TypeFits p (TypeRow.Subrange host least greatest) = Holds (is_host_type (type_at p host))
-TypeFits p (TypeRow.Set packed base) = Holds (is_ordinal p base)
-TypeFits p (TypeRow.Pointer domain) = Holds (is_type p domain)
-TypeFits p (TypeRow.Array packed index component cells) = Holds (is_ordinal p index) × Holds (is_type p component)
-TypeFits p (TypeRow.Record packed region cells variants) =
+-- The types that a type names. The arrays inside of one of a conformant parameter stand after it.
+abbrev pub TypeFits : ProgramRows → (at : ℕ) → TypeRow → Type 0
+TypeFits p at (TypeRow.Ordinal least greatest) = Unit {0}
+TypeFits p at (TypeRow.Subrange host least greatest) = Holds (is_host_type (type_at p host))
+TypeFits p at (TypeRow.Set packed base) = Holds (is_ordinal p base)
+TypeFits p at (TypeRow.Pointer domain) = Holds (is_type p domain)
+TypeFits p at (TypeRow.Array packed index component cells) = Holds (is_ordinal p index) × Holds (is_type p component)
+TypeFits p at (TypeRow.Conformant packed index component place) = Holds (is_ordinal p index)
+    × Holds (is_type p component) × (Holds (is_conformant p component) → Holds (nat_lt at component))
+TypeFits p at (TypeRow.Record packed region cells variants) =
     (v : ℕ) → variants ≡ Some v → Holds (is_variants_row (row_at p v))
 
 abbrev pub NameFits : ProgramRows → NameRow → Type 0
@@ -228,6 +252,7 @@ NameFits p (NameRow.Constant of' value) = Holds (is_ordinal p of')
 NameFits p (NameRow.Text token) = Holds (is_text p token)
 NameFits p (NameRow.TypeName of') = Holds (is_type p of')
 NameFits p (NameRow.Variable mode of' place level) = Holds (is_type p of')
+NameFits p (NameRow.Bound of' place level) = Holds (is_ordinal p of')
 NameFits p (NameRow.RoutineFormal place level heading) = Holds (is_some (signature_at p heading))
 NameFits p (NameRow.Field of' offset holder) = Holds (is_type p of') × Holds (is_holder_row (row_at p holder))
 NameFits p (NameRow.Tag of' offset holder variants) =
@@ -309,6 +334,9 @@ ExpressionFits p e = Unit {0}
 abbrev pub AccessFits : ProgramRows → (at : ℕ) → AccessRow → Type 0
 AccessFits p at (AccessRow.Variable place levels of') = Holds (is_type p of')
 AccessFits p at (AccessRow.Reference place levels of') = Holds (is_type p of')
+AccessFits p at (AccessRow.Conformant place levels of') = Holds (is_conformant p of')
+AccessFits p at (AccessRow.Component inner index array of') = Holds (is_bounded p inner) × Holds (nat_lt inner at)
+    × Holds (is_scalar p index) × Holds (is_conformant p array) × Holds (is_type p of')
 AccessFits p at (AccessRow.Within record' field of') = Holds (is_field_row (row_at p field)) × Holds (is_type p of')
 AccessFits p at (AccessRow.Index inner index array of') = Holds (is_access p inner) × Holds (nat_lt inner at)
     × Holds (is_scalar p index) × Holds (is_array_type (type_at p array)) × Holds (is_type p of')
@@ -322,12 +350,28 @@ abbrev pub WrittenFits : ProgramRows → (value of' : ℕ) → Type 0
 WrittenFits p value of' =
     Holds (is_scalar p value || is_cells p value) × (Holds (is_scalar p value) → Holds (is_ordinal p of'))
 
+-- the actual of a conformant variable parameter: an access of an array, with its bounds if it has no fixed ones
+abbrev pub is_array_actual : ProgramRows → ℕ → Bool
+is_array_actual p n = is_array_access p n || is_bounded p n
+
+abbrev pub is_text_row : Row → Bool
+is_text_row (Row.Expression (ExpressionRow.Text token)) = true
+is_text_row r = false
+
+-- and of one by value: such an access or a string
+abbrev pub is_whole_array : ProgramRows → ℕ → Bool
+is_whole_array p n = is_text_row (row_at p n) || is_array_actual p n
+
 abbrev pub ItemFits : ProgramRows → (at : ℕ) → ItemRow → Type 0
 ItemFits p at (ItemRow.Element x next) = (Holds (is_statement p x) → Goes (is_element_of (is_statement p)) p at next)
     × (Holds (is_record_access p x) → Goes (is_element_of (is_record_access p)) p at next)
     × (Holds (is_read_access p x) → Goes (is_element_of (is_read_access p)) p at next)
 ItemFits p at (ItemRow.Value v of' next) = Holds (is_value_for p (type_at p of') v) × Goes is_actual_item p at next
 ItemFits p at (ItemRow.Place a next) = Holds (is_access p a) × Goes is_actual_item p at next
+ItemFits p at (ItemRow.ArrayPlace first a of' next) =
+    Holds (is_array_actual p a) × Holds (is_conformant p of') × Goes is_actual_item p at next
+ItemFits p at (ItemRow.ArrayValue first v of' next) =
+    Holds (is_whole_array p v) × Holds (is_conformant p of') × Goes is_actual_item p at next
 ItemFits p at (ItemRow.Routine routine levels next) = Holds (is_routine p routine) × Goes is_actual_item p at next
 ItemFits p at (ItemRow.RoutineFormal formal levels next) = Holds (is_formal p formal) × Goes is_actual_item p at next
 ItemFits p at (ItemRow.Written v of' next) = WrittenFits p v of' × Goes is_written_item p at next
@@ -346,7 +390,7 @@ ItemFits p at (ItemRow.RoutineSection heading next) =
 
 abbrev pub RowFits : ProgramRows → (at : ℕ) → Row → Type 0
 RowFits p at Row.Nothing = Unit {0}
-RowFits p at (Row.Type t) = TypeFits p t
+RowFits p at (Row.Type t) = TypeFits p at t
 RowFits p at (Row.Name n) = NameFits p n
 RowFits p at (Row.Part q) = PartFits p at q
 RowFits p at (Row.Statement s) = StatementFits p at s
@@ -397,11 +441,14 @@ parts_of (Row.Expression (ExpressionRow.Apply routine levels actuals)) = actuals
 parts_of (Row.Expression (ExpressionRow.ApplyFormal formal levels actuals)) = actuals ∷ []
 parts_of (Row.Expression (ExpressionRow.Function function operand least greatest)) = operand ∷ []
 parts_of (Row.Access (AccessRow.Index inner index array of')) = inner ∷ index ∷ []
+parts_of (Row.Access (AccessRow.Component inner index array of')) = inner ∷ index ∷ []
 parts_of (Row.Access (AccessRow.Field inner field of')) = inner ∷ []
 parts_of (Row.Access (AccessRow.Dereference inner of')) = inner ∷ []
 parts_of (Row.Item (ItemRow.Element x next)) = x ∷ next ∷ []
 parts_of (Row.Item (ItemRow.Value v of' next)) = v ∷ next ∷ []
 parts_of (Row.Item (ItemRow.Place a next)) = a ∷ next ∷ []
+parts_of (Row.Item (ItemRow.ArrayPlace first a of' next)) = a ∷ next ∷ []
+parts_of (Row.Item (ItemRow.ArrayValue first v of' next)) = v ∷ next ∷ []
 parts_of (Row.Item (ItemRow.Routine routine levels next)) = next ∷ []
 parts_of (Row.Item (ItemRow.RoutineFormal formal levels next)) = next ∷ []
 parts_of (Row.Item (ItemRow.Written v of' next)) = v ∷ next ∷ []

@@ -8,13 +8,14 @@ ghost use Rattle.core_program.specs.Classes.{AreClasses, Classed, Interned, clas
 use crate::headings::{FormalSection, section_at, signature_at};
 use crate::rows::{LIST_END, Mode};
 use crate::tables::ProgramTables;
+use crate::type_classes::{type_class, type_classes_of};
 use std::alloc::{AllocError, Global};
 use std::collections::HashMap;
 
 /// What a list is made of: its first section, and the classes of the lists inside of that and after it.
 #[derive(Clone, Copy, PartialEq, Eq, Hash)]
 pub enum Form {
-    /// This many variables or values of a type.
+    /// This many variables or values, and the class of their type.
     Names {
         mode: Mode,
         count: u32,
@@ -40,15 +41,15 @@ pub(crate) fn class_at(classes: &[u32], list: u32) -> u32
 }
 
 /// The form of the list at a number, and None where it is empty.
-fn form_at(tables: &ProgramTables, classes: &[u32], list: u32) -> Option<Form>
-    ensures { result ≡ form_at tables.now classes.now list }
+fn form_at(tables: &ProgramTables, types: &[u32], classes: &[u32], list: u32) -> Option<Form>
+    ensures { result ≡ form_at tables.now types.now classes.now list }
 {
     match section_at(tables, list) {
         None => None,
         Some((FormalSection::Names { mode, of, count }, next)) => Some(Form::Names {
             mode,
             count,
-            of,
+            of: type_class(tables, types, of),
             rest: class_at(classes, next),
         }),
         Some((FormalSection::Heading(heading), next)) => match signature_at(tables, heading) {
@@ -93,16 +94,17 @@ fn class_in(known: &mut HashMap<Form, u32>, form: Option<Form>, new: u32) -> Res
 #[tactic(auto, using(crate::proofs::ListsClassed::classed))]
 fn classify(
     tables: &ProgramTables,
+    types: &[u32],
     known: &mut HashMap<Form, u32>,
     classes: &mut Vec<u32>,
     at: u32,
 ) -> Result<(), AllocError>
     requires whole { WholeTables tables.now }
     requires inside { at < length tables.now.rows }
-    requires after { Classed tables.now (get same_form known.old) (at + 1) classes.old.items }
-    ensures { OnOk result (Classed tables.now (get same_form known.new) at classes.new.items) }
+    requires after { Classed tables.now types.now (get same_form known.old) (at + 1) classes.old.items }
+    ensures { OnOk result (Classed tables.now types.now (get same_form known.new) at classes.new.items) }
 {
-    let form = form_at(tables, classes, at);
+    let form = form_at(tables, types, classes, at);
     let class = class_in(known, form, at)?;
     classes[at as usize] = class;
     Ok(())
@@ -117,12 +119,13 @@ pub(crate) fn classes_of(alloc: Global, tables: &ProgramTables) -> Result<Vec<u3
     let Ok(rows) = u32::try_from(tables.rows()) else {
         return Err(AllocError);
     };
+    let types = type_classes_of(alloc, tables)?;
     let mut known = HashMap::new(alloc);
     let mut classes = vec![in alloc; LIST_END; tables.rows()]?;
     let mut at = rows;
     'lists: while at > 0 {
         at -= 1;
-        classify(tables, &mut known, &mut classes, at)?;
+        classify(tables, &types, &mut known, &mut classes, at)?;
     }
     Ok(classes)
 }

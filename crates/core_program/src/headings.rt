@@ -74,6 +74,17 @@ pub(crate) fn section_at(tables: &ProgramTables, at: u32) -> Option<(FormalSecti
     }
 }
 
+/// Whether two arrays are both packed, or neither is.
+pub fn same_packing(left: bool, right: bool) -> bool
+    ensures { result ≡ headings.same_packing left right }
+{
+    match (left, right) {
+        (true, true) => true,
+        (false, false) => true,
+        _ => false,
+    }
+}
+
 fn same_result(left: Option<u32>, right: Option<u32>) -> bool
     ensures { result ≡ headings.same_result left right }
 {

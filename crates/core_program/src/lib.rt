@@ -16,10 +16,11 @@ mod run_laws;
 mod scan;
 mod search;
 mod tables;
+mod type_classes;
 mod variants;
 
-pub use components::Components;
-pub use headings::may_stand_for;
+pub use components::{Components, Extent, HeldSpec};
+pub use headings::{may_stand_for, same_packing};
 pub use laws::{
     depth_is_enough, every_call_runs, every_program_runs, every_run_has_a_call, marks_tell_the_log,
     numbers_tell_the_tree,

@@ -23,8 +23,11 @@ pub struct Routine {
     pub heading: u32,
     /// How many blocks are around its own.
     pub level: u32,
-    /// The cells of its frame: the link, the parameters, the result of a function, and the variables.
+    /// The cells of its frame: the link, the parameters, the result of a function, and the variables. Copies of
+    /// conformant parameters come after them, and are not counted.
     pub cells: u32,
+    /// How many of them the link and the parameters have, with the bounds of conformant ones.
+    pub parameters: u32,
     /// Of a function, the place of its result in the frame.
     pub result: Option<u32>,
     /// The list of the statements of its statement part.

@@ -1,10 +1,11 @@
 //! The rows of a program's tables.
 //!
 //! A row is numbered by the token that its construct alone has: a definition by its name; a type by its `(`, `..`,
-//! `^`, `[`, `set` or `record`, and each further index type of an array by the comma before it; an expression by its
-//! operator, sign, bracket, or only token; an access by its name or its last selector; a statement by `:=`, by its
-//! first word or name, by `end` if it is compound, by `until`, or by the `do` of a with statement. The types integer,
-//! Boolean and char have the numbers 0, 1 and 2, and required names have those after the last token.
+//! `^`, `[`, `set` or `record`, each further index type of an array by the comma before it, and each further spec of a
+//! schema by the semicolon before it; an expression by its operator, sign, bracket, or only token; an access by its
+//! name or its last selector; a statement by `:=`, by its first word or name, by `end` if it is compound, by `until`,
+//! or by the `do` of a with statement. The types integer, Boolean and char have the numbers 0, 1 and 2, and required
+//! names have those after the last token.
 //!
 //! A list (statements, actuals, members, values of a case) is a chain of rows at the token that opens it and at its
 //! separators: each names the next one, which stands after it, and the last one names the number 0, which ends lists.
@@ -73,6 +74,15 @@ pub enum TypeRow {
         component: u32,
         cells: u32,
     },
+    /// The array of a conformant parameter, by a spec of its schema: the type of the spec, the component type, which is
+    /// by the next spec where there is one, and the place in the frame of the cell with its least index. The cell after
+    /// that has the greatest one.
+    Conformant {
+        packed: bool,
+        index: u32,
+        component: u32,
+        place: u32,
+    },
     /// A record: the region of its fields, its cells, and the number of its variant part.
     Record {
         packed: bool,
@@ -100,6 +110,12 @@ pub enum NameRow {
     /// A variable or a parameter: its type, its place in a frame, and how many blocks are around the one of the frame.
     Variable {
         mode: Mode,
+        of: u32,
+        place: u32,
+        level: u32,
+    },
+    /// A bound of a conformant parameter: its type, its place in a frame, and the level of the frame.
+    Bound {
         of: u32,
         place: u32,
         level: u32,
@@ -155,6 +171,8 @@ pub enum Mode {
     Value,
     /// A variable parameter: a cell with the address of the actual.
     Place,
+    /// A conformant parameter by value: a cell with the address of its copy, of which an actual makes the first values.
+    Copy,
 }
 
 /// Parts of types, of headings, and of routines that are declared in two places.
@@ -241,6 +259,21 @@ pub enum ItemRow {
     /// An actual of a variable parameter: an access.
     Place {
         access: u32,
+        next: u32,
+    },
+    /// An actual of a conformant variable parameter: an access, the type of the parameter, and whether it is the first
+    /// of its section, of which the bounds are taken.
+    ArrayPlace {
+        first: bool,
+        access: u32,
+        of: u32,
+        next: u32,
+    },
+    /// An actual of a conformant parameter by value: an expression, and the same.
+    ArrayValue {
+        first: bool,
+        value: u32,
+        of: u32,
         next: u32,
     },
     /// An actual of a routine parameter: a routine, and how many links lead to the frame that declares it.
@@ -560,6 +593,20 @@ pub enum AccessRow {
     Reference {
         place: u32,
         levels: u32,
+        of: u32,
+    },
+    /// A conformant parameter: the variable whose address the cell at that place holds, and whose bounds stand in the
+    /// same frame.
+    Conformant {
+        place: u32,
+        levels: u32,
+        of: u32,
+    },
+    /// A component of the array of a conformant parameter, as `Index`.
+    Component {
+        access: u32,
+        index: u32,
+        array: u32,
         of: u32,
     },
     /// A field of the record of a with statement: that record's position among those of the with statements around,

@@ -1,17 +1,17 @@
 -- Whose frame has an address of the stack while a call runs.
 use Rattle.std.proofs.Common.{if◌then◌else◌, ◌&&◌, ◌++◌, ◌+◌, ◌-◌, ◌<◌, ◌==◌, ◌∙◌, ◌∷◌, ◌≡◌, ◌≤◌, [], ℕ, Bool, List, None, Option, Some, ap, append-nil, arith}
-use Rattle.std.proofs.Common.{cond, false, filter, inl, inr, length, nat_le, nat_lt, refl, subst, suc, sym, true, zero}
+use Rattle.std.proofs.Common.{cond, drop, false, filter, inl, inr, length, nat_le, nat_lt, refl, subst, suc, sym, true, zero}
 use Rattle.std.proofs.lemmas.{Bool.Decides.nat_tests, List.Elements.filter-append, Option.slice_get-map, Option.slice_get_within}
 use Rattle.std.specs.{List.slice_get, Option.IsSome, Option.option_map}
-use Rattle.cell_value.specs.Effects.{heap_start, last_of}
-use Rattle.core_program.specs.{ProgramRows.ProgramRows, ProgramRows.routine_at, WholeTables.WholeTables, declared.program.Routine.Routine}
+use Rattle.cell_value.specs.{Effects.heap_start, Effects.last_of, declared.values.Value.Value}
+use Rattle.core_program.specs.{ProgramRows.ProgramRows, ProgramRows.routine_at, Run.frame_size, WholeTables.WholeTables, declared.program.Routine.Routine}
 use Rattle.call_tree.specs.declared.records.Call.{Call}
-use Rattle.cell_names.specs.{Layouts.part, Places.is_begun, Places.last_at}
-use Rattle.cell_names.specs.Names.{Scene, begins_there, heap_root, is_link, local_at, local_root, root_at, root_in, stack_root}
-use Rattle.cell_names.specs.declared.{names.Local.Local, names.Root.Root, places.PlacedPart.PlacedPart}
+use Rattle.cell_names.specs.{Conformant.argument_by, Conformant.arguments_of, Layouts.part, Places.is_begun, Places.last_at}
+use Rattle.cell_names.specs.Names.{Scene, begins_there, frame, heap_root, is_link, local_at, local_root, root_at, root_in, stack_root}
+use Rattle.cell_names.specs.declared.{names.Frame.Frame, names.Local.Local, names.Root.Root, places.PlacedPart.PlacedPart}
 use Rattle.question_text.specs.{Cards.Recorded, Cards.scene_of, Frames.frame_by, Frames.opened_by, Frames.opened_from}
-use Rattle.debuggee.proofs.{FramesFollow.BeginsAt, FramesFollow.EndsAt, FramesFollow.IsFramed, PlacesHaveNames.place_named}
-use Rattle.debuggee.specs.LeftOut.{LiesUnfilled}
+use Rattle.debuggee.proofs.{FramesFollow.BeginsAt, FramesFollow.EndsAt, FramesFollow.IsFramed, PlacesHaveNames.copy_named, PlacesHaveNames.place_named}
+use Rattle.debuggee.specs.LeftOut.{LiesUncopied, LiesUnfilled}
 
 -- ---- one part more
 
@@ -50,11 +50,11 @@ module _ (p : ProgramRows) (calls : List Call) where
     pub routine : Routine
     pub has : routine_at p call.routine ≡ Some routine
     pub low : found.place ≤ a
-    pub high : a < found.place + routine.cells
+    pub high : a < found.place + frame_size routine call.args
 
   pub found_in : ((n : ℕ) (c : Call) → slice_get calls n ≡ Some c → IsFramed p calls n c) → (most k : ℕ) (c : Call) → slice_get calls k ≡ Some c
       → k < most
-      → (q : Routine) → routine_at p c.routine ≡ Some q → (a : ℕ) → a < c.entry.top + q.cells
+      → (q : Routine) → routine_at p c.routine ≡ Some q → (a : ℕ) → a < c.entry.top + frame_size q c.args
       → Found a (last_at a (opened_from calls most (Some k)))
   found_in every zero k c e less q has a below = absurd (omega (arith, less))
   found_in every (suc most) k c e less q has a below =
@@ -64,15 +64,16 @@ module _ (p : ProgramRows) (calls : List Call) where
       outer : List PlacedPart
       outer = opened_from calls most c.parent
 
-      further : ((j : ℕ) (d : Call) → slice_get calls j ≡ Some d → j < most → (q : Routine) → routine_at p d.routine ≡ Some q → a < d.entry.top + q.cells
-          → Found a (last_at a (opened_from calls most (Some j)))) → (o : Option ℕ) → BeginsAt p calls k o c.entry.top → a < c.entry.top
+      further : ((j : ℕ) (d : Call) → slice_get calls j ≡ Some d → j < most → (q : Routine) → routine_at p d.routine ≡ Some q
+          → a < d.entry.top + frame_size q d.args → Found a (last_at a (opened_from calls most (Some j))))
+          → (o : Option ℕ) → BeginsAt p calls k o c.entry.top → a < c.entry.top
           → Found a (last_at a (opened_from calls most o))
       further go None b l = absurd (omega (arith, b, l))
       further go (Some j) b l =
           let d : EndsAt p calls j c.entry.top = b.1 in
           go j d.call d.is (let m = b.0 in omega (arith, m, less)) d.routine d.has (let z = d.ends in omega (arith, z, l))
 
-      by : ((j : ℕ) (d : Call) → slice_get calls j ≡ Some d → j < most → (q : Routine) → routine_at p d.routine ≡ Some q → a < d.entry.top + q.cells
+      by : ((j : ℕ) (d : Call) → slice_get calls j ≡ Some d → j < most → (q : Routine) → routine_at p d.routine ≡ Some q → a < d.entry.top + frame_size q d.args
           → Found a (last_at a (opened_from calls most (Some j)))) → (b : Bool) → nat_le c.entry.top a ≡ b
           → Found a (last_at a (outer ++ part c.entry.top k ∷ []))
       by go true f = let l : c.entry.top ≤ a = grind (arith, nat_tests) in record {
@@ -88,6 +89,27 @@ module _ (p : ProgramRows) (calls : List Call) where
       by go false f = subst (Found a) (sym (before a outer (part c.entry.top k) f))
           (further go c.parent (every k c e).begins (let l : a < c.entry.top = grind (arith, nat_tests) in l))
 
+-- ---- what a call was given
+
+get_there : (i : ℕ) (vs : List Value) → i < length vs → IsSome (slice_get vs i)
+get_there i [] h = absurd (omega (arith, h))
+get_there zero (v ∷ vs) h = refl
+get_there (suc i) (v ∷ vs) h = get_there i vs (omega (arith, h))
+
+dropped_get : (n i : ℕ) (vs : List Value) → i < length (drop n vs) → IsSome (slice_get vs (n + i))
+dropped_get zero i vs h = subst (λ j. IsSome (slice_get vs j)) (let x : i ≡ zero + i = omega arith in x) (get_there i vs h)
+dropped_get (suc n) i [] h = absurd (omega (arith, h))
+dropped_get (suc n) i (v ∷ vs) h =
+    subst (λ j. IsSome (slice_get (v ∷ vs) j)) (let x : suc (n + i) ≡ suc n + i = omega arith in x) (dropped_get n i vs h)
+
+-- a place of a call's frame behind the cells of its routine is there for a value that the call was given
+pub passed_there : (k : Recorded) (number : ℕ) (call : Call) → slice_get k.calls number ≡ Some call → (q : Routine) (place : ℕ) → q.cells ≤ place
+    → place < frame_size q call.args → IsSome (arguments_of k.calls number (q.parameters + (place - q.cells)))
+passed_there k number call e q place after inside =
+    subst (λ o. IsSome (argument_by (q.parameters + (place - q.cells)) o))
+    (sym (slice_get-map (λ (c : Call). c.args) k.calls number ∙ ap (option_map (λ (c : Call). c.args)) e))
+    (dropped_get q.parameters (place - q.cells) call.args (omega (arith, after, inside)))
+
 -- ---- addresses
 
 module _ (k : Recorded) (whole : WholeTables k.program) (number : ℕ) where
@@ -99,6 +121,7 @@ module _ (k : Recorded) (whole : WholeTables k.program) (number : ℕ) where
     HasName : IsSome o → OnStack a o
     Begins : begins_there a (scene.opened a) ≡ true → OnStack a o
     NoName : LiesUnfilled scene a → OnStack a o
+    NoCopy : LiesUncopied scene a → OnStack a o
 
   local_some : (call routine : ℕ) (o : Option Local) → IsSome o → IsSome (local_root call routine o)
   local_some call routine None h = absurd (let z : false ≡ true = h in cc)
@@ -108,22 +131,22 @@ module _ (k : Recorded) (whole : WholeTables k.program) (number : ℕ) where
   routine_of number call e = slice_get-map (λ (c : Call). c.routine) k.calls number ∙ ap (option_map (λ (c : Call). c.routine)) e
 
   root_of : (a : ℕ) (found : PlacedPart) (call : Call) → slice_get k.calls found.number ≡ Some call
-      → stack_root scene a (Some found) ≡ local_root found.number call.routine (local_at scene call.routine (a - found.place))
-  root_of a found call e = ap (λ o. root_in scene found.number (a - found.place) o) (routine_of found.number call e)
+      → stack_root scene a (Some found) ≡ local_root found.number call.routine (local_at scene (frame found.number call.routine found.place) (a - found.place))
+  root_of a found call e = ap (λ o. root_in scene found.number found.place (a - found.place) o) (routine_of found.number call e)
 
   on_stack : (a : ℕ) → Found k.program k.calls a (scene.opened a) → OnStack a (stack_root scene a (scene.opened a))
   on_stack a f = subst (λ o. OnStack a (stack_root scene a o)) (sym f.is)
       (subst (OnStack a) (sym (root_of a f.found f.call f.stands)) (by (f.found.place == a) refl))
     where
-      by : (b : Bool) → (f.found.place == a) ≡ b → OnStack a (local_root f.found.number f.call.routine (local_at scene f.call.routine (a - f.found.place)))
-      by true q = Begins (ap (begins_there a) f.is ∙ q)
-      by false q =
-          let other : f.found.place ≡ a → ⊥ = grind (arith, nat_tests) in
-          let low = f.low in
-          let high = f.high in
-          let some : 0 < a - f.found.place = grind (arith, low, other) in
-          elim (place_named k number whole f.call.routine (a - f.found.place) f.routine f.has some (omega (arith, low, high))) [
-            | inl h ↦ HasName (local_some f.found.number f.call.routine (local_at scene f.call.routine (a - f.found.place)) h)
+      base : Frame
+      base = frame f.found.number f.call.routine f.found.place
+
+      own : (b : Bool) → nat_le f.routine.cells (a - f.found.place) ≡ b → 0 < a - f.found.place
+          → OnStack a (local_root f.found.number f.call.routine (local_at scene base (a - f.found.place)))
+      own false q some =
+          let before : a - f.found.place < f.routine.cells = grind (arith, nat_tests) in
+          elim (place_named k number whole base (a - f.found.place) f.routine f.has some before) [
+            | inl h ↦ HasName (local_some f.found.number f.call.routine (local_at scene base (a - f.found.place)) h)
             | inr u ↦ NoName (record {
               part = f.found;
               opened = f.is;
@@ -132,12 +155,36 @@ module _ (k : Recorded) (whole : WholeTables k.program) (number : ℕ) where
               unfilled = u;
             })
           ]
+      own true q some =
+          let after : f.routine.cells ≤ a - f.found.place = grind (arith, nat_tests) in
+          let low = f.low in
+          let high = f.high in
+          let inside : a - f.found.place < frame_size f.routine f.call.args = omega (arith, low, high) in
+          elim (copy_named k number base (a - f.found.place) f.routine f.has some after
+          (passed_there k f.found.number f.call f.stands f.routine (a - f.found.place) after inside)) [
+            | inl h ↦ HasName (local_some f.found.number f.call.routine (local_at scene base (a - f.found.place)) h)
+            | inr u ↦ NoCopy (record {
+              part = f.found;
+              opened = f.is;
+              number = f.call.routine;
+              routine = routine_of f.found.number f.call f.stands;
+              uncopied = u;
+            })
+          ]
+
+      by : (b : Bool) → (f.found.place == a) ≡ b → OnStack a (local_root f.found.number f.call.routine (local_at scene base (a - f.found.place)))
+      by true q = Begins (ap (begins_there a) f.is ∙ q)
+      by false q =
+          let other : f.found.place ≡ a → ⊥ = grind (arith, nat_tests) in
+          let low = f.low in
+          own (nat_le f.routine.cells (a - f.found.place)) refl (grind (arith, low, other))
 
   -- the root of an address of a call's reads or changes
   pub data Rooted (a : ℕ) (o : Option Root) : Type 0 where
     HasRoot : IsSome o → Rooted a o
     IsLink : is_link scene a ≡ true → Rooted a o
     IsUnfilled : LiesUnfilled scene a → Rooted a o
+    IsUncopied : LiesUncopied scene a → Rooted a o
     NoBlock : heap_start ≤ a → scene.finding.block a ≡ None → Rooted a o
 
   on_heap : (a : ℕ) → heap_start ≤ a → (o : Option PlacedPart) → scene.finding.block a ≡ o → Rooted a (heap_root a o)
@@ -148,6 +195,7 @@ module _ (k : Recorded) (whole : WholeTables k.program) (number : ℕ) where
   lower a o l (HasName h) = HasRoot h
   lower a o l (Begins h) = IsLink (ap (λ b. b && begins_there a (scene.opened a)) l ∙ h)
   lower a o l (NoName u) = IsUnfilled u
+  lower a o l (NoCopy u) = IsUncopied u
 
   pub rooted : (c : Call) → slice_get k.calls number ≡ Some c → ((n : ℕ) (c : Call) → slice_get k.calls n ≡ Some c → IsFramed k.program k.calls n c)
       → (a : ℕ) → (a < heap_start → a < c.entry.top) → Rooted a (root_at scene a)

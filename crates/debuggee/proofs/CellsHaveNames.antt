@@ -15,14 +15,14 @@ use Rattle.core_program.specs.Run as meaning
 use Rattle.run_laws.{proofs.HeapMadeFirst.AllIdle, proofs.HeapMadeFirst.run_first, proofs.RunsMiss.misses_end, specs.HeapLaws.makes_variable}
 use Rattle.call_tree.specs.{Told.part_of, declared.records.Call.Call}
 use Rattle.program_run.specs.{History.log_of, History.recording_of, Table.table_row}
-use Rattle.cell_names.specs.{Finding.blocks_of, Names.Scene, Names.local_at, Names.root_at, Places.last_at}
+use Rattle.cell_names.specs.{Finding.blocks_of, Names.Scene, Names.frame, Names.local_at, Names.root_at, Places.last_at}
 use Rattle.question_text.specs.Cards.{Recorded, result_type, scene_of}
-use Rattle.debuggee.proofs.{CallsAreNumbered.calls_kept, FramesFollow.IsFramed, FramesFollow.frames_of_run, PlacesHaveNames.function_result}
-use Rattle.debuggee.proofs.{PlacesHaveNames.place_named, ResultsAreOfFunctions.IsFunction, ResultsAreOfFunctions.is_function}
-use Rattle.debuggee.proofs.AddressesHaveRoots.{HasRoot, IsLink, IsUnfilled, NoBlock, Rooted, rooted}
+use Rattle.debuggee.proofs.{CallsAreNumbered.calls_kept, FramesFollow.IsFramed, FramesFollow.frames_of_run, PlacesHaveNames.copy_named}
+use Rattle.debuggee.proofs.{PlacesHaveNames.function_result, PlacesHaveNames.place_named, ResultsAreOfFunctions.IsFunction, ResultsAreOfFunctions.is_function}
+use Rattle.debuggee.proofs.AddressesHaveRoots.{HasRoot, IsLink, IsUncopied, IsUnfilled, NoBlock, Rooted, passed_there, rooted}
 use Rattle.debuggee.proofs.HeapCellsHaveBlocks.{idle_left, idle_log, idle_right, none_made, seen_missed, unchanged}
 use Rattle.debuggee.specs.Execution.{Supply, execution_of}
-use Rattle.debuggee.specs.LeftOut.{IsLastMiss, IsNamed, Link, Named, NamedAs, NotFilled, OfLastMiss, OfNamed, SeenAs, Unfilled}
+use Rattle.debuggee.specs.LeftOut.{CopiesNamed, IsLastMiss, IsNamed, Link, Named, NamedAs, NotCopied, NotFilled, OfLastMiss, OfNamed, SeenAs, Unfilled}
 
 -- the run of a program, as its cards tell of it
 abbrev pub recorded_of : ProgramRows → (tokens : ℕ) → (input : List ℕ) → (budget : ℕ) → Recorded
@@ -169,6 +169,7 @@ module _ (p : ProgramRows) (whole : WholeTables p) (tokens : ℕ) (input : List 
     seen_as a x e (HasRoot h) = OfNamed (Named h)
     seen_as a x e (IsLink h) = OfNamed (Link h)
     seen_as a x e (IsUnfilled u) = OfNamed (NotFilled u)
+    seen_as a x e (IsUncopied u) = OfNamed (NotCopied u)
     seen_as a x e (NoBlock l n) = OfLastMiss (subst (λ (d : Call). seen_at a (part_of kept.log d) ≡ Some x → IsLastMiss kept.log d a x) of.row.is
         (last_miss of.result of.is of.row.event of.row.at of.row.stands a x l n) e)
 
@@ -176,12 +177,19 @@ module _ (p : ProgramRows) (whole : WholeTables p) (tokens : ℕ) (input : List 
     changed_as a x e (HasRoot h) = Named h
     changed_as a x e (IsLink h) = Link h
     changed_as a x e (IsUnfilled u) = NotFilled u
+    changed_as a x e (IsUncopied u) = NotCopied u
     changed_as a x e (NoBlock l n) = absurd (subst (λ (d : Call). change_at a (part_of kept.log d) ≡ Some x → ⊥) of.row.is
         (no_change of.result of.is of.row.event of.row.at of.row.stands a x l n) e)
 
-    parameter : (place : ℕ) → 0 < place → place < frame_of p call.routine → IsSome (local_at scene call.routine place) ⊎ Unfilled p call.routine place
+    parameter : (place : ℕ) → 0 < place → place < frame_of p call.routine → IsSome (local_at scene (frame number call.routine call.entry.top) place)
+        ⊎ Unfilled p call.routine place
     parameter place some less =
-        place_named kept number whole call.routine place framed.routine framed.has some (subst (λ o. place < frame_in o) framed.has less)
+        place_named kept number whole (frame number call.routine call.entry.top) place framed.routine framed.has some
+        (subst (λ o. place < frame_in o) framed.has less)
+
+    copies : CopiesNamed kept number call
+    copies q h place some after inside = copy_named kept number (frame number call.routine call.entry.top) place q h some after
+        (passed_there kept number call e q place after inside)
 
     all_reads : All (SeenAs kept number call) (reads_of call.entry.top (part_of kept.log call))
     all_reads = all_shared (SeenAs kept number call) call.entry.top (λ a. seen_at a (part_of kept.log call)) (λ a x s h. seen_as a x h (root_there a s))
@@ -198,7 +206,7 @@ module _ (p : ProgramRows) (whole : WholeTables p) (tokens : ℕ) (input : List 
         (ap (λ o. is_some (result_type p o)) f.has ∙ function_result p whole c.routine f.routine f.has f.result)
 
     pub is_named : IsNamed kept number call
-    is_named = record { parameters = parameter; reads = all_reads; changes = all_changes; result = result_typed }
+    is_named = record { parameters = parameter; copies = copies; reads = all_reads; changes = all_changes; result = result_typed }
 
 -- ---- the calls as the program keeps them
 

@@ -2,14 +2,15 @@
 use Rattle.std.proofs.Common.{◌++◌, ◌+◌, ◌<◌, ◌∙◌, ◌∷◌, ◌≡◌, ◌≤◌, [], ℕ, List, None, Option, Some, ap, arith, length, refl, subst, suc, sym, zero}
 use Rattle.std.{proofs.lemmas.Bool.Decides.nat_tests, proofs.lemmas.List.length-map, proofs.lemmas.List.map-append, specs.List.slice_get}
 use Rattle.cell_value.specs.declared.values.Value.{Value}
-use Rattle.core_program.{proofs.OutcomesCompose.none_some, proofs.OutcomesCompose.some_same, specs.ProgramRows.ProgramRows, specs.ProgramRows.routine_at}
 use Rattle.core_program.proofs.{ActsLeave.MayEnter, ActsLeave.limits_hold, CallsOfRunsNest.belows_later, LawsOfRuns.begins_sound}
 use Rattle.core_program.proofs.NestedCallsAreIntervals.{within_append, within_call}
+use Rattle.core_program.proofs.OutcomesCompose.{none_some, some_same}
 use Rattle.core_program.proofs.RunsLeave.{act_left, call_leaves, ran_leaves, sound_framed, sound_opened}
 use Rattle.core_program.proofs.Ways.{Ran, RanCall, RanFrame, front, of_call, run_gives}
 use Rattle.core_program.proofs.Ways as ways
-use Rattle.core_program.specs.{Acts.Spend, Numbering.Inside, Numbering.belows, State.IsSound, State.State, Tree.ActTree, declared.program.Routine.Routine}
-use Rattle.core_program.specs.Run.{Call, Marked, Outcome, Result, block, depth_enough, later_by, record_of, run, start}
+use Rattle.core_program.specs.{Acts.Spend, Numbering.Inside, Numbering.belows, Passed.args_at, Passed.cells_entered, ProgramRows.ProgramRows}
+use Rattle.core_program.specs.{ProgramRows.routine_at, State.IsSound, State.State, Tree.ActTree, declared.program.Routine.Routine}
+use Rattle.core_program.specs.Run.{Call, Marked, Outcome, Result, block, depth_enough, frame_size, later_by, record_of, run, start}
 use Rattle.call_tree.specs.declared.records.Call as table
 use Rattle.program_run.proofs.RowsInParts.{further, later, length_each, rows_append, rows_call, rows_moved, rows_whole}
 use Rattle.program_run.specs.{History.recording_of, Table.row_with, Table.table_of, Tower.RowSpot, Tower.below, Tower.first_spot, Tower.rows_at}
@@ -20,7 +21,7 @@ pub record EndsAt (p : ProgramRows) (calls : List table.Call) (number place : �
   pub is : slice_get calls number ≡ Some call
   pub routine : Routine
   pub has : routine_at p call.routine ≡ Some routine
-  pub ends : place ≡ call.entry.top + routine.cells
+  pub ends : place ≡ call.entry.top + frame_size routine call.args
 
 -- The frame of a call that was entered as this one begins where the frame of the call that made it ends.
 abbrev pub BeginsAt : ProgramRows → List table.Call → (number : ℕ) → (parent : Option ℕ) → (place : ℕ) → Type 0
@@ -103,7 +104,7 @@ module _ (p : ProgramRows) where
   fits_later k es f = fits_append k [] es fits_none f
 
   fits_call : {base : ℕ} (c : Call) (q : Routine) (es : List (Marked Call)) → c.below ≡ length es → c.entry.top ≡ base → routine_at p c.routine ≡ Some q
-      → Fits (base + q.cells) es
+      → Fits (base + frame_size q c.args) es
       → Fits base ((record { mark = 0; event = c }) ∷ es)
   fits_call {base = base} c q es e top has f = record {
     inside = within_call c.below (belows es) (e ∙ sym (length-map es (λ c. c.event.below))) f.inside;
@@ -111,7 +112,8 @@ module _ (p : ProgramRows) where
         let rows = rows_call s c es e in
         let row = row_with c s.parent s.depth (s.number + length es) s.mark in
         let h' : (slice_get all s.number ≡ Some row) × Stand all (suc s.number) (rows_at (below s) es) = subst (Stand all s.number) rows h in
-        let under : EndsAt p all s.number (base + q.cells) = record { call = row; is = h'.0; routine = q; has = has; ends = ap (λ t. t + q.cells) (sym top) } in
+        let under : EndsAt p all s.number (base + frame_size q c.args) =
+        record { call = row; is = h'.0; routine = q; has = has; ends = ap (λ t. t + frame_size q c.args) (sym top) } in
         subst (AllFramed all s.number) (sym rows) (
           record { routine = q; has = has; begins = subst (BeginsAt p all s.number s.parent) (sym top) b },
           f.framed all (below s) (omega arith, under) h'.1,
@@ -119,12 +121,12 @@ module _ (p : ProgramRows) where
   }
 
   -- what is inside of a call
-  record Within (f : ℕ) (σ : State) (es : List (Marked Call)) : Type 0 where
+  record Within (f : ℕ) (args : List Value) (σ : State) (es : List (Marked Call)) : Type 0 where
     routine : Routine
     has : routine_at p f ≡ Some routine
-    fits : Fits (σ.top + routine.cells) es
+    fits : Fits (σ.top + frame_size routine args) es
 
-  within_fits : {f : ℕ} {args : List Value} {σ : State} (y : Result State Call) → Within f σ y.events → Fits σ.top (of_call f args σ y).events
+  within_fits : {f : ℕ} {args : List Value} {σ : State} (y : Result State Call) → Within f args σ y.events → Fits σ.top (of_call f args σ y).events
   within_fits {f = f} {args = args} {σ = σ} y w = fits_call (record_of f args σ y) w.routine y.events refl refl w.has w.fits
 
   mutual
@@ -140,24 +142,24 @@ module _ (p : ProgramRows) where
         let l = (ran_leaves p h s).leaves in
         fits_append (length y.log) y.events z.events (ran_fits h s) (subst (λ b. Fits b z.events) l.top (ran_fits g l.sound))
     ran_fits (ways.AtLimit q) s = fits_none
-    ran_fits (ways.CallStopped {cells = cells} {σ = σ} {y = y} q h e) s = within_fits y (call_fits h s (limits_hold σ cells q))
-    ran_fits (ways.CallEnded {f = f} {cells = cells} {args = args} {σ = σ} {y = y} {s = z} q h e g) s =
-        let m = limits_hold σ cells q in
+    ran_fits (ways.CallStopped {e = e} {σ = σ} {y = y} q h d) s = within_fits y (call_fits h s (limits_hold σ (cells_entered e) q))
+    ran_fits (ways.CallEnded {e = e} {σ = σ} {y = y} {s = z} q h d g) s =
+        let m = limits_hold σ (cells_entered e) q in
         let l = (call_leaves p h s m).leaves in
-        fits_append (length y.log) (of_call f args σ y).events z.events (within_fits y (call_fits h s m))
+        fits_append (length y.log) (of_call e.routine (args_at e σ.top) σ y).events z.events (within_fits y (call_fits h s m))
         (subst (λ b. Fits b z.events) l.top (ran_fits g l.sound))
     ran_fits (ways.NotBegun {w = w} q) s = fits_later (length w) [] fits_none
     ran_fits (ways.Began {w = w} {r = r} q h) s =
         let l = act_left (Spend 1) s q in
         fits_later (length w) (later_by 0 r.events) (fits_later 0 r.events (subst (λ b. Fits b r.events) l.top (ran_fits h l.sound)))
 
-    frame_fits : {n f : ℕ} {args : List Value} {σ : State} {r : Result State Call} → RanFrame p n f args σ r → IsSound σ → Within f σ r.events
+    frame_fits : {n f : ℕ} {args : List Value} {σ : State} {r : Result State Call} → RanFrame p n f args σ r → IsSound σ → Within f args σ r.events
     frame_fits (ways.NoRoom {q = q} e t) s = record { routine = q; has = e; fits = fits_none }
     frame_fits (ways.NoSteps {q = q} e t u) s = record { routine = q; has = e; fits = fits_none }
     frame_fits (ways.Worked {args = args} {σ = σ} {q = q} e t u h) s =
-        record { routine = q; has = e; fits = ran_fits h (sound_framed q.cells args σ s (grind (arith, nat_tests))) }
+        record { routine = q; has = e; fits = ran_fits h (sound_framed q args σ s (grind (arith, nat_tests))) }
 
-    call_fits : {n f : ℕ} {args : List Value} {σ : State} {r : Result State Call} → RanCall p n f args σ r → IsSound σ → MayEnter σ → Within f σ r.events
+    call_fits : {n f : ℕ} {args : List Value} {σ : State} {r : Result State Call} → RanCall p n f args σ r → IsSound σ → MayEnter σ → Within f args σ r.events
     call_fits (ways.Closed {σ = σ} c h) s m =
         let g = frame_fits h (sound_opened σ s m) in
         record { routine = g.routine; has = g.has; fits = g.fits }

@@ -2,6 +2,7 @@ pub mod SourceIsRun
 pub mod CallsAreNumbered
 pub mod TracesAreOfBodies
 pub mod FramesFollow
+mod CopiesFound
 pub mod PlacesHaveNames
 pub mod AddressesHaveRoots
 pub mod ResultsAreOfFunctions

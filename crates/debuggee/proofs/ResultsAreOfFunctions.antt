@@ -5,7 +5,7 @@ use Rattle.core_program.proofs.{OutcomesCompose.none_some, RunsRecord.MadeBy, Wa
 use Rattle.core_program.proofs.Ways as ways
 use Rattle.core_program.specs.{ProgramRows.ProgramRows, ProgramRows.routine_at, Run.Call, Run.Result, Run.result_in, Run.return_of, State.State}
 use Rattle.core_program.specs.{Statements.nothing, Statements.on_normal, declared.program.Routine.Routine}
-use Rattle.core_program.specs.Tree.{ActTree, Address, Cells, Jump, Nothing, Out, Part, Scalar, Sub}
+use Rattle.core_program.specs.Tree.{ActTree, Actuals, Address, Bounded, Cells, Jump, Nothing, Out, Part, Scalar, Sub}
 
 module _ (p : ProgramRows) where
   abbrev NoValue : ActTree → Type 0
@@ -21,6 +21,8 @@ module _ (p : ProgramRows) where
   no_value (Scalar v) n σ r ways.Returned = refl
   no_value (Cells vs) n σ r ways.Returned = refl
   no_value (Address a) n σ r ways.Returned = refl
+  no_value (Bounded address base) n σ r ways.Returned = refl
+  no_value (Actuals passed) n σ r ways.Returned = refl
   no_value (Jump label base) n σ r ways.Returned = refl
 
   -- the routine of a call that has a result has one

@@ -1,18 +1,21 @@
 -- What cards and traces leave out: the lines on links, and no others. And which cells have no name.
-use Rattle.std.specs.Prelude.{◌++◌, ◌-◌, ◌<◌, ◌||◌, ◌∷◌, ◌≡◌, ◌≤◌, ◌⊎◌, [], ℕ, All, Bool, IsSome, List, Some, false}
-use Rattle.std.specs.{Prelude.is_some, Prelude.length, Prelude.slice_get, Prelude.true, List.list_any}
+use Rattle.std.specs.Prelude.{◌++◌, ◌+◌, ◌-◌, ◌<◌, ◌||◌, ◌∷◌, ◌≡◌, ◌≤◌, ◌⊎◌, [], ℕ, All, Bool, IsSome, List, Some}
+use Rattle.std.specs.Prelude.{false, is_some, length, slice_get, true}
+use Rattle.std.specs.List.{list_any}
 use Rattle.cell_value.specs.{Effects.changes_of, Effects.heap_start, Effects.reads_of, declared.values.Value.Value}
 use Rattle.cell_value.specs.declared.entries.{Seen.Seen, Seen.TheVariants.Absent, Touch.Touch}
 use Rattle.pas_lexer.specs.Lexed.{Lexed}
-use Rattle.core_program.specs.{ProgramRows.ProgramRows, ProgramRows.frame_of, ProgramRows.routine_at, Replay.Replaying}
-use Rattle.core_program.specs.{Run.Result, Run.run, WholeTables.WholeTables, declared.program.Routine.Routine}
+use Rattle.core_program.specs.{Replay.Replaying, WholeTables.WholeTables, declared.program.Routine.Routine}
+use Rattle.core_program.specs.ProgramRows.{ProgramRows, frame_of, routine_at}
 use Rattle.core_program.specs.Replay as replay
+use Rattle.core_program.specs.Run.{Result, frame_size, run}
 use Rattle.run_laws.specs.HeapLaws.{is_disposed, makes_variable}
 use Rattle.call_tree.specs.{Told.part_of, declared.records.Call.Call}
 use Rattle.call_tree.specs.declared.events.Event.{Event, TheVariants.Child, TheVariants.Line}
 use Rattle.body_replay.specs.Replays.{kept_event, work_of}
-use Rattle.cell_names.specs.{Layouts.frame_parts, Places.finds, declared.places.PlacedPart.PlacedPart}
-use Rattle.cell_names.specs.Names.{Scene, is_link, is_result, local_at, root_at}
+use Rattle.cell_names.specs.{Layouts.frame_parts, Places.finds}
+use Rattle.cell_names.specs.Names.{Scene, copy_of, frame, is_link, is_result, local_at, root_at}
+use Rattle.cell_names.specs.declared.{names.Frame.Frame, places.PlacedPart.PlacedPart}
 use Rattle.question_text.specs.{Cards.Recorded, Cards.result_text, Cards.result_type, Cards.scene_of, Cells.change_line}
 use Rattle.question_text.specs.{Cells.parameter_line, Cells.seen_line, Lines.inner_line, Traces.event_line}
 use Rattle.debuggee.specs.Execution.{Supply, execution_of}
@@ -34,7 +37,7 @@ pub data ShownAs (s : Scene) (address : ℕ) (text : List ℕ) : Type 0 where
 pub record LeavesOutLinks (r : Recorded) (number : ℕ) (call : Call) : Type 0 where
   pub routine : IsSome (routine_at r.program call.routine)
   pub parameters : (place : ℕ) (v : Value)
-      → IsLine (parameter_line (scene_of r number) call.entry.top call.routine place v)
+      → IsLine (parameter_line (scene_of r number) (frame number call.routine call.entry.top) place v)
   pub reads : All
       (λ x. ShownAs (scene_of r number) x.0 (seen_line (scene_of r number) x))
       (reads_of call.entry.top (part_of r.log call))
@@ -93,12 +96,31 @@ pub record LiesUnfilled (s : Scene) (address : ℕ) : Type 0 where
   pub routine : slice_get s.routines part.number ≡ Some number
   pub unfilled : Unfilled s.program number (address - part.place)
 
+-- A place of the frame of a call behind the cells of its routine, for which the call was given a value, and no
+-- parameter has a copy that begins there or before.
+pub record Uncopied (s : Scene) (f : Frame) (place : ℕ) : Type 0 where
+  pub routine : Routine
+  pub is : routine_at s.program f.routine ≡ Some routine
+  pub after_cells : routine.cells ≤ place
+  pub passed : IsSome (s.args f.call (routine.parameters + (place - routine.cells)))
+  pub none : (at : ℕ) (x copy : PlacedPart) → at < routine.parameters → s.finding.frame f.routine at ≡ Some x
+      → copy_of s f x ≡ Some copy → place < copy.place
+
+-- the address of such a place in the frame of an open call
+pub record LiesUncopied (s : Scene) (address : ℕ) : Type 0 where
+  pub part : PlacedPart
+  pub opened : s.opened address ≡ Some part
+  pub number : ℕ
+  pub routine : slice_get s.routines part.number ≡ Some number
+  pub uncopied : Uncopied s (frame part.number number part.place) (address - part.place)
+
 -- The cell at an address has a name, or it is a link. Or else it has its place in a frame where nothing begins at or
--- before it.
+-- before it: no variable and no parameter, or, behind these, no copy.
 pub data NamedAs (s : Scene) (address : ℕ) : Type 0 where
   Named : IsSome (root_at s address) → NamedAs s address
   Link : is_link s address ≡ true → NamedAs s address
   NotFilled : LiesUnfilled s address → NamedAs s address
+  NotCopied : LiesUncopied s address → NamedAs s address
 
 -- An address of the heap was asked for in a run that never made a variable there. That was the last thing that a call
 -- touched, which ended with the fault `Disposed`.
@@ -115,11 +137,21 @@ pub data SeenAs (r : Recorded) (number : ℕ) (call : Call) (x : ℕ × Seen) : 
   OfNamed : NamedAs (scene_of r number) x.0 → SeenAs r number call x
   OfLastMiss : IsLastMiss r.log call x.0 x.1 → SeenAs r number call x
 
--- So it is with each cell of a call's reads; each cell that it changed has a name, but for links and unfilled places,
--- and so have the cells of its parameters that have their places in its frame; and of its result the type is known.
+-- the copies of a call's conformant parameters by value, which stand in its frame behind all other cells
+abbrev pub CopiesNamed : Recorded → (number : ℕ) → Call → Type 0
+CopiesNamed r number call = (q : Routine) → routine_at r.program call.routine ≡ Some q
+    → (place : ℕ) → 0 < place → q.cells ≤ place → place < frame_size q call.args
+    → IsSome (local_at (scene_of r number) (frame number call.routine call.entry.top) place)
+    ⊎ Uncopied (scene_of r number) (frame number call.routine call.entry.top) place
+
+-- So it is with each cell of a call's reads; each cell that it changed has a name, but for links and places where
+-- nothing begins, and so have the cells of its parameters and their copies that have their places in its frame; and of
+-- its result the type is known.
 pub record IsNamed (r : Recorded) (number : ℕ) (call : Call) : Type 0 where
   pub parameters : (place : ℕ) → 0 < place → place < frame_of r.program call.routine
-      → IsSome (local_at (scene_of r number) call.routine place) ⊎ Unfilled r.program call.routine place
+      → IsSome (local_at (scene_of r number) (frame number call.routine call.entry.top) place)
+      ⊎ Unfilled r.program call.routine place
+  pub copies : CopiesNamed r number call
   pub reads : All (SeenAs r number call) (reads_of call.entry.top (part_of r.log call))
   pub changes : All
       (λ x. NamedAs (scene_of r number) x.0)

@@ -23,6 +23,7 @@ name_use frame token = do
 -- the type of a variable, a parameter or a field by its row, and else this number
 abbrev pub variable_type : Row → ℕ → ℕ
 variable_type (Row.Name (NameRow.Variable mode of' place level)) otherwise = of'
+variable_type (Row.Name (NameRow.Bound of' place level)) otherwise = of'
 variable_type (Row.Name (NameRow.Field of' offset holder)) otherwise = of'
 variable_type (Row.Name (NameRow.Tag of' offset holder variants)) otherwise = of'
 variable_type r otherwise = otherwise
@@ -43,6 +44,7 @@ named_variable frame name = do
 
 abbrev pub component_type : Option TypeRow → ℕ → ℕ
 component_type (Some (TypeRow.Array packed index component cells)) unknown = component
+component_type (Some (TypeRow.Conformant packed index component place)) unknown = component
 component_type t unknown = unknown
 
 abbrev pub domain_type : Option TypeRow → ℕ → ℕ

@@ -15,6 +15,7 @@ main_row name = record {
   heading = 0;
   level = 0;
   cells = 1;
+  parameters = 1;
   result = None;
   statements = 0;
   line = 0;

@@ -59,6 +59,7 @@ heading_row h level end = record {
   heading = heading_word h;
   level = level;
   cells = place_after_result (is_function h) end;
+  parameters = end;
   result = result_place (is_function h) end;
   statements = heading_word h;
   line = 0;

@@ -21,6 +21,7 @@ fn variable_type(row: Row, otherwise: u32) -> u32
 {
     match row {
         Row::Name(NameRow::Variable { of, .. }) => of,
+        Row::Name(NameRow::Bound { of, .. }) => of,
         Row::Name(NameRow::Field { of, .. }) => of,
         Row::Name(NameRow::Tag { of, .. }) => of,
         _ => otherwise,
@@ -50,6 +51,7 @@ fn component_type(row: Option<TypeRow>, unknown: u32) -> u32
 {
     match row {
         Some(TypeRow::Array { component, .. }) => component,
+        Some(TypeRow::Conformant { component, .. }) => component,
         _ => unknown,
     }
 }

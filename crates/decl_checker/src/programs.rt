@@ -27,6 +27,7 @@ fn main_row(name: u32) -> Routine
         heading: 0,
         level: 0,
         cells: 1,
+        parameters: 1,
         result: None,
         statements: 0,
         line: 0,

@@ -114,6 +114,7 @@ fn heading_row(heading: &Heading, level: u32, end: u32) -> RoutineRow
         heading: heading_word(heading),
         level,
         cells: place_after_result(is_function(heading), end),
+        parameters: end,
         result: result_place(is_function(heading), end),
         statements: heading_word(heading),
         line: 0,

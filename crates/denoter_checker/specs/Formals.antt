@@ -1,11 +1,13 @@
 -- What headings have, and the names of their formal parameters (6.6.1, 6.6.2, 6.6.3.1).
 use Rattle.std.specs.Prelude.{◌||◌, ℕ, Bool, None, Option, false, is_some, not, true}
-use Rattle.pas_tree.specs.{HeadingPlaces.heading_name, HeadingTrees.ProcedureTree}
-use Rattle.pas_tree.specs.HeadingTrees.{FormalTree, FormalTrees, FormalsTree, FunctionTree, HeadingTree, HeldFormals}
+use Rattle.pas_tree.specs.HeadingPlaces.{heading_name}
+use Rattle.pas_tree.specs.HeadingTrees.{FormalNamesTree, FormalTree, FormalTrees, FormalsTree, FunctionTree}
+use Rattle.pas_tree.specs.HeadingTrees.{HeadingTree, HeldFormals, ProcedureTree}
 use Rattle.pas_tree.specs.HeadingTrees as tree
 use Rattle.pas_tree.specs.declared.headings.{NextFormal.NextFormal, ResultType.ResultType}
 use Rattle.check_steps.specs.{Known.frame_at, Steps.◌>>=◌, Steps.Step, Steps.give, Steps.look}
 use Rattle.kind_checker.specs.{Names.define_name, Names.each_name, declared.names.NameKind.NameKind}
+use Rattle.denoter_checker.specs.Schemas.{define_bounds}
 
 -- ---- what a heading has
 
@@ -41,10 +43,16 @@ opening_parenthesis (tree.formal_list left first others right) = left
 
 -- ---- names
 
--- The names of a section, where a heading has its own; rule 2: a region defines a name a second time.
+-- the names of a section, and the bounds of its schema, if it has one; rule 2: a region defines a name a second time
+unfoldable pub define_formal_names : ℕ → FormalNamesTree → Step (Unit {0})
+define_formal_names region f = do
+  _ ← each_name (define_name region NameKind.Formal) tt f.names
+  define_bounds region f.of_type
+
+-- the names that a section defines, where a heading has its own
 abbrev pub define_formal : ℕ → FormalTree → Step (Unit {0})
-define_formal region (tree.value_formals f) = each_name (define_name region NameKind.Formal) tt f.names
-define_formal region (tree.variable_formals word f) = each_name (define_name region NameKind.Formal) tt f.names
+define_formal region (tree.value_formals f) = define_formal_names region f
+define_formal region (tree.variable_formals word f) = define_formal_names region f
 define_formal region (tree.a_routine_formal h) = define_name region NameKind.Formal tt (heading_name h)
 
 abbrev pub define_more_formals : ℕ → FormalTrees → Step (Unit {0})

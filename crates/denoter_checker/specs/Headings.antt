@@ -1,11 +1,9 @@
 -- Headings (6.6.1, 6.6.2): what formal parameters and results are, and where a frame has them.
 use Rattle.std.specs.Prelude.{if◌then◌else◌, ◌+◌, ℕ, Bool, None, Option, Some, false, length, nat_le, nat_lt, true}
-use Rattle.pas_tree.specs.{ConstantTrees.NamesTree, SchemaPlaces.first_of_schema, SchemaTrees.FormalTypeTree}
-use Rattle.pas_tree.specs.HeadingPlaces.{heading_name, heading_word}
+use Rattle.pas_tree.specs.{ConstantTrees.NamesTree, HeadingPlaces.heading_name, HeadingPlaces.heading_word}
 use Rattle.pas_tree.specs.HeadingTrees.{FormalNamesTree, FormalTree, FormalTrees, FormalsTree, FunctionTree}
 use Rattle.pas_tree.specs.HeadingTrees.{HeadingTree, HeldFormals, ProcedureTree}
 use Rattle.pas_tree.specs.HeadingTrees as tree
-use Rattle.pas_tree.specs.SchemaTrees as schemas
 use Rattle.pas_tree.specs.declared.headings.{NextFormal.NextFormal, ResultType.ResultType}
 use Rattle.core_program.specs.{ProgramRows.size_of, declared.rows.TypeRow.TypeRow}
 use Rattle.core_program.specs.declared.rows.{ItemRow.ItemRow, Mode.Mode, NameRow.NameRow, PartRow.PartRow, Row.Row}
@@ -13,7 +11,7 @@ use Rattle.core_program.specs.declared.rows.TypeRow.TheVariants.{Ordinal, Pointe
 use Rattle.check_steps.specs.Known.{frame_at, type_at}
 use Rattle.check_steps.specs.Steps.{◌>>=◌, Step, early, give, late, look, open_region, put, too_big}
 use Rattle.kind_checker.specs.{Names.each_name, Sizes.frame_capped, Types.named_type}
-use Rattle.denoter_checker.specs.Formals.{define_formals_at, is_complete}
+use Rattle.denoter_checker.specs.{Formals.define_formals_at, Formals.is_complete, Schemas.formal_type, Schemas.mode_in}
 
 -- ---- value and variable parameters
 
@@ -24,9 +22,10 @@ value_cells t name = do
   _ ← too_big name (nat_le cells 65536)
   give cells
 
--- a variable parameter takes one cell, for an address
+-- A variable parameter takes one cell, for an address, and so does a conformant one by value.
 abbrev pub cells_of : Mode → ℕ → ℕ → Step ℕ
 cells_of Mode.Place t name = give 1
+cells_of Mode.Copy t name = give 1
 cells_of m t name = value_cells t name
 
 -- a parameter of a type at a place in a frame; the place after it is given
@@ -36,24 +35,12 @@ parameter m level t at name = do
   cells ← cells_of m t name
   give (frame_capped (at + cells))
 
--- No schema is taken: rule 1, at its first token, as if a type were named there that no region defines. No type stands
--- there.
-unfoldable pub untaken : ℕ → Step ℕ
-untaken first = do
-  _ ← early 1 first false
-  give first
-
--- rules 1 and 3: the name of a type is to stand for one
-abbrev pub formal_type : ℕ → FormalTypeTree → Step ℕ
-formal_type frame (schemas.a_formal_name n) = named_type frame n
-formal_type frame (schemas.a_schema s) = untaken (first_of_schema s)
-
--- the parameters of a section
+-- The parameters of a section: the bounds of its schema, if it has one, and then its names.
 unfoldable pub parameters : Mode → ℕ → ℕ → FormalNamesTree → Step ℕ
 parameters m frame at f = do
   level ← look (λ k. (frame_at k frame).level)
-  t ← formal_type frame f.of_type
-  each_name (parameter m level t) at f.names
+  t ← formal_type frame level at f.of_type
+  each_name (parameter (mode_in m f.of_type) level t.of) t.place f.names
 
 -- ---- headings among formals
 
@@ -81,7 +68,8 @@ count_of n = if nat_lt (length n.others) 4294967295 then length n.others + 1 els
 
 -- a section, and where the next one stands
 abbrev pub section_row : FormalTree → ℕ → Row
-section_row (tree.value_formals f) next = Row.Item (ItemRow.Section Mode.Value f.names.first (count_of f.names) next)
+section_row (tree.value_formals f) next =
+    Row.Item (ItemRow.Section (mode_in Mode.Value f.of_type) f.names.first (count_of f.names) next)
 section_row (tree.variable_formals word f) next =
     Row.Item (ItemRow.Section Mode.Place f.names.first (count_of f.names) next)
 section_row (tree.a_routine_formal h) next = Row.Item (ItemRow.RoutineSection (heading_word h) next)

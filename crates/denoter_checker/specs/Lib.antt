@@ -5,4 +5,5 @@ pub mod Formals
 pub mod Headings
 pub mod Parts
 pub mod RoutineParts
+pub mod Schemas
 pub mod Variants

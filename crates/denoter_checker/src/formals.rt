@@ -1,15 +1,17 @@
 //! What headings have, and the names of their formal parameters (6.6.1, 6.6.2, 6.6.3.1).
 
 ghost use Rattle.std.specs.Prelude.{◌≡◌, IfOk, option_copied};
-ghost use Rattle.pas_tree.specs.HeadingTrees.{formal_tree, formals_in, formals_tree, heading_tree};
+ghost use Rattle.pas_tree.specs.HeadingTrees.{formal_names_tree, formal_tree, formals_in, formals_tree, heading_tree};
 ghost use Rattle.check_steps.specs.Steps.{Does, each};
-ghost use Rattle.denoter_checker.specs.Formals.{define_each_formal, define_formal, define_formals, define_formals_at};
-ghost use Rattle.denoter_checker.specs.Formals.{define_next_formal, formals_of, is_complete, is_function, result_of};
+ghost use Rattle.denoter_checker.specs.Formals.{define_each_formal, define_formal, define_formal_names, define_formals};
+ghost use Rattle.denoter_checker.specs.Formals.{define_formals_at, define_next_formal, formals_of, is_complete};
+ghost use Rattle.denoter_checker.specs.Formals.{is_function, result_of};
 
+use crate::schemas::define_bounds;
 use check_steps::Work;
 use kind_checker::names::{NameKind, define_name, define_names};
 use pas_tree::heading_name;
-use pas_tree::headings::{Formal, Formals, Heading, NextFormal, ResultType};
+use pas_tree::headings::{Formal, FormalNames, Formals, Heading, NextFormal, ResultType};
 use std::alloc::AllocError;
 
 /// Whether a heading is a function's.
@@ -55,18 +57,27 @@ pub(crate) fn is_complete(heading: &Heading) -> bool
     }
 }
 
+#[tactic(auto, using(check_steps::proofs::Runs::steps), unfolding(crate::specs::Formals::define_formal_names))]
+fn define_formal_names(
+    work: &mut Work,
+    region: u32,
+    section: &FormalNames,
+) -> Result<(), AllocError>
+    ensures { IfOk result (λ _. Does (define_formal_names region (formal_names_tree section.now)) tt work.old
+        work.new) }
+{
+    define_names(work, region, NameKind::Formal, &section.names)?;
+    define_bounds(work, region, &section.of)?;
+    Ok(())
+}
+
 #[tactic(auto, using(check_steps::proofs::Runs::steps))]
 fn define_formal(work: &mut Work, region: u32, formal: &Formal) -> Result<(), AllocError>
     ensures { IfOk result (λ _. Does (define_formal region (formal_tree formal.now)) tt work.old work.new) }
 {
     match formal {
-        Formal::Value(section) => define_names(work, region, NameKind::Formal, &section.names),
-        Formal::Variable(_, section) => define_names(
-            work,
-            region,
-            NameKind::Formal,
-            &section.names,
-        ),
+        Formal::Value(section) => define_formal_names(work, region, section),
+        Formal::Variable(_, section) => define_formal_names(work, region, section),
         Formal::Routine(heading) => define_name(
             work,
             region,

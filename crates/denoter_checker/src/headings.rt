@@ -1,19 +1,18 @@
 //! Headings (6.6.1, 6.6.2): what formal parameters and results are, and where a frame has them.
 
 ghost use Rattle.std.specs.Prelude.{◌≡◌, IfOk};
-ghost use Rattle.pas_tree.specs.{ConstantTrees.names_tree, SchemaTrees.formal_type_tree};
+ghost use Rattle.pas_tree.specs.{ConstantTrees.names_tree, HeadingTrees.heading_tree, HeadingTrees.procedure_tree};
 ghost use Rattle.pas_tree.specs.HeadingTrees.{formal_names_tree, formal_tree, formals_in, formals_tree, function_tree};
-ghost use Rattle.pas_tree.specs.HeadingTrees.{heading_tree, procedure_tree};
 ghost use Rattle.check_steps.specs.Steps.{Does, each, each_back};
 ghost use Rattle.kind_checker.specs.Names.{each_name, on_name};
-ghost use Rattle.denoter_checker.specs.Headings.{cells_of, checked_result_type, count_of, formal_place, formal_type};
-ghost use Rattle.denoter_checker.specs.Headings.{function_row, function_signature, may_be_result, next_formal_place};
-ghost use Rattle.denoter_checker.specs.Headings.{open_heading, parameter, parameters, places, procedure_row};
-ghost use Rattle.denoter_checker.specs.Headings.{procedure_signature, put_next_section, put_section, put_sections};
-ghost use Rattle.denoter_checker.specs.Headings.{result_or, routine_formal, section_list, section_row, signature};
-ghost use Rattle.denoter_checker.specs.Headings.{untaken, value_cells};
+ghost use Rattle.denoter_checker.specs.Headings.{cells_of, checked_result_type, count_of, formal_place, function_row};
+ghost use Rattle.denoter_checker.specs.Headings.{function_signature, may_be_result, next_formal_place, open_heading};
+ghost use Rattle.denoter_checker.specs.Headings.{parameter, parameters, places, procedure_row, procedure_signature};
+ghost use Rattle.denoter_checker.specs.Headings.{put_next_section, put_section, put_sections, result_or};
+ghost use Rattle.denoter_checker.specs.Headings.{routine_formal, section_list, section_row, signature, value_cells};
 
 use crate::formals::{define_formals_at, is_complete};
+use crate::schemas::{check_formal_type, mode_in};
 use check_steps::Work;
 use core_program::rows::{ItemRow, LIST_END, Mode, NameRow, PartRow, Row, TypeRow};
 use kind_checker::sizes::{MOST_CELLS, place_after};
@@ -23,8 +22,7 @@ use pas_tree::headings::{
     Formal, FormalNames, Formals, FunctionHeading, Heading, NextFormal, ProcedureHeading,
     ResultType,
 };
-use pas_tree::schemas::FormalType;
-use pas_tree::{first_of_schema, heading_name, heading_word};
+use pas_tree::{heading_name, heading_word};
 use std::alloc::{AllocError, Global};
 
 #[tactic(auto, using(check_steps::proofs::Runs::steps), unfolding(crate::specs::Headings::value_cells))]
@@ -42,6 +40,7 @@ fn check_cells(work: &mut Work, mode: Mode, of: u32, name: u32) -> u32
 {
     match mode {
         Mode::Place => 1,
+        Mode::Copy => 1,
         Mode::Own => check_value_cells(work, of, name),
         Mode::Value => check_value_cells(work, of, name),
     }
@@ -110,33 +109,15 @@ fn check_each_parameter(
     check_more_parameters(work, mode, level, of, next, &names.others)
 }
 
-/// A schema is not taken, as if it were the name of a type that is not declared. No type stands at its first token.
-#[tactic(auto, using(check_steps::proofs::Runs::steps), unfolding(crate::specs::Headings::untaken))]
-fn check_untaken(work: &mut Work, first: u32) -> u32
-    ensures { Does (untaken first) result work.old work.new }
-{
-    work.early(1, first, false);
-    first
-}
-
-#[tactic(auto, using(check_steps::proofs::Runs::steps))]
-fn check_formal_type(work: &mut Work, frame: u32, of: &FormalType) -> u32
-    ensures { Does (formal_type frame (formal_type_tree of.now)) result work.old work.new }
-{
-    match of {
-        FormalType::Name(name) => check_named_type(work, frame, *name),
-        FormalType::Schema(schema) => check_untaken(work, first_of_schema(schema)),
-    }
-}
-
 /// The parameters of a section from a place in a frame on; the place after them is given.
 #[tactic(auto, using(check_steps::proofs::Runs::steps), unfolding(crate::specs::Headings::parameters))]
 fn check_parameters(work: &mut Work, mode: Mode, frame: u32, at: u32, section: &FormalNames) -> u32
     ensures { Does (parameters mode frame at (formal_names_tree section.now)) result work.old work.new }
 {
     let level = work.tables.frame(frame).level;
-    let of = check_formal_type(work, frame, &section.of);
-    check_each_parameter(work, mode, level, of, at, &section.names)
+    let placed = check_formal_type(work, frame, level, at, &section.of);
+    let mode = mode_in(mode, &section.of);
+    check_each_parameter(work, mode, level, placed.of, placed.place, &section.names)
 }
 
 #[tactic(auto, using(check_steps::proofs::Runs::steps), unfolding(crate::specs::Headings::routine_formal))]
@@ -185,7 +166,7 @@ fn section_row(formal: &Formal, next: u32) -> Row
 {
     let row = match formal {
         Formal::Value(section) => ItemRow::Section {
-            mode: Mode::Value,
+            mode: mode_in(Mode::Value, &section.of),
             first: section.names.first,
             count: count_of(&section.names),
             next,

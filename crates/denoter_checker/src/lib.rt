@@ -11,6 +11,7 @@ pub mod headings;
 pub mod parts;
 pub mod records;
 pub mod routine_parts;
+pub mod schemas;
 pub mod variants;
 
 pub use formals::{define_formals_at, is_function};

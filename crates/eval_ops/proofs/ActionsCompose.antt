@@ -1,5 +1,5 @@
 -- Actions, one after another.
-use Rattle.std.proofs.Common.{◌++◌, ◌∙◌, ◌≡◌, [], Err, List, Ok, Result, ap, append-nil, append_assoc, refl, sym}
+use Rattle.std.proofs.Common.{◌++◌, ◌∙◌, ◌≡◌, [], Err, List, Ok, Result, ap, append-nil, append_assoc, refl, subst, sym}
 use Rattle.cell_value.specs.declared.entries.Touch.{Touch}
 use Rattle.core_program.specs.Actions.{◌>>=◌, Action, Fail, Finished, Give, NoMeaning, NotMeant, Perform, Performed, Stopped, act, before, follow, performs}
 use Rattle.core_program.specs.Acts.{Act, ActResult, Answer, Stops, Went, perform}
@@ -123,3 +123,32 @@ does_act a seen old new (Err (Fault kind)) w = (w.0, ap (λ d. follow d (λ x τ
 does_act a seen old new (Err OutOfSteps) w = (w.0, ap (λ d. follow d (λ x τ. Finished x [] τ)) w.1, w.2)
 does_act a seen old new (Err (Limited which)) w = (w.0, ap (λ d. follow d (λ x τ. Finished x [] τ)) w.1, w.2)
 does_act a seen old new (Err Memory) w = tt
+
+-- two actions, and what both gave
+pub does_both : {A B C Y : Type 0} (seen : Y → C) (a : Action A) (b : A → Action B) (h : A → B → C) (x : A) (y : B) (z : Y) (old mid new : Moment)
+    → ActionFinished (performs a old.state) x old mid → ActionFinished (performs (b x) mid.state) y mid new → h x y ≡ seen z
+    → DoesAll seen (performs (a >>= λ x. b x >>= λ y. Give (h x y)) old.state) (Ok z) old new
+does_both seen a b h x y z old mid new f g e = does_bind seen a (λ x. b x >>= λ y. Give (h x y)) x old mid new (Ok z) f
+    (does_bind seen (b x) (λ y. Give (h x y)) y mid new new (Ok z) g (does_given seen (Give (h x y)) (Ok z) new (ap Give e)))
+
+-- the second of them stops
+pub stops_second : {A B C X Y : Type 0} (seen : X → B) (seen' : Y → C) (a : Action A) (b : A → Action B) (f : A → B → Action C) (x : A) (e : Halt)
+    (old mid new : Moment) → ActionFinished (performs a old.state) x old mid → DoesAll seen (performs (b x) mid.state) (Err e) mid new
+    → DoesAll seen' (performs (a >>= λ x. b x >>= λ y. f x y) old.state) (Err e) old new
+stops_second seen seen' a b f x e old mid new g h =
+    does_bind seen' a (λ x. b x >>= λ y. f x y) x old mid new (Err e) g (does_stop seen seen' (b x) (f x) mid new e h)
+
+-- both were done, and what follows them
+pub does_third : {A B C Y : Type 0} (seen : Y → C) (a : Action A) (b : A → Action B) (f : A → B → Action C) (x : A) (y : B) (old mid new last : Moment)
+    (r : Result Y Halt) → ActionFinished (performs a old.state) x old mid → ActionFinished (performs (b x) mid.state) y mid new
+    → DoesAll seen (performs (f x y) new.state) r new last → DoesAll seen (performs (a >>= λ x. b x >>= λ y. f x y) old.state) r old last
+does_third seen a b f x y old mid new last r g h k =
+    does_bind seen a (λ x. b x >>= λ y. f x y) x old mid last r g (does_bind seen (b x) (f x) y mid new last r h k)
+
+-- an action that is the same
+pub same_does : {A X : Type 0} (seen : X → A) (a b : Action A) (r : Result X Halt) (old new : Moment) → a ≡ b
+    → DoesAll seen (performs a old.state) r old new → DoesAll seen (performs b old.state) r old new
+same_does seen a b r old new e h = subst (λ d. DoesAll seen (performs d old.state) r old new) e h
+
+pub same_gives : {A X : Type 0} (seen : X → A) (a b : Action A) (r : Result X Halt) → a ≡ b → Gives seen a r → Gives seen b r
+same_gives seen a b r e h = subst (λ d. Gives seen d r) e h

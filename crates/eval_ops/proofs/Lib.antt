@@ -1,6 +1,10 @@
 pub mod ActionsCompose
 mod Bounds
+mod BoundsHeld
 pub mod CallsInFrames
+mod CellsCounted
+mod DimensionsFound
+mod FrameCells
 pub mod FramesByCell
 pub mod Lists
 mod NextCells

@@ -1,5 +1,6 @@
 pub mod Arrays
 pub mod Choices
+pub mod Conformant
 pub mod Counting
 pub mod Frames
 pub mod Input

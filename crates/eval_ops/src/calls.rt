@@ -1,6 +1,6 @@
 //! The beginning and the end of a call: its frame, and the counts of calls.
 
-ghost use Rattle.std.specs.Prelude.{◌+◌, ◌<◌, ◌≡◌, ◌≤◌, ℕ, OnOk, Some, slice_get};
+ghost use Rattle.std.specs.Prelude.{◌+◌, ◌<◌, ◌≡◌, ◌≤◌, IfOk, OnOk, Some, slice_get};
 ghost use Rattle.cell_value.specs.Effects.{heap_end};
 ghost use Rattle.core_program.specs.{Blocks.cleared, Blocks.filled, State.stack_end};
 ghost use Rattle.core_program.specs.Run as calls;
@@ -10,6 +10,7 @@ ghost use Rattle.eval_ops.specs.Machines.{AllowsCall, DoesAct, IsReady, changed,
 use crate::halt::Halt;
 use crate::machine::{Machine, Uncounted};
 use cell_value::{Cells, Memory, STACK_END, Steps, Value, Which};
+use core_program::Routine;
 use persistent_store::Store;
 use std::alloc::Global;
 
@@ -34,12 +35,25 @@ pub fn close_call(machine: &mut Machine, depth: u32)
     machine.depth = depth;
 }
 
-/// The value that a cell of a new frame gets: those of the link and the parameters come first, and the others have
-/// none.
-fn first_value(args: &Cells, at: u32) -> Value
-    ensures { (n : ℕ) → at < n → slice_get (calls.frame_cells n args.now) at ≡ Some result }
+/// How many cells a frame has, with the copies of arrays that stand among the arguments after those of the parameters.
+fn frame_size(routine: Routine, args: &Cells) -> u64
+    ensures size { result ≡ calls.frame_size routine args.now }
+    ensures bound { result ≤ 8589934590 }
 {
-    if at < args.len() {
+    let copies = args.len().saturating_sub(routine.parameters);
+    u64::from(routine.cells) + u64::from(copies)
+}
+
+/// The value that a cell of a new frame gets: those of the link and the parameters come first, those of copies last,
+/// and the others have none.
+fn first_value(routine: Routine, args: &Cells, at: u32) -> Value
+    requires inside { at < calls.frame_size routine args.now }
+    ensures { slice_get (calls.frame_cells routine args.now) at ≡ Some result }
+{
+    let length = args.len();
+    if at >= routine.cells {
+        args.at(routine.parameters + (at - routine.cells))
+    } else if at < routine.parameters && at < length {
         args.at(at)
     } else {
         Value::Undefined
@@ -51,15 +65,17 @@ fn put_cells(
     alloc: Global,
     store: &mut Store,
     base: u32,
+    routine: Routine,
     args: &Cells,
     cells: u32,
 ) -> Result<(), Memory>
+    requires all { cells ≡ calls.frame_size routine args.now }
     requires fits { base + cells ≤ heap_end }
-    ensures put { OnOk result (store.new ≡ filled base (calls.frame_cells cells args.now) store.old) }
+    ensures put { OnOk result (store.new ≡ filled base (calls.frame_cells routine args.now) store.old) }
 {
     let mut made = Steps::<Uncounted>::new();
     'cells: for i in 0..cells {
-        store.put(alloc, base + i, first_value(args, i), &mut made)?;
+        store.put(alloc, base + i, first_value(routine, args, i), &mut made)?;
     }
     Ok(())
 }
@@ -81,31 +97,35 @@ pub(crate) fn remove_cells(
     Ok(())
 }
 
-/// Makes a frame of this many cells at the machine's top, with a step for each cell: first those of the link and the
-/// parameters, and then cells of which none has a value. Where the frame would end above the stack it answers
-/// `Limited(Stack)`, and nothing changes; where fewer steps are left, `OutOfSteps`, and none are left.
+/// Makes a frame of a routine at the machine's top, with a step for each cell: first those of the link and the
+/// parameters, then cells of which none has a value, and then the copies. How many they are is given. Where the frame
+/// would end above the stack it answers `Limited(Stack)`, and nothing changes; where fewer steps are left,
+/// `OutOfSteps`, and none are left.
 pub fn make_frame(
     alloc: Global,
     machine: &mut Machine,
     args: &Cells,
-    cells: u32,
-) -> Result<(), Halt>
+    routine: Routine,
+) -> Result<u32, Halt>
     requires ready { IsReady machine.old }
-    ensures made { DoesAct (λ _. tt) (framing cells args.now (machine_state machine.old)) result (moment_of machine.old)
-        (moment_of machine.new) }
+    ensures made { DoesAct (λ _. tt) (framing routine args.now (machine_state machine.old)) result
+        (moment_of machine.old) (moment_of machine.new) }
+    ensures cells { IfOk result (λ n. n ≡ calls.frame_size routine args.now) }
     ensures ready { IsReady machine.new }
 {
-    if u64::from(machine.top) + u64::from(cells) > u64::from(STACK_END) {
+    let size = frame_size(routine, args);
+    if u64::from(machine.top) + size > u64::from(STACK_END) {
         return Err(Halt::Limited(Which::Stack));
     }
+    let cells = size as u32;
     if machine.steps < cells {
         machine.steps = 0;
         return Err(Halt::OutOfSteps);
     }
-    put_cells(alloc, &mut machine.store, machine.top, args, cells)?;
+    put_cells(alloc, &mut machine.store, machine.top, routine, args, cells)?;
     machine.top += cells;
     machine.steps -= cells;
-    Ok(())
+    Ok(cells)
 }
 
 /// Removes the frame of this many cells at a base, which lies in the stack.

@@ -1,6 +1,6 @@
 //! Actions on the cells of variables.
 
-ghost use Rattle.std.specs.Prelude.{[]};
+ghost use Rattle.std.specs.Prelude.{◌++◌, ◌∷◌, ◌≡◌, [], IfErr, OnOk};
 ghost use Rattle.core_program.specs.Actions.{performs};
 ghost use Rattle.core_program.specs.Cells as action;
 ghost use Rattle.core_program.specs.Values as values;
@@ -35,6 +35,18 @@ pub fn read_cells(
         at = moved(at, 1);
     }
     Ok(values)
+}
+
+/// Puts a value at the end of a list. A list of 4,294,967,295 values takes no more, which counts as out of memory.
+pub fn add_value(list: &mut Cells, value: Value) -> Result<(), Halt>
+    ensures added { OnOk result (list.new ≡ list.old ++ value ∷ []) }
+    ensures memory { IfErr result (λ e. e ≡ Halt.Memory) }
+{
+    if list.len() == u32::MAX {
+        return Err(Halt::Memory);
+    }
+    list.push(value)?;
+    Ok(())
 }
 
 /// Puts values into the cells from an address on, in order.

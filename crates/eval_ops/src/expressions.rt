@@ -15,6 +15,8 @@ pub fn type_accessed(access: AccessRow) -> u32
     match access {
         AccessRow::Variable { of, .. } => of,
         AccessRow::Reference { of, .. } => of,
+        AccessRow::Conformant { of, .. } => of,
+        AccessRow::Component { of, .. } => of,
         AccessRow::Within { of, .. } => of,
         AccessRow::Index { of, .. } => of,
         AccessRow::Field { of, .. } => of,

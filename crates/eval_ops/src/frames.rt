@@ -126,7 +126,7 @@ fn routine_meant(program: &Program, heading: u32, value: Value) -> Result<(u32, 
 }
 
 /// The variable that a variable parameter stands for, whose cell is at an address.
-fn referred(machine: &mut Machine, cell: u32) -> Result<u32, Halt>
+pub(crate) fn referred(machine: &mut Machine, cell: u32) -> Result<u32, Halt>
     requires ready { IsReady machine.old }
     ensures action { DoesAll (λ a. a) (performs (action.referred cell) (machine_state machine.old)) result
         (moment_of machine.old) (moment_of machine.new) }

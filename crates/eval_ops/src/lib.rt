@@ -9,7 +9,9 @@ mod blocks;
 mod calls;
 mod cells;
 mod choices;
+mod conformant;
 mod counting;
+mod dimensions;
 mod expressions;
 mod frames;
 mod halt;
@@ -18,6 +20,7 @@ mod machine;
 mod operators;
 mod output;
 mod packing;
+mod passed_arrays;
 mod pointers;
 mod results;
 mod sets;
@@ -29,12 +32,14 @@ mod variants;
 pub use arrays::{array_of, size_of};
 pub use blocks::{drop_block, make_block};
 pub use calls::{close_call, make_frame, open_call, remove_frame};
-pub use cells::{ordinal_at, read_cells, set_at, write_cells};
+pub use cells::{add_value, ordinal_at, read_cells, set_at, write_cells};
 pub use choices::{CaseOutcome, case_of};
+pub use conformant::{ArrayWhole, conformant_component, conformant_out, conformant_whole};
 pub use counting::{
     Counting, ForProgress, counting_at, has_turn, is_last, last_value, turn_after, turn_value,
     turns_of,
 };
+pub use dimensions::{Dimensions, dimensions_meant, is_conformant};
 pub use expressions::{combine, constant, type_accessed};
 pub use frames::{cell_out, component, frame_out, moved, reference_out, routine_out};
 pub use halt::{Halt, passed, passed_test};
@@ -43,6 +48,9 @@ pub use machine::{Machine, limit_passed, read_cell, spend, write_cell};
 pub use operators::{Dyadic, dyadic_in};
 pub use output::{end_line, end_page, write_scalar, write_string};
 pub use packing::{copy_cells, first_moved};
+pub use passed_arrays::{
+    ArrayActual, conformant_actual, fixed_actual, fixed_bounds, place_bounds, text_actual,
+};
 pub use pointers::{
     compare_pointers, dispose, make_variable, pointed_at, pointer_at, pointer_result_at,
 };

@@ -1,4 +1,6 @@
 mod AfterStatements
+mod Arguments
+mod ConformantTrees
 mod ExpressionsByRow
 mod LocatedWeighs
 pub mod Moves

@@ -1,7 +1,7 @@
 -- How moves of a tree follow one another.
 use Rattle.std.proofs.Common.{if◌then◌else◌, ◌++◌, ◌∙◌, ◌≡◌, ℕ, Bool, List, None, Option, Some, ap, append-nil, append_assoc, false, refl, suc, sym, true, zero}
 use Rattle.cell_value.specs.declared.{entries.Touch.Touch, values.Value.Value, ways_out.WayOut.WayOut, ways_out.Which.Which}
-use Rattle.core_program.specs.{Layer.layer, ProgramRows.ProgramRows, Run.Ended, Run.Halted, State.State}
+use Rattle.core_program.specs.{Layer.layer, Passed.Entering, Passed.args_at, Passed.cells_entered, ProgramRows.ProgramRows, Run.Ended, Run.Halted, State.State}
 use Rattle.core_program.specs.Actions.{Action, Fail, Finished, Give, NoMeaning, NotMeant, Perform, Performed, Stopped, before, follow, performs}
 use Rattle.core_program.specs.Acts.{Act, ActResult, Answer, Spend, Stops, Trouble, Went, limit_passed, perform}
 use Rattle.core_program.specs.Tree.{ActTree, Do, Enter, Halt, Line, Meaningless, Out, Part, Ret, Sub, bind, doing, way_of}
@@ -14,7 +14,7 @@ bind_ret (Halt line why) = refl
 bind_ret Meaningless = refl
 bind_ret (Do line act next) = λ i. Do line act (λ x. bind_ret (next x) i)
 bind_ret (Sub part next) = λ i. Sub part (λ x. bind_ret (next x) i)
-bind_ret (Enter routine cells args next) = λ i. Enter routine cells args (λ x. bind_ret (next x) i)
+bind_ret (Enter entering next) = λ i. Enter entering (λ x. bind_ret (next x) i)
 bind_ret (Line line next) = λ i. Line line (bind_ret next i)
 
 pub bind_bind : (t : ActTree) (f g : Out → ActTree) → bind (bind t f) g ≡ bind t (λ x. bind (f x) g)
@@ -23,7 +23,7 @@ bind_bind (Halt line why) f g = refl
 bind_bind Meaningless f g = refl
 bind_bind (Do line act next) f g = λ i. Do line act (λ x. bind_bind (next x) f g i)
 bind_bind (Sub part next) f g = λ i. Sub part (λ x. bind_bind (next x) f g i)
-bind_bind (Enter routine cells args next) f g = λ i. Enter routine cells args (λ x. bind_bind (next x) f g i)
+bind_bind (Enter entering next) f g = λ i. Enter entering (λ x. bind_bind (next x) f g i)
 bind_bind (Line line next) f g = λ i. Line line (bind_bind next f g i)
 
 -- what follows a condition
@@ -69,13 +69,13 @@ module _ {p : ProgramRows} where
   }
 
   -- a call that passes no limit, and one that would
-  pub call_here : (f cells : ℕ) (args : List Value) (k : Out → ActTree) (m : Moment) → limit_passed m.state cells ≡ None
-      → NextStopIs p (Enter f cells args k) m (AtCall f args k) m
-  call_here f cells args k m h = record { moves = suc zero; is = ap (λ o. Some (at_call o f args k, m)) h }
+  pub call_here : (e : Entering) (k : Out → ActTree) (m : Moment) → limit_passed m.state (cells_entered e) ≡ None
+      → NextStopIs p (Enter e k) m (AtCall e.routine (args_at e m.state.top) k) m
+  call_here e k m h = record { moves = suc zero; is = ap (λ o. Some (at_call o e m.state.top k, m)) h }
 
-  pub limit_here : (f cells : ℕ) (args : List Value) (k : Out → ActTree) (which : Which) (m : Moment) → limit_passed m.state cells ≡ Some which
-      → NextStopIs p (Enter f cells args k) m (AtEnd (Halted (WayOut.Limited which))) m
-  limit_here f cells args k which m h = record { moves = suc zero; is = ap (λ o. Some (at_call o f args k, m)) h }
+  pub limit_here : (e : Entering) (k : Out → ActTree) (which : Which) (m : Moment) → limit_passed m.state (cells_entered e) ≡ Some which
+      → NextStopIs p (Enter e k) m (AtEnd (Halted (WayOut.Limited which))) m
+  limit_here e k which m h = record { moves = suc zero; is = ap (λ o. Some (at_call o e m.state.top k, m)) h }
 
   pub end_here : (out : Out) (m : Moment) → NextStopIs p (Ret out) m (AtEnd (Ended out)) m
   end_here out m = record { moves = suc zero; is = refl }

@@ -4,9 +4,10 @@ use Rattle.std.proofs.Common.{nat_lt, refl, reverse, subst, sym, true}
 use Rattle.std.proofs.lemmas.{Bool.lt-ltb, List.append-nil, List.reverse-append}
 use Rattle.cell_value.specs.declared.values.Value.{Value}
 use Rattle.core_program.proofs.ActsTakeSteps.{Acted, acted}
-use Rattle.core_program.specs.{Actions.Action, Actions.act, Actions.performs, Acts.Spend, Acts.Trouble, Acts.limit_passed, Acts.perform, Layer.layer}
+use Rattle.core_program.specs.{Actions.Action, Actions.act, Actions.performs, Layer.layer, Passed.Entering, Passed.args_at, Passed.cells_entered}
 use Rattle.core_program.specs.{ProgramRows.ProgramRows, ProgramRows.routine_at, Run.Halted, declared.program.Routine.Routine}
 use Rattle.core_program.specs.Accesses.{locate_before, no_row, on_address, spend, until_end}
+use Rattle.core_program.specs.Acts.{Spend, Trouble, limit_passed, perform}
 use Rattle.core_program.specs.Tree.{ActTree, Enter, Here, Line, Locate, Out, Part, Sub, bind, doing, way_of}
 use Rattle.eval_ops.proofs.ActionsCompose.{does_act, does_bind, does_stop}
 use Rattle.eval_ops.specs.Machines.{ActionStopped, DoesAct, DoesAll, Gives, Moment}
@@ -14,7 +15,7 @@ use Rattle.eval_ops.specs.declared.halt.Halt.{Halt, TheVariants.Fault, TheVarian
 use Rattle.evaluator.proofs.Moves.{begins, bind_doing, call_here, comes_same, comes_then, finished, line_stopped, stopped, stops_then}
 use Rattle.evaluator.proofs.StepsFall.{steps_fall}
 use Rattle.evaluator.specs.{Records.SameFrame, Stops.AtCall, Stops.AtEnd, Stops.Comes, Stops.NextStopIs, Weight.Falls, Weight.body_weight, Weight.left_with}
-use Rattle.evaluator.specs.Rest.{below_top, lists_of, paid, resume, tasks_of, top_list, values_of}
+use Rattle.evaluator.specs.Rest.{Lists, and_list, below_list, lists_of, paid, resume, tasks_of, top_list, values_of}
 use Rattle.evaluator.specs.Turns.{Before, EntersRoutine, Leads, Moves, StopsForGood, Turns, before, configuration, pause_of}
 use Rattle.evaluator.specs.declared.{body.Body.Body, tasks.Home.Home, tasks.Pause.Pause}
 
@@ -121,25 +122,25 @@ before_it row access target h go K l = ap (λ b. bind (if b then Sub (Locate acc
 pub after_it : (a b : ℕ) (t : ActTree) (K : Out → ActTree) → a < b → bind (if nat_lt a b then t else no_row) K ≡ bind t K
 after_it a b t K l = ap (λ x. bind (if x then t else no_row) K) (lt-ltb a b l)
 
--- a call is to be entered, whose link and cells are the last list that waits
-pub call_pauses : {p : ProgramRows} {m : Moment} {K : Out → ActTree} {args : List Value} {ls : List (List Value)} (f cells : ℕ) (a : Body)
-    → limit_passed m.state cells ≡ None → lists_of a ≡ args ∷ ls → K ≡ resume p a.home (tasks_of a) (values_of a) ls
-    → NextStopIs p (Enter f cells args K) m (pause_of p a (Pause.Enter f)) m
-call_pauses {p = p} {m = m} {K = K} {args = args} {ls = ls} f cells a h l w =
-    subst (λ l. NextStopIs p (Enter f cells args K) m (AtCall f (top_list l) (resume p a.home (tasks_of a) (values_of a) (below_top l))) m) (sym l)
-    (subst (λ k. NextStopIs p (Enter f cells args K) m (AtCall f args k) m) w (call_here f cells args K m h))
+-- a call is to be entered, whose arguments are the last list that waits
+pub call_pauses : {p : ProgramRows} {m : Moment} {K : Out → ActTree} {ls : Lists} (e : Entering) (a : Body)
+    → limit_passed m.state (cells_entered e) ≡ None → lists_of a ≡ and_list (args_at e m.state.top) ls
+    → K ≡ resume p a.home (tasks_of a) (values_of a) ls → NextStopIs p (Enter e K) m (pause_of p a (Pause.Enter e.routine)) m
+call_pauses {p = p} {m = m} {K = K} {ls = ls} e a h l w =
+    subst (λ l. NextStopIs p (Enter e K) m (AtCall e.routine (top_list l) (resume p a.home (tasks_of a) (values_of a) (below_list l))) m) (sym l)
+    (subst (λ k. NextStopIs p (Enter e K) m (AtCall e.routine (args_at e m.state.top) k) m) w (call_here e K m h))
 
 -- a call was reached, with room for it
 pub entered_turns : (p : ProgramRows) (t : ActTree) (m : Moment) (f : ℕ) (r : Result (Option Pause) Halt) (a : Body) → EntersRoutine p (configuration t m) f r a
-    → (x : Routine) → routine_at p f ≡ Some x → limit_passed m.state x.cells ≡ None → Turns p (configuration t m) r a m
-entered_turns p t m f (Ok None) a h x e l = absurd h
-entered_turns p t m f (Ok (Some (Pause.Line n))) a h x e l = absurd h
-entered_turns p t m f (Ok (Some (Pause.Enter g))) a h x e l = (h.0, (x, ap (routine_at p) h.1 ∙ e, l))
-entered_turns p t m f (Ok (Some Pause.Ended)) a h x e l = absurd h
-entered_turns p t m f (Err (Fault kind)) a h x e l = absurd h
-entered_turns p t m f (Err OutOfSteps) a h x e l = absurd h
-entered_turns p t m f (Err (Limited which)) a h x e l = absurd h
-entered_turns p t m f (Err Memory) a h x e l = tt
+    → (x : Routine) → routine_at p f ≡ Some x → (cells : ℕ) → limit_passed m.state cells ≡ None → Turns p (configuration t m) r a m
+entered_turns p t m f (Ok None) a h x e n l = absurd h
+entered_turns p t m f (Ok (Some (Pause.Line n))) a h x e k l = absurd h
+entered_turns p t m f (Ok (Some (Pause.Enter g))) a h x e n l = (h.0, (x, ap (routine_at p) h.1 ∙ e, n, l))
+entered_turns p t m f (Ok (Some Pause.Ended)) a h x e n l = absurd h
+entered_turns p t m f (Err (Fault kind)) a h x e n l = absurd h
+entered_turns p t m f (Err OutOfSteps) a h x e n l = absurd h
+entered_turns p t m f (Err (Limited which)) a h x e n l = absurd h
+entered_turns p t m f (Err Memory) a h x e n l = tt
 
 -- ---- turns as one relation
 

@@ -4,6 +4,7 @@ use Rattle.cell_value.specs.declared.{entries.Touch.Touch, values.Value.Value}
 use Rattle.cell_value.specs.declared.ways_out.{WayOut.WayOut, Which.Which}
 use Rattle.core_program.specs.{Layer.layer, ProgramRows.ProgramRows, Run.End, Run.Ended, Run.Halted}
 use Rattle.core_program.specs.Acts.{ActResult, Spend, Stops, Went, limit_passed, perform}
+use Rattle.core_program.specs.Passed.{Entering, args_at, cells_entered}
 use Rattle.core_program.specs.Tree.{ActTree, Do, Enter, Halt, Line, Meaningless, Out, Ret, Sub, bind, way_of}
 use Rattle.eval_ops.specs.Machines.{Moment}
 
@@ -21,10 +22,10 @@ on_act line log (Went x touches σ) go = go x (record { state = σ; log = log ++
 on_act line log (Stops why touches σ) go =
     Some (AtEnd (Halted (way_of line why)), record { state = σ; log = log ++ touches })
 
--- a call that would pass a limit ends the body
-abbrev pub at_call : Option Which → (routine : ℕ) → List Value → (Out → ActTree) → Stop
-at_call None routine args rest = AtCall routine args rest
-at_call (Some which) routine args rest = AtEnd (Halted (WayOut.Limited which))
+-- a call whose frame would begin at a base; one that would pass a limit ends the body
+abbrev pub at_call : Option Which → Entering → (base : ℕ) → (Out → ActTree) → Stop
+at_call None e base rest = AtCall e.routine (args_at e base) rest
+at_call (Some which) e base rest = AtEnd (Halted (WayOut.Limited which))
 
 -- the next stop of a tree, in at most n moves
 abbrev pub next_stop : ProgramRows → ℕ → ActTree → Moment → Option (Stop × Moment)
@@ -34,8 +35,8 @@ next_stop p (suc n) (Halt line why) m = Some (AtEnd (Halted (way_of line why)), 
 next_stop p (suc n) Meaningless m = None
 next_stop p (suc n) (Do line act next) m = on_act line m.log (perform act m.state) (λ x m'. next_stop p n (next x) m')
 next_stop p (suc n) (Sub part next) m = next_stop p n (bind (layer p part) next) m
-next_stop p (suc n) (Enter routine cells args next) m =
-    Some (at_call (limit_passed m.state cells) routine args next, m)
+next_stop p (suc n) (Enter entering next) m =
+    Some (at_call (limit_passed m.state (cells_entered entering)) entering m.state.top next, m)
 next_stop p (suc n) (Line line next) m =
     on_act line m.log (perform (Spend 1) m.state) (λ _ m'. Some (AtLine line next, m'))
 

@@ -6,7 +6,7 @@ use Rattle.core_program.specs.{Run.Ended, Run.Halted, State.State, declared.prog
 use Rattle.core_program.specs.Tree.{ActTree, Jump, Nothing, Out, Scalar}
 use Rattle.eval_ops.specs.{Machines.Moment, declared.halt.Halt.Halt}
 use Rattle.evaluator.specs.{Records.SameFrame, Rest.waiting, declared.body.Body.Body}
-use Rattle.evaluator.specs.Rest.{below_top, from, from_under, lists_of, rest_of, resume, tasks_of, top_list, values_of}
+use Rattle.evaluator.specs.Rest.{below_list, from, from_under, lists_of, rest_of, resume, tasks_of, top_list, values_of}
 use Rattle.evaluator.specs.Stops.{AtCall, AtEnd, AtLine, Comes, NextStopIs, Stop}
 use Rattle.evaluator.specs.Weight.{Falls, body_weight, come, left_with, part_weight, task_weight, tasks_weight}
 use Rattle.evaluator.specs.declared.tasks.{Home.Home, Part.Part, Pause.Pause, Task.Task, Way.Way}
@@ -26,12 +26,12 @@ ended_by (Came (Way.Jump label base)) = Jump label base
 ended_by (Came (Way.Scalar v)) = Scalar v
 ended_by now = Nothing
 
--- the stop of the definitions at which a turn pauses: the cells of a call are the last list that waits, and what came
--- tells how a body ended
+-- the stop of the definitions at which a turn pauses: the arguments of a call are the last list that waits, and what
+-- came tells how a body ended
 abbrev pub pause_of : ProgramRows → Body → Pause → Stop
 pause_of p a (Pause.Line line) = AtLine line (rest_of p a)
 pause_of p a (Pause.Enter f) =
-    AtCall f (top_list (lists_of a)) (resume p a.home (tasks_of a) (values_of a) (below_top (lists_of a)))
+    AtCall f (top_list (lists_of a)) (resume p a.home (tasks_of a) (values_of a) (below_list (lists_of a)))
 pause_of p a Pause.Ended = AtEnd (Ended (ended_by a.now))
 
 -- a point of a run, as a configuration of structural operational semantics: what is still to be done, and the moment
@@ -49,9 +49,9 @@ StopsForGood p c line Halt.OutOfSteps m = NextStopIs p c.tree c.moment (AtEnd (H
 StopsForGood p c line (Halt.Limited which) m = NextStopIs p c.tree c.moment (AtEnd (Halted (WayOut.Limited which))) m
 StopsForGood p c line Halt.Memory m = Unit {0}
 
--- the routine is one of the program, and no limit forbids a call of it
+-- the routine is one of the program, and no limit forbids a call with a frame of some size
 abbrev pub MayEnter : ProgramRows → (routine : ℕ) → State → Type 0
-MayEnter p f σ = (r : Routine) × (routine_at p f ≡ Some r) × (limit_passed σ r.cells ≡ None)
+MayEnter p f σ = (r : Routine) × (routine_at p f ≡ Some r) × (cells : ℕ) × (limit_passed σ cells ≡ None)
 
 -- a call at which a body stops may be entered
 abbrev pub MayGoOn : ProgramRows → stop.Stop → State → Type 0

@@ -39,6 +39,9 @@ now_weight (Came way) = come
 abbrev pub task_weight : Task → ℕ
 task_weight (Task.Located (Located.Passed next line)) = 2
 task_weight (Task.Actual of' next line) = 2
+task_weight (Task.ArrayPlace first of' t next line) = 2
+task_weight (Task.ArrayValue first of' t next line) = 2
+task_weight (Task.TextValue first of' next line) = 2
 task_weight (Task.Operand (OperandTask.Member next line)) = 2
 task_weight (Task.Range next line) = 2
 task_weight (Task.Record next body line) = 4

@@ -14,6 +14,7 @@ ghost use Rattle.evaluator.specs.Weight.{Falls, body_weight, come, part_weight, 
 
 use crate::actuals::add_cell;
 use crate::body::{Body, Turned};
+use crate::conformant::{conformant, locate_bounded};
 use crate::tasks::{Located, Now, OperandTask, Part, Task, Way};
 use cell_value::Value;
 use core_program::rows::{AccessRow, Row, TypeRow};
@@ -71,6 +72,12 @@ fn begin_access(
         AccessRow::Reference { place, levels, .. } => reference(
             body, program, machine, place, levels, line,
         ),
+        AccessRow::Conformant { .. } => begin_bounded(
+            body, program, machine, access, row, target, line,
+        ),
+        AccessRow::Component { .. } => begin_bounded(
+            body, program, machine, access, row, target, line,
+        ),
         AccessRow::Index {
             access,
             index,
@@ -96,6 +103,36 @@ fn begin_access(
         AccessRow::Dereference { access, .. } => {
             locate_first(body, Located::Pointed { line }, access, row, target, line)
         }
+    }
+}
+
+/// An access of a conformant parameter, or of a component of one, begins.
+fn begin_bounded(
+    body: &mut Body,
+    program: &Program,
+    machine: &mut Machine,
+    access: AccessRow,
+    row: u32,
+    target: bool,
+    line: u32,
+) -> Turned
+    requires ready { IsReady machine.old }
+    ensures moves { Moves program.now (before body.old (moment_of machine.old) (bind (of_access program.now row target
+        (here body.old.home line) access) (waiting program.now body.old)) (part_weight (Part.Locate row target line)))
+        result body.new (moment_of machine.new) }
+    ensures ready { IsReady machine.new }
+{
+    match access {
+        AccessRow::Conformant { place, levels, .. } => conformant(
+            body, program, machine, place, levels, line,
+        ),
+        AccessRow::Component {
+            access,
+            index,
+            array,
+            of,
+        } => locate_bounded(body, index, array, of, access, row, target, line),
+        _ => body.no_row(),
     }
 }
 
@@ -241,7 +278,7 @@ fn follow_pointer(body: &mut Body, machine: &mut Machine, line: u32, addr: u32) 
 }
 
 /// The value of a variable of a type.
-fn variable_value(
+pub(crate) fn variable_value(
     body: &mut Body,
     alloc: Global,
     program: &Program,

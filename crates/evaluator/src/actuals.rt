@@ -2,21 +2,22 @@
 
 ghost use Rattle.std.specs.Prelude.{◌++◌, ◌+◌, ◌∷◌, ◌≡◌, [], ℕ, IfErr, OnOk};
 ghost use Rattle.cell_value.specs.declared.values.Value.{Value as CellValue};
-ghost use Rattle.core_program.specs.{Accesses.with_formal, Actions.Action, Actions.performs, Tree.bind, Tree.doing};
+ghost use Rattle.core_program.specs.{Accesses.with_formal, Passed.and_cells, Tree.bind, Tree.doing};
+ghost use Rattle.core_program.specs.Actions.{Action, performs};
 ghost use Rattle.core_program.specs.Cells as action;
 ghost use Rattle.core_program.specs.Expressions as expressions;
 ghost use Rattle.eval_ops.specs.Machines.{DoesAll, IsReady, Moment, machine_state, moment_of};
-ghost use Rattle.evaluator.specs.Rest.{below_top, declared, from_under, here, lists_of, paid, pass, resume, tasks_of};
-ghost use Rattle.evaluator.specs.Rest.{top_list, under_list, values_of};
+ghost use Rattle.evaluator.specs.Rest.{declared, from_under, here, lists_of, paid, pass, top_passed, under_passed};
 ghost use Rattle.evaluator.specs.Turns.{Leads, Moves, before, beginning};
 ghost use Rattle.evaluator.specs.Weight.{Falls, body_weight, come, part_weight, task_weight, tasks_weight};
 
+use crate::array_actuals::{pass_array, pass_place};
 use crate::body::{Body, Turned};
 use crate::tasks::{Located, Now, Part, Task, Way};
 use cell_value::{Cells, Value};
 use core_program::Program;
 use core_program::rows::{ItemRow, LIST_END, NameRow, Row};
-use eval_ops::{Halt, Machine, frame_out, passed_test, routine_out, spend, test};
+use eval_ops::{Halt, Machine, add_value, frame_out, passed_test, routine_out, spend, test};
 use std::alloc::Global;
 
 /// The actual parameters from an item on.
@@ -34,7 +35,7 @@ pub fn pass_actuals(
     ensures ready { IsReady machine.new }
 {
     if at == LIST_END {
-        return body.go(Now::Came(Way::Cells));
+        return body.go(Now::Came(Way::Actuals));
     }
     match program.row(at) {
         Row::Item(item) => pass_actual(body, alloc, program, machine, item, line),
@@ -53,8 +54,8 @@ fn pass_actual(
 ) -> Turned
     requires ready { IsReady machine.old }
     ensures moves { Moves program.now (before body.old (moment_of machine.old) (bind
-        (expressions.of_actual program.now (top_list (lists_of body.old)) (here body.old.home line) (Row.Item item))
-        (under_list program.now body.old)) (come + 1)) result body.new (moment_of machine.new) }
+        (expressions.of_actual program.now (top_passed (lists_of body.old)) (here body.old.home line) (Row.Item item))
+        (under_passed program.now body.old)) (come + 1)) result body.new (moment_of machine.new) }
     ensures ready { IsReady machine.new }
 {
     match item {
@@ -70,6 +71,8 @@ fn pass_actual(
                 line,
             }),
         ),
+        ItemRow::ArrayPlace { .. } => pass_conformant(body, alloc, program, item, line),
+        ItemRow::ArrayValue { .. } => pass_conformant(body, alloc, program, item, line),
         ItemRow::Routine {
             routine,
             levels,
@@ -90,6 +93,36 @@ fn pass_actual(
     }
 }
 
+/// An actual of a conformant parameter, by what kind of item it is.
+fn pass_conformant(
+    body: &mut Body,
+    alloc: Global,
+    program: &Program,
+    item: ItemRow,
+    line: u32,
+) -> Turned
+    ensures turns { Leads program.now (bind (expressions.of_actual program.now (top_passed (lists_of body.old)) (here
+        body.old.home line) (Row.Item item)) (under_passed program.now body.old)) result body.new }
+    ensures falls { Falls result (body_weight body.new) (come + 1 + tasks_weight body.old) }
+    ensures home { body.new.home ≡ body.old.home }
+{
+    match item {
+        ItemRow::ArrayPlace {
+            first,
+            access,
+            of,
+            next,
+        } => pass_place(body, alloc, program, first, access, of, next, line),
+        ItemRow::ArrayValue {
+            first,
+            value,
+            of,
+            next,
+        } => pass_array(body, alloc, program, first, value, of, next, line),
+        _ => body.no_row(),
+    }
+}
+
 /// An actual of a routine parameter that is itself one, by the row of its name.
 fn pass_formal(
     body: &mut Body,
@@ -103,8 +136,8 @@ fn pass_formal(
 ) -> Turned
     requires ready { IsReady machine.old }
     ensures moves { Moves program.now (before body.old (moment_of machine.old) (bind (with_formal formal
-        (λ place heading. expressions.pass_routine (here body.old.home line) next (top_list (lists_of body.old))
-        (action.routine_out program.now heading levels body.old.home.base place))) (under_list program.now body.old))
+        (λ place heading. expressions.pass_routine (here body.old.home line) next (top_passed (lists_of body.old))
+        (action.routine_out program.now heading levels body.old.home.base place))) (under_passed program.now body.old))
         (come + 1)) result body.new (moment_of machine.new) }
     ensures ready { IsReady machine.new }
 {
@@ -129,8 +162,9 @@ fn add_routine(
 ) -> Turned
     ensures moves { (a : Action (ℕ × ℕ)) (m m' : Moment) → DoesAll (λ x. x) (performs (paid a) m.state) found m m'
         → Moves program.now (before body.old m (bind (doing line (paid a) (λ (routine, frame).
-        pass body.old.home next line (top_list (lists_of body.old) ++ CellValue.Routine routine frame ∷ [])))
-        (under_list program.now body.old)) 0) result body.new m' }
+        pass body.old.home next line
+        (and_cells (top_passed (lists_of body.old)) (CellValue.Routine routine frame ∷ []))))
+        (under_passed program.now body.old)) 0) result body.new m' }
 {
     match found {
         Ok((routine, frame)) => {
@@ -172,15 +206,15 @@ pub fn add_cell(
     next: u32,
     line: u32,
 ) -> Turned
-    ensures turns { Leads program.now (bind (pass body.old.home next line (top_list (lists_of body.old) ++ value ∷ []))
-        (resume program.now body.old.home (tasks_of body.old) (values_of body.old) (below_top (lists_of body.old))))
-        result body.new }
+    ensures turns { Leads program.now (bind (pass body.old.home next line
+        (and_cells (top_passed (lists_of body.old)) (value ∷ []))) (under_passed program.now body.old)) result
+        body.new }
     ensures falls { Falls result (body_weight body.new)
         (part_weight (Part.Pass next line) + 1 + tasks_weight body.old) }
     ensures home { body.new.home ≡ body.old.home }
 {
     let mut list = body.take_list(alloc);
-    append(&mut list, value)?;
+    add_value(&mut list, value)?;
     body.lists.push(list)?;
     body.now = Now::Begin(Part::Pass { at: next, line });
     Ok(None)
@@ -246,25 +280,13 @@ fn formal_out(
     Ok(found)
 }
 
-/// Puts a value at the end of a list. A list of 4,294,967,295 values takes no more, which counts as out of memory.
-pub(crate) fn append(list: &mut Cells, value: Value) -> Result<(), Halt>
-    ensures added { OnOk result (list.new ≡ list.old ++ value ∷ []) }
-    ensures memory { IfErr result (λ e. e ≡ Halt.Memory) }
-{
-    if list.len() == u32::MAX {
-        return Err(Halt::Memory);
-    }
-    list.push(value)?;
-    Ok(())
-}
-
 /// Puts the values of a list at the end of another.
 pub(crate) fn append_all(list: &mut Cells, values: &Cells) -> Result<(), Halt>
     ensures added { OnOk result (list.new ≡ list.old ++ values.now) }
     ensures memory { IfErr result (λ e. e ≡ Halt.Memory) }
 {
     'cells: for i in 0..values.len() {
-        append(list, values.at(i))?;
+        add_value(list, values.at(i))?;
     }
     Ok(())
 }

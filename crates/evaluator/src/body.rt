@@ -1,14 +1,15 @@
 //! A body, and the single steps on it.
 
-ghost use Rattle.std.specs.Prelude.{if◌then◌else◌, ◌+◌, ◌∷◌, ◌≡◌, ℕ, Err, Some, max};
+ghost use Rattle.std.specs.Prelude.{if◌then◌else◌, ◌+◌, ◌∷◌, ◌≡◌, ℕ, Err, IfErr, OnOk, Some, max};
 ghost use Rattle.cell_value.specs.declared.values.Value.{Value as CellValue};
 ghost use Rattle.core_program.specs.{Accesses.address, Accesses.scalar, Actions.Action, Actions.performs};
 ghost use Rattle.core_program.specs.{ProgramRows.ProgramRows, ProgramRows.routine_at, Replay.end_of, Run.Ended};
 ghost use Rattle.core_program.specs.{Run.whole, Statements.nothing, declared.program.Routine.Routine as RoutineRow};
-ghost use Rattle.core_program.specs.Tree.{Cells as CellsOut, Out, bind, doing};
+ghost use Rattle.core_program.specs.Tree.{Bounded, Cells as CellsOut, Out, Ret, bind, doing};
 ghost use Rattle.eval_ops.specs.Machines.{DoesAll, Moment};
-ghost use Rattle.evaluator.specs.Rest.{below_top, from, from_under, home_below, left_now, lists_below, lists_of};
-ghost use Rattle.evaluator.specs.Rest.{rest_of, resume, tasks_of, top, top_list, values_below, values_of, waiting};
+ghost use Rattle.evaluator.specs.Rest.{below_list, below_passed, below_top, copies_in, copy_of, first_of, from};
+ghost use Rattle.evaluator.specs.Rest.{from_under, home_below, left_now, lists_below, lists_of, rest_of, resume};
+ghost use Rattle.evaluator.specs.Rest.{tasks_of, top, top_list, values_below, values_of, waiting, with_copy};
 ghost use Rattle.evaluator.specs.Turns.{Configuration, Leads, Moves, Turns, before};
 ghost use Rattle.evaluator.specs.Weight.{Falls, body_weight, come, now_weight, task_weight, tasks_weight};
 
@@ -20,6 +21,13 @@ use cell_value::{Cells, Value, WayOut};
 use eval_ops::Halt;
 use std::alloc::Global;
 use std::mem::size_of;
+
+/// The copy of an array that is passed by value: which cell of the parameters is to have its address, and its values.
+#[derive(Drop)]
+pub struct Copied {
+    pub at: u32,
+    pub cells: Cells,
+}
 
 /// One activation of a routine. Whatever its parts hold has a meaning, and so they are open to the files that take its
 /// turns. Nothing is said of what a body does after `Memory`.
@@ -33,6 +41,8 @@ pub struct Body {
     pub values: Vec<Value>,
     /// The lists of cells that wait, of actual parameters and of assignments.
     pub lists: Vec<Cells>,
+    /// Of each call whose actual parameters are being passed, the copies of arrays that go with them.
+    pub copies: Vec<Vec<Copied>>,
     pub now: Now,
     /// The line at which the last turn failed.
     pub line: u32,
@@ -58,6 +68,7 @@ impl Body {
             tasks: Vec::new(alloc),
             values: Vec::new(alloc),
             lists: Vec::new(alloc),
+            copies: Vec::new(alloc),
             now: Now::Begin(Part::Block),
             line: 0,
         }
@@ -170,6 +181,22 @@ impl Body {
         }
     }
 
+    /// An action on a line gave a conformant array and the frame that has its bounds, or it was not done.
+    #[inline(always)]
+    pub fn bounded(&mut self, line: u32, done: Result<(u32, u32), Halt>) -> Turned
+        ensures moves { (p : ProgramRows) (a : Action (ℕ × ℕ)) (m m' : Moment)
+            → DoesAll (λ x. x) (performs a m.state) done m m'
+            → Moves p (before self.old m (bind (doing line a (λ (addr, frame). Ret (Bounded addr frame)))
+            (waiting p self.old)) (come + 1)) result self.new m' }
+        ensures falls { Falls result (body_weight self.new) (come + tasks_weight self.old + 1) }
+        ensures home { self.new.home ≡ self.old.home }
+    {
+        match done {
+            Ok((addr, frame)) => self.go(Now::Came(Way::Bounded(addr, frame))),
+            Err(halt) => self.fail(line, halt),
+        }
+    }
+
     /// An action on a line, after which a statement has ended, was done or not.
     #[inline(always)]
     pub fn finally(&mut self, line: u32, done: Result<(), Halt>) -> Turned
@@ -219,7 +246,7 @@ impl Body {
         ensures values { values_of self.new ≡ below_top (values_of self.old) }
         ensures home { self.new.home ≡ self.old.home }
         ensures tasks { self.new.tasks.items ≡ self.old.tasks.items }
-        ensures lists { self.new.lists.items ≡ self.old.lists.items }
+        ensures lists { lists_of self.new ≡ lists_of self.old }
     {
         match self.values.pop() {
             Some(value) => value,
@@ -231,16 +258,46 @@ impl Body {
     pub fn take_list(&mut self, alloc: Global) -> Cells
         ensures result { result ≡ top_list (lists_of self.old) }
         ensures waits { (p : ProgramRows) → waiting p self.new ≡ resume p self.old.home (tasks_of self.old)
-            (values_of self.old) (below_top (lists_of self.old)) }
-        ensures lists { lists_of self.new ≡ below_top (lists_of self.old) }
+            (values_of self.old) (below_list (lists_of self.old)) }
+        ensures lists { lists_of self.new ≡ below_list (lists_of self.old) }
         ensures home { self.new.home ≡ self.old.home }
         ensures tasks { self.new.tasks.items ≡ self.old.tasks.items }
         ensures values { self.new.values.items ≡ self.old.values.items }
+        ensures copies { self.new.copies.items ≡ self.old.copies.items }
     {
         match self.lists.pop() {
             Some(list) => list,
             None => Cells::new(alloc),
         }
+    }
+
+    /// Takes the copies that go with what is passed of the innermost call.
+    pub fn take_copies(&mut self, alloc: Global) -> Vec<Copied>
+        ensures result { copies_in result ≡ first_of (lists_of self.old).copies }
+        ensures copies { (lists_of self.new).copies ≡ below_top (lists_of self.old).copies }
+        ensures lists { self.new.lists.items ≡ self.old.lists.items }
+        ensures home { self.new.home ≡ self.old.home }
+        ensures tasks { self.new.tasks.items ≡ self.old.tasks.items }
+        ensures values { self.new.values.items ≡ self.old.values.items }
+    {
+        match self.copies.pop() {
+            Some(copies) => copies,
+            None => Vec::new(alloc),
+        }
+    }
+
+    /// Puts a copy to those that go with what is passed of the innermost call.
+    pub fn add_copy(&mut self, alloc: Global, copied: Copied) -> Result<(), Halt>
+        ensures copies { OnOk result (lists_of self.new ≡ with_copy (lists_of self.old) (copy_of copied)) }
+        ensures home { self.new.home ≡ self.old.home }
+        ensures tasks { self.new.tasks.items ≡ self.old.tasks.items }
+        ensures values { self.new.values.items ≡ self.old.values.items }
+        ensures memory { IfErr result (λ e. e ≡ Halt.Memory) }
+    {
+        let mut copies = self.take_copies(alloc);
+        copies.push(copied)?;
+        self.copies.push(copies)?;
+        Ok(())
     }
 
     /// Drops what a task holds.
@@ -259,8 +316,11 @@ impl Body {
                 self.drop_value();
             }
             Task::Texts { .. } => self.drop_list(alloc),
-            Task::Located(Located::Passed { .. }) => self.drop_list(alloc),
-            Task::Actual { .. } => self.drop_list(alloc),
+            Task::Located(Located::Passed { .. }) => self.drop_passed(alloc),
+            Task::Actual { .. } => self.drop_passed(alloc),
+            Task::ArrayPlace { .. } => self.drop_passed(alloc),
+            Task::ArrayValue { .. } => self.drop_passed(alloc),
+            Task::TextValue { .. } => self.drop_passed(alloc),
             Task::Choice(ChoiceTask::Last { .. }) => self.drop_value(),
             Task::Put { .. } => self.drop_value(),
             Task::PutCells { .. } => self.drop_list(alloc),
@@ -280,7 +340,7 @@ impl Body {
     /// Drops the last value that waits.
     fn drop_value(&mut self)
         ensures values { values_of self.new ≡ below_top (values_of self.old) }
-        ensures lists { self.new.lists.items ≡ self.old.lists.items }
+        ensures lists { lists_of self.new ≡ lists_of self.old }
         ensures tasks { self.new.tasks.items ≡ self.old.tasks.items }
         ensures home { self.new.home ≡ self.old.home }
     {
@@ -290,10 +350,21 @@ impl Body {
     /// Drops the last list that waits.
     pub fn drop_list(&mut self, alloc: Global)
         ensures values { self.new.values.items ≡ self.old.values.items }
-        ensures lists { lists_of self.new ≡ below_top (lists_of self.old) }
+        ensures lists { lists_of self.new ≡ below_list (lists_of self.old) }
         ensures tasks { self.new.tasks.items ≡ self.old.tasks.items }
         ensures home { self.new.home ≡ self.old.home }
     {
         drop(self.take_list(alloc));
+    }
+
+    /// Drops what was passed of the innermost call.
+    fn drop_passed(&mut self, alloc: Global)
+        ensures values { self.new.values.items ≡ self.old.values.items }
+        ensures lists { lists_of self.new ≡ below_passed (lists_of self.old) }
+        ensures tasks { self.new.tasks.items ≡ self.old.tasks.items }
+        ensures home { self.new.home ≡ self.old.home }
+    {
+        drop(self.take_list(alloc));
+        drop(self.take_copies(alloc));
     }
 }

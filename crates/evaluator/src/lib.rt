@@ -5,9 +5,11 @@
 mod accesses;
 mod actuals;
 mod after_parts;
+mod array_actuals;
 mod assignments;
 mod body;
 mod calls;
+mod conformant;
 mod counting;
 mod expressions;
 mod heap;

@@ -32,9 +32,11 @@ pub(crate) fn end(body: &mut Body, program: &Program, machine: &mut Machine, way
             Ok(Some(Pause::Ended))
         }
         Way::Cells => returned(body, program, machine),
+        Way::Actuals => returned(body, program, machine),
         Way::Nothing => returned(body, program, machine),
         Way::Scalar(_) => returned(body, program, machine),
         Way::Address(_) => returned(body, program, machine),
+        Way::Bounded(_, _) => returned(body, program, machine),
     }
 }
 

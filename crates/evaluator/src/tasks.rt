@@ -22,7 +22,7 @@ pub enum Part {
     Eval { row: u32, line: u32 },
     /// The variable that an access denotes, which may be a target.
     Locate { row: u32, target: bool, line: u32 },
-    /// The actual parameters from an item on. The cells of those before it are the last list that waits.
+    /// The actual parameters from an item on. What was passed before them is the last that waits.
     Pass { at: u32, line: u32 },
     /// The members of a set constructor from an item on. The set of those before it is the last value that waits.
     Gather { at: u32, line: u32 },
@@ -53,7 +53,11 @@ pub enum Way {
     Scalar(Value),
     /// The last list that waits holds the values.
     Cells,
+    /// What is passed to a routine is the last that waits.
+    Actuals,
     Address(u32),
+    /// The address of a conformant array, and the base of the frame that has its bounds.
+    Bounded(u32, u32),
     /// A goto to a label, in the frame at a base.
     Jump(u32, u32),
 }
@@ -121,7 +125,7 @@ pub enum Located {
     Field { field: u32, target: bool, line: u32 },
     /// The pointer in it is followed (6.5.4).
     Pointed { line: u32 },
-    /// It is an actual variable parameter. The cells of the actuals before it are the last list that waits.
+    /// It is an actual variable parameter. What was passed before it is the last that waits.
     Passed { next: u32, line: u32 },
 }
 
@@ -252,8 +256,47 @@ pub struct ArrayPlaces {
 pub enum Task {
     Operand(OperandTask),
     Located(Located),
-    /// An actual value parameter. The cells of the actuals before it are the last list that waits.
+    /// An actual value parameter. What was passed before it is the last that waits.
     Actual {
+        of: u32,
+        next: u32,
+        line: u32,
+    },
+    /// A conformant array, before an index in it: its type, and that of the component.
+    BoundedIndex {
+        index: u32,
+        array: u32,
+        of: u32,
+        line: u32,
+    },
+    /// The index of a component of a conformant array at an address, whose bounds are in the frame at a base.
+    BoundedComponent {
+        array: u32,
+        of: u32,
+        addr: u32,
+        frame: u32,
+        line: u32,
+    },
+    /// An array that is an actual variable parameter: whether it is the first of its section, the type of the
+    /// parameter, and its own. What was passed before it is the last that waits, as in the next two.
+    ArrayPlace {
+        first: bool,
+        of: u32,
+        actual: u32,
+        next: u32,
+        line: u32,
+    },
+    /// The same of an actual value parameter.
+    ArrayValue {
+        first: bool,
+        of: u32,
+        actual: u32,
+        next: u32,
+        line: u32,
+    },
+    /// A string that is an actual of a conformant parameter by value.
+    TextValue {
+        first: bool,
         of: u32,
         next: u32,
         line: u32,
@@ -346,8 +389,8 @@ pub enum Task {
 
 const _: () = prove!(size_of::<Task>() <= 24);
 
-/// What a turn of a body pauses at. It is small, since each turn hands one up. At a call the link and the cells of its
-/// parameters are the last list that waits, and at the end what came tells how the body ended.
+/// What a turn of a body pauses at. It is small, since each turn hands one up. At a call its arguments are the last
+/// list that waits, and at the end what came tells how the body ended.
 #[derive(Clone, Copy)]
 pub enum Pause {
     /// A statement that is neither compound nor empty has begun on this line.
@@ -362,7 +405,8 @@ pub enum Pause {
 pub enum Stop {
     /// A statement that is neither compound nor empty has begun on this line.
     Line(u32),
-    /// A call of a routine that has passed its limits is to be entered, with its link and the cells of its parameters.
+    /// A call of a routine that has passed its limits is to be entered, with its arguments: the link, the cells of its
+    /// parameters, and those of the copies of arrays.
     Enter(u32, Cells),
     /// The body has ended, with its result if it is a function's and returned.
     Ended(WayOut, Option<Value>),

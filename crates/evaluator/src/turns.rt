@@ -10,9 +10,11 @@ ghost use Rattle.evaluator.specs.Turns.{MayGoOn, Moves, PausesInRoom, before, be
 use crate::accesses::{continue_access, locate};
 use crate::actuals::{add_actual, add_actual_cells, pass_actuals};
 use crate::after_parts::{continue_statement, follow_statement};
+use crate::array_actuals::{add_text, array_at, bounded_array, bounded_place, place_at};
 use crate::assignments::{locate_target, locate_target_cells, put, put_cells};
 use crate::body::{Body, Turned};
 use crate::calls::{call, call_formal};
+use crate::conformant::{bounded_component, bounded_index, continue_bounded};
 use crate::expressions::{continue_expression, evaluate};
 use crate::heap::{dispose_of, put_pointer};
 use crate::jumps::leap;
@@ -193,7 +195,11 @@ fn work(
         Way::Nothing => after_nothing(body, alloc, program, machine, task),
         Way::Scalar(value) => after_scalar(body, alloc, program, machine, task, value),
         Way::Cells => after_cells(body, alloc, program, machine, task),
+        Way::Actuals => after_actuals(body, alloc, program, machine, task),
         Way::Address(addr) => after_address(body, alloc, program, machine, task, addr),
+        Way::Bounded(addr, frame) => {
+            after_bounded(body, alloc, program, machine, task, addr, frame)
+        }
         Way::Jump(label, base) => leap(body, alloc, program, task, label, base),
     }
 }
@@ -246,6 +252,15 @@ fn after_scalar(
         Task::PackIndex { packing, places } => {
             move_arrays(body, alloc, program, machine, packing, places, value)
         }
+        Task::BoundedComponent {
+            array,
+            of,
+            addr,
+            frame,
+            line,
+        } => bounded_component(
+            body, alloc, program, machine, array, of, addr, frame, line, value,
+        ),
         Task::Leave => leave(body, Way::Scalar(value)),
         _ => body.no_row(),
     }
@@ -285,12 +300,97 @@ fn after_address(
             rows,
             first,
         } => pack_by_index(body, packing, rows, first, addr),
+        Task::ArrayPlace { .. } => array_located(body, alloc, program, machine, task, addr),
+        Task::ArrayValue { .. } => array_located(body, alloc, program, machine, task, addr),
         Task::Leave => leave(body, Way::Address(addr)),
         _ => body.no_row(),
     }
 }
 
-/// A task goes on after an expression of a type of several cells, or after actual parameters.
+/// An array that is an actual of a conformant parameter is located, and is one of a fixed type.
+fn array_located(
+    body: &mut Body,
+    alloc: Global,
+    program: &Program,
+    machine: &mut Machine,
+    task: Task,
+    addr: u32,
+) -> Turned
+    requires ready { IsReady machine.old }
+    ensures moves { Moves program.now (continuing program.now body.old (moment_of machine.old) (Way.Address addr) task)
+        result body.new (moment_of machine.new) }
+    ensures ready { IsReady machine.new }
+{
+    match task {
+        Task::ArrayPlace {
+            first,
+            of,
+            actual,
+            next,
+            line,
+        } => place_at(body, alloc, program, first, of, actual, next, line, addr),
+        Task::ArrayValue {
+            first,
+            of,
+            actual,
+            next,
+            line,
+        } => array_at(
+            body, alloc, program, machine, first, of, actual, next, line, addr,
+        ),
+        _ => body.no_row(),
+    }
+}
+
+/// A task goes on after an access of a conformant array. Most want no more than its address.
+fn after_bounded(
+    body: &mut Body,
+    alloc: Global,
+    program: &Program,
+    machine: &mut Machine,
+    task: Task,
+    addr: u32,
+    frame: u32,
+) -> Turned
+    requires ready { IsReady machine.old }
+    ensures moves { Moves program.now (continuing program.now body.old (moment_of machine.old) (Way.Bounded addr frame)
+        task) result body.new (moment_of machine.new) }
+    ensures ready { IsReady machine.new }
+{
+    match task {
+        Task::Located(located) => {
+            continue_bounded(body, alloc, program, machine, located, addr, frame)
+        }
+        Task::BoundedIndex {
+            index,
+            array,
+            of,
+            line,
+        } => bounded_index(body, machine, index, array, of, line, addr, frame),
+        Task::ArrayPlace {
+            first,
+            of,
+            actual,
+            next,
+            line,
+        } => bounded_place(
+            body, alloc, program, machine, first, of, actual, next, line, addr, frame,
+        ),
+        Task::ArrayValue {
+            first,
+            of,
+            actual,
+            next,
+            line,
+        } => bounded_array(
+            body, alloc, program, machine, first, of, actual, next, line, addr, frame,
+        ),
+        Task::Leave => leave(body, Way::Bounded(addr, frame)),
+        _ => after_address(body, alloc, program, machine, task, addr),
+    }
+}
+
+/// A task goes on after an expression of a type of several cells.
 fn after_cells(
     body: &mut Body,
     alloc: Global,
@@ -305,6 +405,40 @@ fn after_cells(
 {
     match task {
         Task::Actual { of, next, line } => add_actual_cells(body, alloc, program, of, next, line),
+        Task::TextValue {
+            first,
+            of,
+            next,
+            line,
+        } => add_text(body, alloc, program, first, of, next, line),
+        Task::TextRight { order, right, line } => begin_right_text(body, order, right, line),
+        Task::Texts { order, line } => end_texts(body, alloc, order, line),
+        Task::Target { target, of, line } => locate_target_cells(body, program, target, of, line),
+        Task::Transfer(transfer) => continue_with_text(body, alloc, machine, transfer),
+        Task::Next(next) => {
+            // The cells are of no use to it.
+            body.drop_list(alloc);
+            follow_statement(body, alloc, program, machine, next)
+        }
+        Task::Leave => leave(body, Way::Cells),
+        _ => body.no_row(),
+    }
+}
+
+/// A call goes on after its actual parameters.
+fn after_actuals(
+    body: &mut Body,
+    alloc: Global,
+    program: &Program,
+    machine: &mut Machine,
+    task: Task,
+) -> Turned
+    requires ready { IsReady machine.old }
+    ensures moves { Moves program.now (continuing program.now body.old (moment_of machine.old) Way.Actuals task) result
+        body.new (moment_of machine.new) }
+    ensures ready { IsReady machine.new }
+{
+    match task {
         Task::Call {
             procedure,
             routine,
@@ -321,16 +455,6 @@ fn after_cells(
         } => call_formal(
             body, alloc, program, machine, procedure, formal, levels, line,
         ),
-        Task::TextRight { order, right, line } => begin_right_text(body, order, right, line),
-        Task::Texts { order, line } => end_texts(body, alloc, order, line),
-        Task::Target { target, of, line } => locate_target_cells(body, program, target, of, line),
-        Task::Transfer(transfer) => continue_with_text(body, alloc, machine, transfer),
-        Task::Next(next) => {
-            // The cells are of no use to it.
-            body.drop_list(alloc);
-            follow_statement(body, alloc, program, machine, next)
-        }
-        Task::Leave => leave(body, Way::Cells),
         _ => body.no_row(),
     }
 }

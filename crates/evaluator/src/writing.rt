@@ -6,8 +6,8 @@ ghost use Rattle.core_program.specs.Output as output;
 ghost use Rattle.core_program.specs.ProgramRows.{ProgramRows, type_at};
 ghost use Rattle.core_program.specs.Transfers as transfers;
 ghost use Rattle.eval_ops.specs.Machines.{DoesAll, IsReady, Moment, moment_of};
-ghost use Rattle.evaluator.specs.{Rest.values_of, Rest.waiting, TransferFamilies.host_in};
-ghost use Rattle.evaluator.specs.Rest.{below_top, from, from_under, here, lists_of, resume, tasks_of, top_list};
+ghost use Rattle.evaluator.specs.{Rest.top_list, Rest.values_of, Rest.waiting, TransferFamilies.host_in};
+ghost use Rattle.evaluator.specs.Rest.{below_list, below_top, from, from_under, here, lists_of, resume, tasks_of};
 ghost use Rattle.evaluator.specs.Turns.{Leads, Moves, before, continuing};
 ghost use Rattle.evaluator.specs.Weight.{Falls, body_weight, come, now_weight, part_weight, tasks_weight};
 
@@ -202,7 +202,7 @@ fn write_text(
     requires ready { IsReady machine.old }
     ensures moves { (p : ProgramRows) → Moves p (before body.old (moment_of machine.old) (bind (transfers.print (here
         body.old.home line) next (output.string_text (top_list (lists_of body.old))) width) (resume p body.old.home
-        (tasks_of body.old) (values_of body.old) (below_top (lists_of body.old)))) (come + 2)) result body.new
+        (tasks_of body.old) (values_of body.old) (below_list (lists_of body.old)))) (come + 2)) result body.new
         (moment_of machine.new) }
     ensures ready { IsReady machine.new }
 {

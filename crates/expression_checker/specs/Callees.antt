@@ -95,9 +95,13 @@ required_formals Required.Eof = ExpectedFormals.File
 required_formals Required.Eoln = ExpectedFormals.File
 required_formals r = operand_of (ordinal_function r)
 
+-- the formal parameters of a section on, of which none is passed
+abbrev pub formals_from : ℕ → ExpectedFormals
+formals_from section = ExpectedFormals.Declared section 0 ExpressionType.Unknown
+
 abbrev pub formals_of : Known → Callee → ExpectedFormals
-formals_of k (Callee.Routine number levels heading) = ExpectedFormals.Declared (signature_at k heading).sections 0
-formals_of k (Callee.Formal formal levels heading) = ExpectedFormals.Declared (signature_at k heading).sections 0
+formals_of k (Callee.Routine number levels heading) = formals_from (signature_at k heading).sections
+formals_of k (Callee.Formal formal levels heading) = formals_from (signature_at k heading).sections
 formals_of k (Callee.Required r) = required_formals r
 formals_of k c = ExpectedFormals.Unknown
 

@@ -14,7 +14,7 @@ use Rattle.check_steps.specs.{Names.use_again, Steps.◌>>=◌, Steps.Step, Step
 use Rattle.expression_checker.specs.{Actuals.actual_by, Callees.applied, Callees.called_function, NamesAlone.is_name}
 use Rattle.expression_checker.specs.{NamesAlone.name_alone, Operations.relational_operator, Operations.signed}
 use Rattle.expression_checker.specs.Members.{member_range, nothing_gathered, one_member, set_constructor}
-use Rattle.expression_checker.specs.Names.{accessed_as, meaning_of, variable}
+use Rattle.expression_checker.specs.Names.{accessed_as, bound_at, meaning_of, variable}
 use Rattle.expression_checker.specs.Operations.{adding_operator, multiplying_operator, negated, operated}
 use Rattle.expression_checker.specs.Selectors.{dereferenced, indexed, selected_field}
 use Rattle.expression_checker.specs.Typed.{bracketed, constant_at, literal, nil_at, unknown_at}
@@ -31,6 +31,7 @@ designator frame name = do
 
 abbrev pub named_as : ℕ → ℕ → Meaning → Step Typed
 named_as frame name (Meaning.Constant v) = constant_at name v
+named_as frame name (Meaning.Bound r of') = bound_at name r of'
 named_as frame name Meaning.Other = designator frame name
 named_as frame name m = accessed_as name m
 

@@ -2,8 +2,10 @@
 use Rattle.std.specs.Prelude.{if◌then◌else◌, ◌-◌, ℕ, Bool, None, Option, Some, false, length, suc, true, zero}
 use Rattle.core_program.specs.declared.rows.{Mode.Mode, NameRow.NameRow, PartRow.PartRow, Row.Row, TypeRow.TypeRow}
 use Rattle.core_program.specs.declared.rows.AccessRow.{AccessRow}
-use Rattle.check_steps.specs.{Known.Known, Known.frame_at, Known.row_at, Names.use_again, declared.regions.Found.Found}
+use Rattle.check_steps.specs.{Names.use_again, declared.regions.Found.Found}
+use Rattle.check_steps.specs.Known.{Known, frame_at, row_at, type_at}
 use Rattle.check_steps.specs.Steps.{◌>>=◌, Step, give, late, look, put}
+use Rattle.kind_checker.specs.Conformable.{is_conformant}
 use Rattle.kind_checker.specs.declared.{constants.ConstantValue.ConstantValue, shapes.ExpressionType.ExpressionType}
 use Rattle.expression_checker.specs.Typed.{unknown_at}
 use Rattle.expression_checker.specs.declared.{names.Meaning.Meaning, typed.Location.Location, typed.Typed.Typed}
@@ -14,9 +16,11 @@ use Rattle.expression_checker.specs.declared.{names.Meaning.Meaning, typed.Locat
 abbrev pub levels_to : Known → ℕ → ℕ → ℕ
 levels_to k frame level = (frame_at k frame).level - level
 
-abbrev pub variable_row : Mode → ℕ → ℕ → ℕ → AccessRow
-variable_row Mode.Place place levels of' = AccessRow.Reference place levels of'
-variable_row m place levels of' = AccessRow.Variable place levels of'
+-- the access of a variable or a parameter by its name; of a conformant one the bounds are found too
+abbrev pub variable_row : (conformant : Bool) → Mode → ℕ → ℕ → ℕ → AccessRow
+variable_row true m place levels of' = AccessRow.Conformant place levels of'
+variable_row false Mode.Place place levels of' = AccessRow.Reference place levels of'
+variable_row false m place levels of' = AccessRow.Variable place levels of'
 
 -- ---- fields of the records of with statements
 
@@ -62,7 +66,10 @@ meaning_in k frame f (Row.Name (NameRow.Constant of' v)) = Meaning.Constant (Som
 meaning_in k frame f (Row.Name (NameRow.Text token)) = Meaning.Constant (Some (ConstantValue.Text token))
 meaning_in k frame f Row.Nothing = Meaning.Constant None
 meaning_in k frame f (Row.Name (NameRow.Variable m of' place level)) =
-    Meaning.Variable (variable_row m place (levels_to k frame level) of') of' Location.Variable
+    Meaning.Variable (variable_row (is_conformant (type_at k of')) m place (levels_to k frame level) of') of'
+    Location.Variable
+meaning_in k frame f (Row.Name (NameRow.Bound of' place level)) =
+    Meaning.Bound (AccessRow.Variable place (levels_to k frame level) of') of'
 meaning_in k frame f (Row.Name (NameRow.Field of' offset holder)) =
     field_meaning k f of' (component_if (is_packed k holder))
 meaning_in k frame f (Row.Name (NameRow.Tag of' offset holder variants)) = field_meaning k f of' Location.Component
@@ -84,6 +91,12 @@ accessed_as name (Meaning.Variable r of' l) = do
   _ ← put name (Row.Access r)
   give (record { row = name; of = ExpressionType.Of of'; location = l })
 accessed_as name m = give (unknown_at name)
+
+-- a bound alone, which is a value and no variable
+unfoldable pub bound_at : ℕ → AccessRow → ℕ → Step Typed
+bound_at name r of' = do
+  _ ← put name (Row.Access r)
+  give (record { row = name; of = ExpressionType.Of of'; location = Location.Nowhere })
 
 -- rule 3: the name stands for another kind of thing than a variable, a parameter or a field
 unfoldable pub variable : ℕ → ℕ → Step Typed

@@ -24,25 +24,31 @@ type_number t = 0
 abbrev pub is_array : Option TypeRow → Bool
 is_array None = true
 is_array (Some (TypeRow.Array packed index component cells)) = true
+is_array (Some (TypeRow.Conformant packed index component place)) = true
 is_array (Some t) = false
 
 abbrev pub is_index : Known → Option TypeRow → ExpressionType → Bool
 is_index k (Some (TypeRow.Array packed index component cells)) of' = is_assignable k index of'
+is_index k (Some (TypeRow.Conformant packed index component place)) of' = is_assignable k index of'
 is_index k r of' = true
 
 abbrev pub index_row : Option TypeRow → Typed → Typed → Row
 index_row (Some (TypeRow.Array packed index component cells)) p i =
     Row.Access (AccessRow.Index p.row i.row (type_number p.of) component)
+index_row (Some (TypeRow.Conformant packed index component place)) p i =
+    Row.Access (AccessRow.Component p.row i.row (type_number p.of) component)
 index_row r p i = Row.Nothing
 
 -- the component of an array, at its bracket or comma
 abbrev pub component_at : Option TypeRow → ℕ → Typed
 component_at (Some (TypeRow.Array packed index component cells)) bracket =
     record { row = bracket; of = ExpressionType.Of component; location = component_if packed }
+component_at (Some (TypeRow.Conformant packed index component place)) bracket =
+    record { row = bracket; of = ExpressionType.Of component; location = component_if packed }
 component_at r bracket = unknown_at bracket
 
 -- rule 23: a selector is applied to a type that has no such part, at the `[`, or at the `,` before a surplus index
--- rule 25: an index is not assignment-compatible with the index type, at its first token
+-- rule 25: an index is not assignment-compatible with the index type or the type of the spec, at its first token
 unfoldable pub indexed : Typed → ℕ → ℕ → Typed → Step Typed
 indexed p bracket first i = do
   r ← look (λ k. type_row k p.of)

@@ -4,14 +4,15 @@ ghost use Rattle.std.specs.Prelude.{◌≡◌};
 ghost use Rattle.pas_tree.specs.ExpressionTrees.{access_tree, expression_tree, factor_tree, simple_tree, term_tree};
 ghost use Rattle.check_steps.specs.Steps.{Does};
 ghost use Rattle.expression_checker.specs.Actuals.{after_section, argued, file_argued, file_in, file_of, formal_at};
-ghost use Rattle.expression_checker.specs.Actuals.{formal_in, formals_after, is_actual, is_argument, is_congruous};
-ghost use Rattle.expression_checker.specs.Actuals.{is_free, is_input, is_of_type, is_variable_actual, item_if_any};
-ghost use Rattle.expression_checker.specs.Actuals.{item_of, lone_file, lone_of, operand_in, passed, routine_argued};
+ghost use Rattle.expression_checker.specs.Actuals.{formal_in, formal_of, formals_after, is_actual, is_argument};
+ghost use Rattle.expression_checker.specs.Actuals.{is_array_actual, is_congruous, is_copied, is_free, is_input};
+ghost use Rattle.expression_checker.specs.Actuals.{is_of_section, is_of_type, is_variable_actual, item_if_any, item_of};
+ghost use Rattle.expression_checker.specs.Actuals.{lone_file, lone_of, operand_in, passed, routine_argued};
 ghost use Rattle.expression_checker.specs.Actuals.{routine_item, rule_of, threat_by};
 ghost use Rattle.expression_checker.specs.NamesAlone.{access_name, factor_name, name_alone, name_if, name_of_if};
 ghost use Rattle.expression_checker.specs.NamesAlone.{simple_name, term_name};
 
-use crate::callees::{Callee, ExpectedFormals, callee_of};
+use crate::callees::{Callee, ExpectedFormals, callee_of, formals_from};
 use crate::threats::check_threat_alone;
 use crate::typed::{Location, Typed, unknown_at};
 use check_steps::headings::FormalSection;
@@ -20,6 +21,7 @@ use check_steps::{Found, Tables, Work};
 use core_program::rows::{
     INTEGER, ItemRow, LIST_END, Mode, NameRow, OrdinalFunction, Row, TextFile,
 };
+use kind_checker::conformable::{is_conformable, is_conformant, is_measured, measure_after};
 use kind_checker::headings::section_at;
 use kind_checker::operators::{is_operand, is_ordinal, is_unknown_shape};
 use kind_checker::shapes::{is_assignable, is_same_type, shape_of};
@@ -35,6 +37,14 @@ pub enum ExpectedFormal {
     Value(u32),
     /// A variable parameter of a type.
     Variable(u32),
+    /// A conformant parameter of a type: whether it is one by value, whether it is the first of its section, and the
+    /// type of the actuals before it, as far as it is known.
+    Array {
+        copied: bool,
+        first: bool,
+        of: u32,
+        measure: ExpressionType,
+    },
     /// A routine parameter, by the number of its heading.
     Routine(u32),
     /// A text file that is read.
@@ -57,6 +67,8 @@ pub enum Lone {
 pub struct Argument {
     /// Its item in the list of actual parameters, if it has one.
     pub item: Option<ItemRow>,
+    /// Its type.
+    pub of: ExpressionType,
     /// Itself where it is the operand of a required function, and else nothing that is known.
     pub value: Typed,
 }
@@ -72,16 +84,60 @@ pub struct Passing {
     pub value: Typed,
 }
 
-fn formal_in(section: Option<(FormalSection, u32)>) -> ExpectedFormal
-    ensures { result ≡ formal_in section }
+fn is_copied(mode: Mode) -> bool
+    ensures { result ≡ is_copied mode }
+{
+    match mode {
+        Mode::Copy => true,
+        _ => false,
+    }
+}
+
+/// A variable or a value parameter of a type, or a conformant one.
+fn formal_of(
+    conformant: bool,
+    mode: Mode,
+    of: u32,
+    passed: u32,
+    measure: ExpressionType,
+) -> ExpectedFormal
+    ensures { result ≡ formal_of conformant mode of passed measure }
+{
+    if conformant {
+        return ExpectedFormal::Array {
+            copied: is_copied(mode),
+            first: passed == 0,
+            of,
+            measure,
+        };
+    }
+    match mode {
+        Mode::Place => ExpectedFormal::Variable(of),
+        _ => ExpectedFormal::Value(of),
+    }
+}
+
+/// The parameter of a section, of which this many are passed.
+fn formal_in(
+    tables: &Tables,
+    passed: u32,
+    measure: ExpressionType,
+    section: Option<(FormalSection, u32)>,
+) -> ExpectedFormal
+    ensures { result ≡ formal_in tables.now passed measure section }
 {
     match section {
         None => ExpectedFormal::Unknown,
         Some((section, _)) => match section {
-            FormalSection::Names { mode, of, .. } => match mode {
-                Mode::Place => ExpectedFormal::Variable(of),
-                _ => ExpectedFormal::Value(of),
-            },
+            FormalSection::Names { mode, of, .. } => {
+                formal_of(
+                    is_conformant(tables.type_row(of)),
+                    mode,
+                    of,
+                    passed,
+                    measure,
+                )
+            }
             FormalSection::Heading(heading) => ExpectedFormal::Routine(heading),
         },
     }
@@ -93,14 +149,23 @@ pub fn formal_at(tables: &Tables, formals: ExpectedFormals) -> ExpectedFormal
 {
     match formals {
         ExpectedFormals::Unknown => ExpectedFormal::Unknown,
-        ExpectedFormals::Declared { section, .. } => formal_in(section_at(tables, section)),
+        ExpectedFormals::Declared {
+            section,
+            passed,
+            measure,
+        } => formal_in(tables, passed, measure, section_at(tables, section)),
         ExpectedFormals::File => ExpectedFormal::File,
         ExpectedFormals::Operand(function) => ExpectedFormal::Operand(function),
     }
 }
 
-fn after_section(section: Option<(FormalSection, u32)>, at: u32, passed: u32) -> ExpectedFormals
-    ensures { result ≡ after_section section at passed }
+fn after_section(
+    section: Option<(FormalSection, u32)>,
+    at: u32,
+    passed: u32,
+    measure: ExpressionType,
+) -> ExpectedFormals
+    ensures { result ≡ after_section section at passed measure }
 {
     let Some((section, next)) = section else {
         return ExpectedFormals::Unknown;
@@ -110,25 +175,25 @@ fn after_section(section: Option<(FormalSection, u32)>, at: u32, passed: u32) ->
             Some(more) if more < count => ExpectedFormals::Declared {
                 section: at,
                 passed: more,
+                measure,
             },
-            _ => ExpectedFormals::Declared {
-                section: next,
-                passed: 0,
-            },
+            _ => formals_from(next),
         },
-        FormalSection::Heading(_) => ExpectedFormals::Declared {
-            section: next,
-            passed: 0,
-        },
+        FormalSection::Heading(_) => formals_from(next),
     }
 }
 
-fn formals_after(tables: &Tables, formals: ExpectedFormals) -> ExpectedFormals
-    ensures { result ≡ formals_after tables.now formals }
+fn formals_after(tables: &Tables, formals: ExpectedFormals, of: ExpressionType) -> ExpectedFormals
+    ensures { result ≡ formals_after tables.now formals of }
 {
     match formals {
-        ExpectedFormals::Declared { section, passed } => {
-            after_section(section_at(tables, section), section, passed)
+        ExpectedFormals::Declared {
+            section,
+            passed,
+            measure,
+        } => {
+            let measure = measure_after(tables, measure, of);
+            after_section(section_at(tables, section), section, passed, measure)
         }
         _ => ExpectedFormals::Unknown,
     }
@@ -159,6 +224,16 @@ fn is_variable_actual(tables: &Tables, kind: u32, value: Typed) -> bool
         || (is_free(value.location) && is_of_type(tables, kind, value.of))
 }
 
+fn is_array_actual(tables: &Tables, copied: bool, schema: u32, value: Typed) -> bool
+    ensures { result ≡ is_array_actual tables.now copied schema value }
+{
+    if copied {
+        return is_conformable(tables, schema, value.of);
+    }
+    is_unknown_shape(shape_of(tables, value.of))
+        || (is_free(value.location) && is_conformable(tables, schema, value.of))
+}
+
 fn is_argument(function: OrdinalFunction, shape: Shape) -> bool
     ensures { result ≡ is_argument function shape }
 {
@@ -177,6 +252,7 @@ fn is_actual(tables: &Tables, formal: ExpectedFormal, value: Typed) -> bool
         ExpectedFormal::Unknown => true,
         ExpectedFormal::Value(kind) => is_assignable(tables, kind, value.of),
         ExpectedFormal::Variable(kind) => is_variable_actual(tables, kind, value),
+        ExpectedFormal::Array { copied, of, .. } => is_array_actual(tables, copied, of, value),
         ExpectedFormal::Routine(_) => is_unknown_shape(shape_of(tables, value.of)),
         ExpectedFormal::File => is_unknown_shape(shape_of(tables, value.of)),
         ExpectedFormal::Operand(function) => is_argument(function, shape_of(tables, value.of)),
@@ -190,6 +266,8 @@ fn rule_of(formal: ExpectedFormal) -> u32
         ExpectedFormal::Unknown => 27,
         ExpectedFormal::Value(_) => 27,
         ExpectedFormal::Variable(_) => 28,
+        ExpectedFormal::Array { copied: true, .. } => 27,
+        ExpectedFormal::Array { copied: false, .. } => 28,
         ExpectedFormal::Routine(_) => 29,
         ExpectedFormal::File => 32,
         ExpectedFormal::Operand(_) => 32,
@@ -209,6 +287,28 @@ fn item_of(formal: ExpectedFormal, value: Typed) -> Option<ItemRow>
             access: value.row,
             next: LIST_END,
         }),
+        ExpectedFormal::Array {
+            copied: true,
+            first,
+            of,
+            ..
+        } => Some(ItemRow::ArrayValue {
+            first,
+            value: value.row,
+            of,
+            next: LIST_END,
+        }),
+        ExpectedFormal::Array {
+            copied: false,
+            first,
+            of,
+            ..
+        } => Some(ItemRow::ArrayPlace {
+            first,
+            access: value.row,
+            of,
+            next: LIST_END,
+        }),
         _ => None,
     }
 }
@@ -219,6 +319,16 @@ fn operand_in(formal: ExpectedFormal, value: Typed) -> Typed
     match formal {
         ExpectedFormal::Operand(_) => value,
         _ => unknown_at(value.row),
+    }
+}
+
+/// Whether a type is that of the first actual of a conformant section.
+fn is_of_section(tables: &Tables, formal: ExpectedFormal, of: ExpressionType) -> bool
+    ensures { result ≡ is_of_section tables.now formal of }
+{
+    match formal {
+        ExpectedFormal::Array { measure, .. } => is_measured(tables, measure, of),
+        _ => true,
     }
 }
 
@@ -234,8 +344,11 @@ pub(crate) fn check_argued(
 {
     let fine = is_actual(&work.tables, formal, value);
     work.late(rule_of(formal), first, fine);
+    let one = is_of_section(&work.tables, formal, value.of);
+    work.late(35, first, one);
     Argument {
         item: item_of(formal, value),
+        of: value.of,
         value: operand_in(formal, value),
     }
 }
@@ -387,6 +500,7 @@ pub(crate) fn check_routine(work: &mut Work, name: u32, heading: u32, frame: u32
     work.late(29, name, fine);
     Argument {
         item: routine_item(callee),
+        of: ExpressionType::Unknown,
         value: unknown_at(name),
     }
 }
@@ -408,6 +522,7 @@ pub(crate) fn check_file(work: &mut Work, name: u32, file: TextFile) -> Argument
     work.late(32, name, is_input(file));
     Argument {
         item: None,
+        of: ExpressionType::Unknown,
         value: unknown_at(name),
     }
 }
@@ -424,6 +539,7 @@ pub(crate) fn check_threat_by(
 {
     match formal {
         ExpectedFormal::Variable(_) => check_threat_alone(work, frame, name),
+        ExpectedFormal::Array { copied: false, .. } => check_threat_alone(work, frame, name),
         _ => {}
     }
 }
@@ -449,7 +565,7 @@ pub(crate) fn check_passed(
     ensures { Does (passed passing slot argument) result work.old work.new }
 {
     let last = put_if_any(work, passing.last, slot, argument.item);
-    let formals = formals_after(&work.tables, passing.formals);
+    let formals = formals_after(&work.tables, passing.formals, argument.of);
     Passing {
         last,
         formals,

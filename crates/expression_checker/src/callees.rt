@@ -4,11 +4,11 @@ ghost use Rattle.std.specs.Prelude.{◌≡◌};
 ghost use Rattle.check_steps.specs.Steps.{Does};
 ghost use Rattle.expression_checker.specs.Callees.{applied, bounds_in, called_function, callee_in, callee_of};
 ghost use Rattle.expression_checker.specs.Callees.{count_checked, declared_routine, declared_type, designator_row};
-ghost use Rattle.expression_checker.specs.Callees.{designator_type, formals_of, function_named, has_formals};
-ghost use Rattle.expression_checker.specs.Callees.{host_bounds, host_type, is_function, is_required_function, names_in};
-ghost use Rattle.expression_checker.specs.Callees.{operand_of, ordinal_function, required_formals};
-ghost use Rattle.expression_checker.specs.Callees.{required_function_row, required_row, required_takes, required_type};
-ghost use Rattle.expression_checker.specs.Callees.{takes_count};
+ghost use Rattle.expression_checker.specs.Callees.{designator_type, formals_from, formals_of, function_named};
+ghost use Rattle.expression_checker.specs.Callees.{has_formals, host_bounds, host_type, is_function};
+ghost use Rattle.expression_checker.specs.Callees.{is_required_function, names_in, operand_of, ordinal_function};
+ghost use Rattle.expression_checker.specs.Callees.{required_formals, required_function_row, required_row};
+ghost use Rattle.expression_checker.specs.Callees.{required_takes, required_type, takes_count};
 
 use crate::names::levels_to;
 use crate::typed::{Typed, typed_value};
@@ -50,8 +50,13 @@ pub enum Callee {
 pub enum ExpectedFormals {
     /// Nothing that is known: their own parts alone are checked.
     Unknown,
-    /// The formal parameters of a section on, of which this many are passed.
-    Declared { section: u32, passed: u32 },
+    /// The formal parameters of a section on, of which this many are passed, and the type that the actuals of a
+    /// conformant section have, as far as it is known.
+    Declared {
+        section: u32,
+        passed: u32,
+        measure: ExpressionType,
+    },
     /// A text file that is read.
     File,
     /// The operand of a required function.
@@ -220,19 +225,24 @@ fn required_formals(required: Required) -> ExpectedFormals
     }
 }
 
+/// The formal parameters of a section on, of which none is passed.
+pub(crate) fn formals_from(section: u32) -> ExpectedFormals
+    ensures { result ≡ formals_from section }
+{
+    ExpectedFormals::Declared {
+        section,
+        passed: 0,
+        measure: ExpressionType::Unknown,
+    }
+}
+
 /// The formal parameters of what is called, from the first on.
 pub fn formals_of(tables: &Tables, callee: Callee) -> ExpectedFormals
     ensures { result ≡ formals_of tables.now callee }
 {
     match callee {
-        Callee::Routine { heading, .. } => ExpectedFormals::Declared {
-            section: signature_at(tables, heading).sections,
-            passed: 0,
-        },
-        Callee::Formal { heading, .. } => ExpectedFormals::Declared {
-            section: signature_at(tables, heading).sections,
-            passed: 0,
-        },
+        Callee::Routine { heading, .. } => formals_from(signature_at(tables, heading).sections),
+        Callee::Formal { heading, .. } => formals_from(signature_at(tables, heading).sections),
         Callee::Required(required) => required_formals(required),
         _ => ExpectedFormals::Unknown,
     }

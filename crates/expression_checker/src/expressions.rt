@@ -18,7 +18,7 @@ use crate::callees::{Called, check_applied, check_called};
 use crate::members::{
     Gathered, MemberStart, check_member_range, check_one_member, check_set, nothing_gathered,
 };
-use crate::names::{Meaning, check_accessed, check_variable, meaning_of};
+use crate::names::{Meaning, check_accessed, check_bound, check_variable, meaning_of};
 use crate::operations::{
     adding_operator, check_negated, check_operated, check_signed, multiplying_operator,
     relational_operator,
@@ -49,6 +49,7 @@ fn check_named(work: &mut Work, name: u32, frame: u32, meaning: Meaning) -> Type
 {
     match meaning {
         Meaning::Constant(value) => check_constant_at(work, name, value),
+        Meaning::Bound { row, of } => check_bound(work, name, row, of),
         Meaning::Other => check_designator(work, name, frame),
         _ => check_accessed(work, name, meaning),
     }

@@ -2,13 +2,14 @@
 
 ghost use Rattle.std.specs.Prelude.{◌≡◌};
 ghost use Rattle.check_steps.specs.Steps.{Does};
-ghost use Rattle.expression_checker.specs.Names.{accessed_as, component_if, field_meaning, holder_in, is_packed};
-ghost use Rattle.expression_checker.specs.Names.{is_packed_record, is_variable, levels_to, meaning_in, meaning_of};
-ghost use Rattle.expression_checker.specs.Names.{variable, variable_row, with_position};
+ghost use Rattle.expression_checker.specs.Names.{accessed_as, bound_at, component_if, field_meaning, holder_in};
+ghost use Rattle.expression_checker.specs.Names.{is_packed, is_packed_record, is_variable, levels_to, meaning_in};
+ghost use Rattle.expression_checker.specs.Names.{meaning_of, variable, variable_row, with_position};
 
-use crate::typed::{Location, Typed, unknown_at};
+use crate::typed::{Location, Typed, typed_value, unknown_at};
 use check_steps::{Found, Tables, Work};
 use core_program::rows::{AccessRow, Mode, NameRow, PartRow, Row, TypeRow};
+use kind_checker::conformable::is_conformant;
 use kind_checker::{ConstantValue, ExpressionType};
 
 /// What a name stands for in an expression.
@@ -25,6 +26,11 @@ pub enum Meaning {
         of: u32,
         location: Location,
     },
+    /// A bound of a conformant parameter: the row of its access, and its type.
+    Bound {
+        row: AccessRow,
+        of: u32,
+    },
     /// A type, a routine or a text file.
     Other,
 }
@@ -36,9 +42,12 @@ pub fn levels_to(tables: &Tables, frame: u32, level: u32) -> u32
     tables.frame(frame).level.saturating_sub(level)
 }
 
-fn variable_row(mode: Mode, place: u32, levels: u32, of: u32) -> AccessRow
-    ensures { result ≡ variable_row mode place levels of }
+fn variable_row(conformant: bool, mode: Mode, place: u32, levels: u32, of: u32) -> AccessRow
+    ensures { result ≡ variable_row conformant mode place levels of }
 {
+    if conformant {
+        return AccessRow::Conformant { place, levels, of };
+    }
     match mode {
         Mode::Place => AccessRow::Reference { place, levels, of },
         _ => AccessRow::Variable { place, levels, of },
@@ -130,9 +139,23 @@ fn meaning_in(tables: &Tables, frame: u32, found: Found, row: Row) -> Meaning
                 level,
             },
         ) => Meaning::Variable {
-            row: variable_row(mode, place, levels_to(tables, frame, level), of),
+            row: variable_row(
+                is_conformant(tables.type_row(of)),
+                mode,
+                place,
+                levels_to(tables, frame, level),
+                of,
+            ),
             of,
             location: Location::Variable,
+        },
+        Row::Name(NameRow::Bound { of, place, level }) => Meaning::Bound {
+            row: AccessRow::Variable {
+                place,
+                levels: levels_to(tables, frame, level),
+                of,
+            },
+            of,
         },
         Row::Name(NameRow::Field { of, holder, .. }) => {
             field_meaning(tables, found, of, component_if(is_packed(tables, holder)))
@@ -180,6 +203,15 @@ pub fn check_accessed(work: &mut Work, name: u32, meaning: Meaning) -> Typed
         }
         _ => unknown_at(name),
     }
+}
+
+/// A bound alone, which is a value and no variable.
+#[tactic(auto, using(check_steps::proofs::Runs::steps), unfolding(crate::specs::Names::bound_at))]
+pub fn check_bound(work: &mut Work, name: u32, row: AccessRow, of: u32) -> Typed
+    ensures { Does (bound_at name row of) result work.old work.new }
+{
+    work.put(name, Row::Access(row));
+    typed_value(name, ExpressionType::Of(of))
 }
 
 /// The variable, parameter or field that a name stands for.

@@ -48,6 +48,7 @@ fn is_array(row: Option<TypeRow>) -> bool
     match row {
         None => true,
         Some(TypeRow::Array { .. }) => true,
+        Some(TypeRow::Conformant { .. }) => true,
         Some(_) => false,
     }
 }
@@ -57,6 +58,7 @@ fn is_index(tables: &Tables, row: Option<TypeRow>, of: ExpressionType) -> bool
 {
     match row {
         Some(TypeRow::Array { index, .. }) => is_assignable(tables, index, of),
+        Some(TypeRow::Conformant { index, .. }) => is_assignable(tables, index, of),
         _ => true,
     }
 }
@@ -66,6 +68,12 @@ fn index_row(row: Option<TypeRow>, place: Typed, index: Typed) -> Row
 {
     match row {
         Some(TypeRow::Array { component, .. }) => Row::Access(AccessRow::Index {
+            access: place.row,
+            index: index.row,
+            array: type_number(place.of),
+            of: component,
+        }),
+        Some(TypeRow::Conformant { component, .. }) => Row::Access(AccessRow::Component {
             access: place.row,
             index: index.row,
             array: type_number(place.of),
@@ -81,6 +89,17 @@ fn component_at(row: Option<TypeRow>, bracket: u32) -> Typed
     match row {
         Some(
             TypeRow::Array {
+                packed,
+                component,
+                ..
+            },
+        ) => Typed {
+            row: bracket,
+            of: ExpressionType::Of(component),
+            location: component_if(packed),
+        },
+        Some(
+            TypeRow::Conformant {
                 packed,
                 component,
                 ..

@@ -1,3 +1,4 @@
+pub mod Conformable
 pub mod Constants
 pub mod Headings
 pub mod Names

@@ -38,6 +38,8 @@ shape_in k t (Some (TypeRow.Subrange host least greatest)) = Shape.Ordinal host
 shape_in k t (Some (TypeRow.Set packed base)) = Shape.Set (known_host k base) (packing_of packed)
 shape_in k t (Some (TypeRow.Pointer domain)) = Shape.Pointer t
 shape_in k t (Some (TypeRow.Array packed index component cells)) = text_or t (string_length k packed index component)
+-- the array of a conformant parameter is no string, and agrees with no other type
+shape_in k t (Some (TypeRow.Conformant packed index component place)) = Shape.Other t
 shape_in k t (Some (TypeRow.Record packed region cells variants)) = Shape.Other t
 
 abbrev pub shape_of : Known → ExpressionType → Shape

@@ -4,6 +4,7 @@
 //! which types.
 #![tactic(auto)]
 
+pub mod conformable;
 pub mod constants;
 pub mod headings;
 pub mod names;

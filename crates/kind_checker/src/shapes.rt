@@ -48,7 +48,7 @@ pub enum Shape {
     Pointer(u32),
     /// The value nil.
     Nil,
-    /// An array that is no string, or a record, by its number.
+    /// An array that is no string, one of a conformant parameter, or a record, by its number.
     Other(u32),
 }
 
@@ -132,6 +132,7 @@ fn shape_in(tables: &Tables, kind: u32, row: Option<TypeRow>) -> Shape
                 ..
             },
         ) => text_or(kind, string_length(tables, packed, index, component)),
+        Some(TypeRow::Conformant { .. }) => Shape::Other(kind),
         Some(TypeRow::Record { .. }) => Shape::Other(kind),
     }
 }

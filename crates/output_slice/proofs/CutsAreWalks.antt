@@ -5,7 +5,7 @@ use Rattle.cell_value.specs.declared.{entries.Touch.Touch, values.Value.Value}
 use Rattle.core_program.proofs.{Events.events_length, OutcomesCompose.later_append, OutcomesCompose.later_none, OutcomesCompose.later_twice}
 use Rattle.core_program.proofs.Ways.{Ran, RanCall, RanFrame, changed, ending, front, of_call}
 use Rattle.core_program.proofs.Ways as ways
-use Rattle.core_program.specs.{ProgramRows.ProgramRows, State.State, Tree.ActTree}
+use Rattle.core_program.specs.{Passed.args_at, ProgramRows.ProgramRows, State.State, Tree.ActTree}
 use Rattle.core_program.specs.Run.{Call, End, Marked, Result, later_by, record_of}
 use Rattle.output_slice.proofs.WalksAlike.{pieces_called, pieces_framed, pieces_in}
 use Rattle.output_slice.specs.Pieces.{OfChild, Own, Piece, cut, own}
@@ -130,10 +130,12 @@ module _ (p : ProgramRows) where
   cuts_in (ways.PartEnded {r = y} {s = z} h e g) k =
       cuts_then k y z (pieces_in h k) (pieces_in g (k + length y.events)) (cuts_in h k) (cuts_in g (k + length y.events))
   cuts_in (ways.AtLimit {σ = σ} q) k = cuts_ending k _ σ
-  cuts_in (ways.CallStopped {f = f} {args = args} {σ = σ} {y = y} q h e) k = cuts_call k f args σ y
-  cuts_in (ways.CallEnded {f = f} {args = args} {σ = σ} {y = y} {s = z} q h e g) k =
-      let number = k + length (of_call f args σ y).events in
-      cuts_then k (of_call f args σ y) z (OfChild k (record_of f args σ y) ∷ []) (pieces_in g number) (cuts_call k f args σ y) (cuts_in g number)
+  cuts_in (ways.CallStopped {e = e} {σ = σ} {y = y} q h d) k = cuts_call k e.routine (args_at e σ.top) σ y
+  cuts_in (ways.CallEnded {e = e} {σ = σ} {y = y} {s = z} q h d g) k =
+      let args = args_at e σ.top in
+      let number = k + length (of_call e.routine args σ y).events in
+      cuts_then k (of_call e.routine args σ y) z (OfChild k (record_of e.routine args σ y) ∷ []) (pieces_in g number) (cuts_call k e.routine args σ y)
+      (cuts_in g number)
   cuts_in (ways.NotBegun {w = w} {τ = τ} q) k = subst (Cuts k (front w [] (ending _ τ))) (append-nil (own w))
       (cuts_front k w (ending _ τ) [] (cuts_ending k _ τ))
   cuts_in (ways.Began {w = w} {r = y} q h) k = cuts_front k w (front [] [] y) (pieces_in h k) (cuts_front k [] y (pieces_in h k) (cuts_in h k))

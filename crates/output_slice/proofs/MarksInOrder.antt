@@ -1,7 +1,7 @@
 -- The calls that a call made stand one after another in its part of the log.
 use Rattle.std.proofs.Common.{◌++◌, ◌+◌, ◌∷◌, ◌≡◌, ◌≤◌, [], ℕ, List, append-nil, arith, length, length-append, subst, suc, sym, take, zero}
 use Rattle.cell_value.specs.declared.{entries.Touch.Touch, values.Value.Value}
-use Rattle.core_program.{proofs.OutcomesCompose.later_none, specs.ProgramRows.ProgramRows, specs.State.State, specs.Tree.ActTree}
+use Rattle.core_program.{proofs.OutcomesCompose.later_none, specs.Passed.args_at, specs.ProgramRows.ProgramRows, specs.State.State, specs.Tree.ActTree}
 use Rattle.core_program.proofs.Ways.{Ran, RanCall, RanFrame, ending, front, of_call}
 use Rattle.core_program.proofs.Ways as ways
 use Rattle.core_program.specs.Run.{Call, End, Marked, Result, later_by}
@@ -75,9 +75,9 @@ module _ (p : ProgramRows) where
   orders_in (ways.PartStopped h e) = orders_in h
   orders_in (ways.PartEnded {r = y} {s = z} h e g) = orders_then y z (orders_in h) (orders_in g)
   orders_in (ways.AtLimit {σ = σ} q) = orders_ending _ σ
-  orders_in (ways.CallStopped {f = f} {args = args} {σ = σ} {y = y} q h e) = orders_call f args σ y
-  orders_in (ways.CallEnded {f = f} {args = args} {σ = σ} {y = y} {s = z} q h e g) =
-      orders_then (of_call f args σ y) z (orders_call f args σ y) (orders_in g)
+  orders_in (ways.CallStopped {e = e} {σ = σ} {y = y} q h d) = orders_call e.routine (args_at e σ.top) σ y
+  orders_in (ways.CallEnded {e = e} {σ = σ} {y = y} {s = z} q h d g) =
+      orders_then (of_call e.routine (args_at e σ.top) σ y) z (orders_call e.routine (args_at e σ.top) σ y) (orders_in g)
   orders_in (ways.NotBegun {w = w} {τ = τ} q) = orders_front w (ending _ τ) (orders_ending _ τ)
   orders_in (ways.Began {w = w} {r = y} q h) = orders_front w (front [] [] y) (orders_front [] y (orders_in h))
 

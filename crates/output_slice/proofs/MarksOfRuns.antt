@@ -8,7 +8,7 @@ use Rattle.core_program.proofs.OutcomesCompose.{later_none, later_twice, none_so
 use Rattle.core_program.proofs.RunsLeave.{act_left, call_leaves, ran_leaves, sound_framed, sound_opened}
 use Rattle.core_program.proofs.Ways.{Ran, RanCall, RanFrame, front, of_call, run_gives}
 use Rattle.core_program.proofs.Ways as ways
-use Rattle.core_program.specs.{Acts.Spend, ProgramRows.ProgramRows, State.IsSound, State.State, Tree.ActTree}
+use Rattle.core_program.specs.{Acts.Spend, Passed.args_at, Passed.cells_entered, ProgramRows.ProgramRows, State.IsSound, State.State, Tree.ActTree}
 use Rattle.core_program.specs.Run.{Call, Marked, Result, block, depth_enough, later_by, record_of, run, start}
 
 pub record MadeAt (p : ProgramRows) (e : Marked Call) (es : List (Marked Call)) : Type 0 where
@@ -96,12 +96,13 @@ module _ (p : ProgramRows) where
     ran_marks (ways.PartEnded {r = y} {s = z} h e g) s =
         marks_front y.log y.events z (ran_marks h s) (ran_marks g (ran_leaves p h s).leaves.sound)
     ran_marks (ways.AtLimit q) s = tt
-    ran_marks (ways.CallStopped {cells = cells} {σ = σ} q h e) s =
-        let m = limits_hold σ cells q in
+    ran_marks (ways.CallStopped {e = e} {σ = σ} q h d) s =
+        let m = limits_hold σ (cells_entered e) q in
         marks_call h s m (call_marks h s m)
-    ran_marks (ways.CallEnded {f = f} {cells = cells} {args = args} {σ = σ} {y = y} {s = z} q h e g) s =
-        let m = limits_hold σ cells q in
-        marks_front y.log (of_call f args σ y).events z (marks_call h s m (call_marks h s m)) (ran_marks g (call_leaves p h s m).leaves.sound)
+    ran_marks (ways.CallEnded {e = e} {σ = σ} {y = y} {s = z} q h d g) s =
+        let m = limits_hold σ (cells_entered e) q in
+        marks_front y.log (of_call e.routine (args_at e σ.top) σ y).events z (marks_call h s m (call_marks h s m))
+        (ran_marks g (call_leaves p h s m).leaves.sound)
     ran_marks (ways.NotBegun q) s = tt
     ran_marks (ways.Began {w = w} {r = y} q h) s =
         marks_front w [] (front [] [] y) tt (marks_front [] [] y tt (ran_marks h (act_left (Spend 1) s q).sound))
@@ -109,7 +110,7 @@ module _ (p : ProgramRows) where
     frame_marks : {n f : ℕ} {args : List Value} {σ : State} {r : Result State Call} → RanFrame p n f args σ r → IsSound σ → Marks p r.events
     frame_marks (ways.NoRoom e t) s = tt
     frame_marks (ways.NoSteps e t u) s = tt
-    frame_marks (ways.Worked {args = args} {σ = σ} {q = q} e t u h) s = ran_marks h (sound_framed q.cells args σ s (grind (arith, nat_tests)))
+    frame_marks (ways.Worked {args = args} {σ = σ} {q = q} e t u h) s = ran_marks h (sound_framed q args σ s (grind (arith, nat_tests)))
 
     call_marks : {n f : ℕ} {args : List Value} {σ : State} {r : Result State Call} → RanCall p n f args σ r → IsSound σ → MayEnter σ → Marks p r.events
     call_marks (ways.Closed {σ = σ} c h) s m = frame_marks h (sound_opened σ s m)

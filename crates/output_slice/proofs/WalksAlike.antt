@@ -14,12 +14,13 @@ use Rattle.core_program.proofs.BodiesRepeat.{IsCallEnd, args_self, call_returns,
 use Rattle.core_program.proofs.RunsLeave.{Inner, act_left, call_leaves, ran_leaves, sound_framed, sound_opened}
 use Rattle.core_program.proofs.Ways.{Ran, RanCall, RanFrame, changed, ending, front, of_call}
 use Rattle.core_program.proofs.Ways as ways
-use Rattle.core_program.specs.{Apply.apply, Apply.changed_cells, Apply.steps_taken, Blocks.cleared, Layer.layer, Numbering.each_from, ProgramRows.ProgramRows}
+use Rattle.core_program.specs.{Blocks.cleared, Layer.layer, Numbering.each_from, Passed.args_at, Passed.cells_entered, ProgramRows.ProgramRows}
 use Rattle.core_program.specs.{ProgramRows.routine_at, State.IsSound, State.State, Tree.ActTree, Tree.Out, Tree.way_of, declared.program.Routine.Routine}
 use Rattle.core_program.specs.Acts.{Act, ActResult, Answer, Limited, OutOfSteps, Spend, limit_passed, perform, spent}
+use Rattle.core_program.specs.Apply.{apply, changed_cells, steps_taken}
 use Rattle.core_program.specs.Replay.{ChildOf, Event, LineOf, Replayed, Replaying, end_of, in_replaying, next_call, on_state, replay_of, replaying, same_args}
-use Rattle.core_program.specs.Run.{Call, End, Ended, Halted, Marked, Result, after_all, at_work, call_closed, ends, framed_run, if_allowed, in_front, joined}
-use Rattle.core_program.specs.Run.{later_by, on_done, on_end, opened, record_of, way_out, whole, with_frame, without_frame}
+use Rattle.core_program.specs.Run.{Call, End, Ended, Halted, Marked, Result, after_all, at_work, call_closed, ends, frame_size, framed_run, if_allowed}
+use Rattle.core_program.specs.Run.{in_front, joined, later_by, on_done, on_end, opened, record_of, way_out, whole, with_frame, without_frame}
 use Rattle.output_slice.proofs.ActsAlike.{Alike, DoneSame, IsNeed, act_same, other}
 use Rattle.output_slice.specs.{Outputs.changed_by, Pieces.OfChild, Pieces.Own, Pieces.Piece, Pieces.own}
 use Rattle.output_slice.specs.Kept.{ACall, ALine, LikeChange, Told, told}
@@ -36,9 +37,9 @@ module _ {p : ProgramRows} where
   pieces_in (ways.PartStopped h e) k = pieces_in h k
   pieces_in (ways.PartEnded {r = y} h e g) k = pieces_in h k ++ pieces_in g (k + length y.events)
   pieces_in (ways.AtLimit q) k = []
-  pieces_in (ways.CallStopped {f = f} {args = args} {σ = σ} {y = y} q h e) k = OfChild k (record_of f args σ y) ∷ []
-  pieces_in (ways.CallEnded {f = f} {args = args} {σ = σ} {y = y} q h e g) k =
-      OfChild k (record_of f args σ y) ∷ pieces_in g (k + length (of_call f args σ y).events)
+  pieces_in (ways.CallStopped {e = e} {σ = σ} {y = y} q h d) k = OfChild k (record_of e.routine (args_at e σ.top) σ y) ∷ []
+  pieces_in (ways.CallEnded {e = e} {σ = σ} {y = y} q h d g) k =
+      OfChild k (record_of e.routine (args_at e σ.top) σ y) ∷ pieces_in g (k + length (of_call e.routine (args_at e σ.top) σ y).events)
   pieces_in (ways.NotBegun {w = w} q) k = own w
   pieces_in (ways.Began {w = w} q h) k = own w ++ pieces_in h k
 
@@ -51,7 +52,7 @@ module _ {p : ProgramRows} where
   tells_in (ways.PartEnded {r = y} h e g) k = tells_in h k ++ tells_in g (k + length y.events)
   tells_in (ways.AtLimit q) k = []
   tells_in (ways.CallStopped q h e) k = ACall k ∷ []
-  tells_in (ways.CallEnded {f = f} {args = args} {σ = σ} {y = y} q h e g) k = ACall k ∷ tells_in g (k + length (of_call f args σ y).events)
+  tells_in (ways.CallEnded {e = e} {σ = σ} {y = y} q h d g) k = ACall k ∷ tells_in g (k + length (of_call e.routine (args_at e σ.top) σ y).events)
   tells_in (ways.NotBegun q) k = []
   tells_in (ways.Began {line = line} q h) k = ALine line ∷ tells_in h k
 
@@ -392,19 +393,24 @@ module _ (needed : ℕ → List Piece → Bool) (is_need : IsNeed needed) (all :
         redone_at (ap (λ l. joined (replay_of p n (layer p part) (at (other m o σ) k l)) (next_of n next)) (calls_after y.log y.events z k cs))
         (ended_redone (next_of n next) a e
         (ran_redone i (ran_leaves p h s).leaves.sound (k + length y.events) a.cells a.output cs u a.alike (fit_right ps qs u f)))
-    ran_redone (ways.AtLimit {n = n} {f = q} {args = args} {next = next} {σ = σ} {which = which} e) s k m o cs u g f =
-        redone_at (ap (λ b. entered n q args next b (at (other m o σ) k cs)) e) (ends_redone (Halted (way.Limited which)) σ m o k cs u g)
-    ran_redone (ways.CallStopped {n = n} {f = q} {cells = cells} {args = args} {next = next} {σ = σ} {y = y} l h e) s k m o cs u g f =
+    ran_redone (ways.AtLimit {n = n} {e = c} {next = next} {σ = σ} {which = which} e) s k m o cs u g f =
+        redone_at (ap (λ b. entered n c.routine (args_at c σ.top) next b (at (other m o σ) k cs)) e) (ends_redone (Halted (way.Limited which)) σ m o k cs u g)
+    ran_redone (ways.CallStopped {n = n} {e = c} {next = next} {σ = σ} {y = y} l h e) s k m o cs u g f =
+        let q = c.routine in
+        let args = args_at c σ.top in
         redone_at (ap (λ b. entered n q args next b (at (other m o σ) k (each_from alter k (unmarked (of_call q args σ y).events) ++ cs))) l)
         (stopped_redone (next_of n next)
-        (met_redone q args σ y k m o cs u s (call_leaves p h s (limits_hold σ cells l)) (call_returns p h) f.0 g) e)
-    ran_redone (ways.CallEnded {n = n} {f = q} {cells = cells} {args = args} {next = next} {σ = σ} {y = y} {s = z} l h e i) s k m o cs u g f =
-        let inner = call_leaves p h s (limits_hold σ cells l) in
+        (met_redone q args σ y k m o cs u s (call_leaves p h s (limits_hold σ (cells_entered c) l)) (call_returns p h) f.0 g) e)
+    ran_redone (ways.CallEnded {n = n} {e = c} {next = next} {σ = σ} {y = y} {s = z} l h e i) s k m o cs u g f =
+        let q = c.routine in
+        let args = args_at c σ.top in
+        let inner = call_leaves p h s (limits_hold σ (cells_entered c) l) in
         let number = k + length (of_call q args σ y).events in
         let qs = pieces_in i number in
         let ds = each_from alter number (unmarked z.events) ++ cs in
         let a = met_redone q args σ y k m o ds (qs ++ u) s inner (call_returns p h) f.0 g in
-        redone_at (ap (λ l. entered n q args next (limit_passed σ cells) (at (other m o σ) k l)) (calls_after y.log (of_call q args σ y).events z k cs)
+        redone_at (ap (λ l. entered n q args next (limit_passed σ (cells_entered c)) (at (other m o σ) k l))
+        (calls_after y.log (of_call q args σ y).events z k cs)
         ∙ ap (λ b. entered n q args next b (at (other m o σ) k (each_from alter k (unmarked (of_call q args σ y).events) ++ ds))) l)
         (ended_redone (next_of n next) a e (ran_redone i inner.leaves.sound number a.cells a.output cs u a.alike f.1))
     ran_redone (ways.NotBegun {n = n} {line = line} {next = next} {σ = σ} {why = why} {w = w} {τ = τ} q) s k m o cs u g f =
@@ -456,20 +462,20 @@ module _ (needed : ℕ → List Piece → Bool) (is_need : IsNeed needed) (all :
     choice n f args q s a b =
         if a then ends (Halted (way_of 0 (Limited Stack))) s
         else if b then ends (Halted (way_of 0 OutOfSteps)) (on_state spent s)
-        else after_all (on_state (without_frame s.state.top q.cells)) (replay_of p n (whole p f s.state.top q) (on_state (with_frame q.cells args) s))
+        else after_all (on_state (without_frame s.state.top (frame_size q args))) (replay_of p n (whole p f s.state.top q) (on_state (with_frame q args) s))
 
     abbrev chosen : ℕ → ℕ → List Value → Routine → Replaying → Bool → Replayed
-    chosen n f args q s a = choice n f args q s a (nat_lt s.state.steps q.cells)
+    chosen n f args q s a = choice n f args q s a (nat_lt s.state.steps (frame_size q args))
 
-    unframed : {y : Result State Call} {k : ℕ} {ts : List Told} {x : Replayed} (base : ℕ) (q : Routine) (cs : List Call) (out : List ℕ)
+    unframed : {y : Result State Call} {k : ℕ} {ts : List Told} {x : Replayed} (base : ℕ) (n : ℕ) (cs : List Call) (out : List ℕ)
         → Redone k y [] ts out out cs x
-        → Finished (changed (without_frame base q.cells) y) ts (after_all (on_state (without_frame base q.cells)) x)
-    unframed {y = y} base q cs out a = record {
-      run = changed (on_state (without_frame base q.cells)) a.run;
-      is = ap (after_all (on_state (without_frame base q.cells))) a.is;
+        → Finished (changed (without_frame base n) y) ts (after_all (on_state (without_frame base n)) x)
+    unframed {y = y} base n cs out a = record {
+      run = changed (on_state (without_frame base n)) a.run;
+      is = ap (after_all (on_state (without_frame base n))) a.is;
       end = a.end;
-      cell = λ x g. ap (λ s. get (cleared base q.cells s.state.cells) x) a.after ∙ block_dropped base q.cells a.cells x
-          ∙ ap (left_with (changed_block base (base + q.cells) Gone x)) (sym (a.alike.same x g)) ∙ sym (block_dropped base q.cells y.after.cells x);
+      cell = λ x g. ap (λ s. get (cleared base n s.state.cells) x) a.after ∙ block_dropped base n a.cells x
+          ∙ ap (left_with (changed_block base (base + n) Gone x)) (sym (a.alike.same x g)) ∙ sym (block_dropped base n y.after.cells x);
       bytes = λ e. ap (λ s. s.state.output) a.after ∙ sym (a.bytes e refl);
       events = a.events;
       each = a.each;
@@ -485,10 +491,10 @@ module _ (needed : ℕ → List Piece → Bool) (is_need : IsNeed needed) (all :
         finished_at (ap (framed_again n f args (at σ k cs)) e ∙ ap (chosen n f args q (at σ k cs)) t ∙ ap (choice n f args q (at σ k cs) false) u)
         (finished_ending (Halted (way_of 0 OutOfSteps)) (spent σ) k cs)
     frame_finished (ways.Worked {n = n} {f = f} {args = args} {σ = σ} {q = q} {y = y} e t u h) s k cs i =
-        let framed = with_frame q.cells args σ in
+        let framed = with_frame q args σ in
         let calls = each_from alter k (unmarked y.events) ++ cs in
         finished_at (ap (framed_again n f args (at σ k calls)) e ∙ ap (chosen n f args q (at σ k calls)) t ∙ ap (choice n f args q (at σ k calls) false) u)
-        (unframed σ.top q cs σ.output (ran_redone h (sound_framed q.cells args σ s (grind (arith, nat_tests))) k framed.cells framed.output cs []
+        (unframed σ.top (frame_size q args) cs σ.output (ran_redone h (sound_framed q args σ s (grind (arith, nat_tests))) k framed.cells framed.output cs []
         (record { there = λ a. refl; same = λ a g. refl }) i))
 
     pub call_finished : {n f : ℕ} {args : List Value} {σ : State} {r : Result State Call} → (h : RanCall p n f args σ r) → IsSound σ → MayEnter σ → (k : ℕ)

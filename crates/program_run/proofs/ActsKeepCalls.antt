@@ -156,6 +156,6 @@ onward p (suc k) Meaningless m stop m' h = absurd (none_some h)
 onward p (suc k) (Do line act next) m stop m' h =
     onward_act line m (perform act m.state) _ stop m' (λ x m1 e. onward p k (next x) m1 stop m' e) (kept_act act m.state) h
 onward p (suc k) (Sub part next) m stop m' h = onward p k (bind (layer p part) next) m stop m' h
-onward p (suc k) (Enter f cells args next) m stop m' h = at_once _ stop m m' h
+onward p (suc k) (Enter e next) m stop m' h = at_once _ stop m m' h
 onward p (suc k) (Line line next) m stop m' h =
     onward_act line m (perform (Spend 1) m.state) _ stop m' (λ x m1 e. at_once _ stop m1 m' e) (kept_act (Spend 1) m.state) h

@@ -3,7 +3,7 @@ use Rattle.std.proofs.Common.{if◌then◌else◌, ◌++◌, ◌+◌, ◌∙◌,
 use Rattle.cell_value.specs.declared.{entries.Touch.Touch, values.Value.Value, ways_out.Which.TheVariants.Stack}
 use Rattle.core_program.specs.{ProgramRows.ProgramRows, ProgramRows.routine_at, State.State, State.stack_end, Tree.way_of, declared.program.Routine.Routine}
 use Rattle.core_program.specs.Acts.{ActResult, Limited, OutOfSteps, Stops, Trouble, Went, spent}
-use Rattle.core_program.specs.Run.{Halted, after_all, at_work, ends, in_frame, opened, run_of, whole, with_frame, without_frame}
+use Rattle.core_program.specs.Run.{Halted, after_all, at_work, ends, frame_size, in_frame, opened, run_of, whole, with_frame, without_frame}
 use Rattle.eval_ops.{proofs.CallsInFrames.in_frame_made, proofs.CallsInFrames.on_framing, specs.Frames.framing, specs.Machines.Moment}
 use Rattle.program_run.specs.Tower.{CallBegins, Ends, Rests, activation}
 
@@ -25,13 +25,13 @@ record Refused (σ : State) (w : List Touch) (τ : State) : Type 0 where
   output : τ.output ≡ σ.output
   items : τ.items ≡ σ.items
 
-made_is : (n : ℕ) (args : List Value) (σ τ : State) (w : List Touch) (a b : Bool) → ◌≡◌ {A = ActResult (Unit {0})} (if a then Stops (Limited Stack) [] σ
-    else if b then Stops OutOfSteps [] (spent σ) else Went tt [] (with_frame n args σ)) (Went tt w τ) → Framed σ w τ
-made_is n args σ τ w true b e = absurd (let z : ⊥ = cc in z)
-made_is n args σ τ w false true e = absurd (let z : ⊥ = cc in z)
-made_is n args σ τ w false false e =
+made_is : (r : Routine) (args : List Value) (σ τ : State) (w : List Touch) (a b : Bool) → ◌≡◌ {A = ActResult (Unit {0})} (if a then Stops (Limited Stack) [] σ
+    else if b then Stops OutOfSteps [] (spent σ) else Went tt [] (with_frame r args σ)) (Went tt w τ) → Framed σ w τ
+made_is r args σ τ w true b e = absurd (let z : ⊥ = cc in z)
+made_is r args σ τ w false true e = absurd (let z : ⊥ = cc in z)
+made_is r args σ τ w false false e =
     let l : [] ≡ w = cc in
-    let s : with_frame n args σ ≡ τ = cc in
+    let s : with_frame r args σ ≡ τ = cc in
     record {
       log = sym l;
       calls = ap (λ (υ : State). υ.calls) (sym s);
@@ -41,10 +41,10 @@ made_is n args σ τ w false false e =
       items = ap (λ (υ : State). υ.items) (sym s);
     }
 
-refused_is : (n : ℕ) (args : List Value) (σ τ : State) (why : Trouble) (w : List Touch) (a b : Bool)
+refused_is : (r : Routine) (args : List Value) (σ τ : State) (why : Trouble) (w : List Touch) (a b : Bool)
     → ◌≡◌ {A = ActResult (Unit {0})} (if a then Stops (Limited Stack) [] σ
-    else if b then Stops OutOfSteps [] (spent σ) else Went tt [] (with_frame n args σ)) (Stops why w τ) → Refused σ w τ
-refused_is n args σ τ why w true b e =
+    else if b then Stops OutOfSteps [] (spent σ) else Went tt [] (with_frame r args σ)) (Stops why w τ) → Refused σ w τ
+refused_is r args σ τ why w true b e =
     let l : [] ≡ w = cc in
     let s : σ ≡ τ = cc in
     record {
@@ -56,7 +56,7 @@ refused_is n args σ τ why w true b e =
       output = ap (λ (υ : State). υ.output) (sym s);
       items = ap (λ (υ : State). υ.items) (sym s);
     }
-refused_is n args σ τ why w false true e =
+refused_is r args σ τ why w false true e =
     let l : [] ≡ w = cc in
     let s : spent σ ≡ τ = cc in
     record {
@@ -68,13 +68,13 @@ refused_is n args σ τ why w false true e =
       output = ap (λ (υ : State). υ.output) (sym s);
       items = ap (λ (υ : State). υ.items) (sym s);
     }
-refused_is n args σ τ why w false false e = absurd (let z : ⊥ = cc in z)
+refused_is r args σ τ why w false false e = absurd (let z : ⊥ = cc in z)
 
 module _ (p : ProgramRows) (f : ℕ) (args : List Value) (r : Routine) (m m' : Moment) where
-  pub begins_made : (w : List Touch) → routine_at p f ≡ Some r → framing r.cells args (opened m.state) ≡ Went tt w m'.state → m'.log ≡ m.log ++ w
-      → CallBegins p (activation f args r.cells (Rests (whole p f m.state.top r))) m m'
-  begins_made w found e l =
-      let h = made_is r.cells args (opened m.state) m'.state w (nat_lt stack_end (m.state.top + r.cells)) (nat_lt m.state.steps r.cells) e in
+  begins_of_size : (w : List Touch) → routine_at p f ≡ Some r → framing r args (opened m.state) ≡ Went tt w m'.state → m'.log ≡ m.log ++ w
+      → CallBegins p (activation f args (frame_size r args) (Rests (whole p f m.state.top r))) m m'
+  begins_of_size w found e l =
+      let h = made_is r args (opened m.state) m'.state w (nat_lt stack_end (m.state.top + frame_size r args)) (nat_lt m.state.steps (frame_size r args)) e in
       record {
         log = l ∙ ap (λ v. m.log ++ v) h.log ∙ append-nil m.log;
         calls = h.calls;
@@ -84,14 +84,20 @@ module _ (p : ProgramRows) (f : ℕ) (args : List Value) (r : Routine) (m m' : M
         items = h.items;
         is = λ n. ap (in_frame (at_work p (run_of p n) f) args (opened m.state)) found
             ∙ in_frame_made (at_work p (run_of p n) f) args (opened m.state) r
-            ∙ ap (λ d. on_framing d (λ τ. after_all (without_frame m.state.top r.cells) (run_of p n (whole p f m.state.top r) τ))) e;
+            ∙ ap (λ d. on_framing d (λ τ. after_all (without_frame m.state.top (frame_size r args)) (run_of p n (whole p f m.state.top r) τ))) e;
       }
 
-  pub begins_refused : (why : Trouble) (w : List Touch) → routine_at p f ≡ Some r → framing r.cells args (opened m.state) ≡ Stops why w m'.state
+  pub begins_made : (w : List Touch) (cells : ℕ) → cells ≡ frame_size r args → routine_at p f ≡ Some r → framing r args (opened m.state) ≡ Went tt w m'.state
+      → m'.log ≡ m.log ++ w → CallBegins p (activation f args cells (Rests (whole p f m.state.top r))) m m'
+  begins_made w cells size found e l =
+      subst (λ n. CallBegins p (activation f args n (Rests (whole p f m.state.top r))) m m') (sym size) (begins_of_size w found e l)
+
+  pub begins_refused : (why : Trouble) (w : List Touch) → routine_at p f ≡ Some r → framing r args (opened m.state) ≡ Stops why w m'.state
       → m'.log ≡ m.log ++ w
       → CallBegins p (activation f args 0 (Ends (Halted (way_of 0 why)))) m m'
   begins_refused why w found e l =
-      let h = refused_is r.cells args (opened m.state) m'.state why w (nat_lt stack_end (m.state.top + r.cells)) (nat_lt m.state.steps r.cells) e in
+      let h = refused_is r args (opened m.state) m'.state why w (nat_lt stack_end (m.state.top + frame_size r args)) (nat_lt m.state.steps (frame_size r args))
+      e in
       record {
         log = l ∙ ap (λ v. m.log ++ v) h.log ∙ append-nil m.log;
         calls = h.calls;
@@ -101,6 +107,6 @@ module _ (p : ProgramRows) (f : ℕ) (args : List Value) (r : Routine) (m m' : M
         items = h.items;
         is = λ n. ap (in_frame (at_work p (run_of p n) f) args (opened m.state)) found
             ∙ in_frame_made (at_work p (run_of p n) f) args (opened m.state) r
-            ∙ ap (λ d. on_framing d (λ τ. after_all (without_frame m.state.top r.cells) (run_of p n (whole p f m.state.top r) τ))) e
+            ∙ ap (λ d. on_framing d (λ τ. after_all (without_frame m.state.top (frame_size r args)) (run_of p n (whole p f m.state.top r) τ))) e
             ∙ (λ i. ends (Halted (way_of 0 why)) (record m'.state { top = h.top i }));
       }

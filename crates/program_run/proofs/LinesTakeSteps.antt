@@ -2,7 +2,7 @@
 use Rattle.std.proofs.Common.{◌++◌, ◌+◌, ◌<◌, ◌≡◌, ◌≤◌, ℕ, List, None, Option, Some, arith, subst, suc, zero}
 use Rattle.cell_value.specs.declared.{entries.Touch.Touch, values.Value.Value, ways_out.Which.Which}
 use Rattle.core_program.proofs.{ActsTakeSteps.Acted, ActsTakeSteps.acted, ActsTakeSteps.cost, OutcomesCompose.none_some, OutcomesCompose.some_same}
-use Rattle.core_program.specs.{Layer.layer, ProgramRows.ProgramRows, Run.Ended, Run.Halted, State.State}
+use Rattle.core_program.specs.{Layer.layer, Passed.Entering, Passed.cells_entered, ProgramRows.ProgramRows, Run.Ended, Run.Halted, State.State}
 use Rattle.core_program.specs.Acts.{ActResult, Spend, Stops, Went, limit_passed, perform}
 use Rattle.core_program.specs.Tree.{ActTree, Do, Enter, Halt, Line, Meaningless, Out, Ret, Sub, bind, way_of}
 use Rattle.eval_ops.specs.Machines.{Moment}
@@ -26,10 +26,10 @@ after_act before n line σ log (Went x w τ) go stop m' u h k e = k x (record { 
 after_act before n line σ log (Stops why w τ) go stop m' u h k e =
     at_once before (AtEnd (Halted (way_of line why))) stop (record { state = τ; log = log ++ w }) m' e (omega (arith, u, h))
 
-at_a_call : (before : ℕ) (o : Option Which) (f : ℕ) (args : List Value) (next : Out → ActTree) (steps : ℕ) → steps ≤ before
-    → LeftAt before (at_call o f args next) steps
-at_a_call before None f args next steps u = u
-at_a_call before (Some which) f args next steps u = u
+at_a_call : (before : ℕ) (o : Option Which) (e : Entering) (base : ℕ) (next : Out → ActTree) (steps : ℕ) → steps ≤ before
+    → LeftAt before (at_call o e base next) steps
+at_a_call before None e base next steps u = u
+at_a_call before (Some which) e base next steps u = u
 
 pub left_at_stop : (p : ProgramRows) (before k : ℕ) (t : ActTree) (m : Moment) (stop : Stop) (m' : Moment) → m.state.steps ≤ before
     → next_stop p k t m ≡ Some (stop, m') → LeftAt before stop m'.state.steps
@@ -40,7 +40,8 @@ left_at_stop p before (suc k) Meaningless m stop m' u e = absurd (none_some e)
 left_at_stop p before (suc k) (Do line act next) m stop m' u e = after_act before (cost act) line m.state m.log (perform act m.state) _ stop m' u
     (acted act m.state) (λ x m1 v q. left_at_stop p before k (next x) m1 stop m' (omega (arith, v)) q) e
 left_at_stop p before (suc k) (Sub part next) m stop m' u e = left_at_stop p before k (bind (layer p part) next) m stop m' u e
-left_at_stop p before (suc k) (Enter f cells args next) m stop m' u e = at_once before (at_call (limit_passed m.state cells) f args next) stop m m' e
-    (at_a_call before (limit_passed m.state cells) f args next m.state.steps u)
+left_at_stop p before (suc k) (Enter entering next) m stop m' u e =
+    let o = limit_passed m.state (cells_entered entering) in
+    at_once before (at_call o entering m.state.top next) stop m m' e (at_a_call before o entering m.state.top next m.state.steps u)
 left_at_stop p before (suc k) (Line line next) m stop m' u e = after_act before 1 line m.state m.log (perform (Spend 1) m.state) _ stop m' u
     (acted (Spend 1) m.state) (λ x m1 v q. at_once before (AtLine line next) stop m1 m' q (omega (arith, v))) e

@@ -7,9 +7,9 @@ use Rattle.core_program.proofs.{OutcomesCompose.none_some, OutcomesCompose.some_
 use Rattle.core_program.proofs.ActsLeave.{Leaves, MayEnter, leaves_same, limits_hold}
 use Rattle.core_program.proofs.RunsLeave.{act_left, call_leaves, ran_leaves, sound_framed, sound_opened}
 use Rattle.core_program.proofs.Ways as ways
-use Rattle.core_program.specs.{Acts.Spend, ProgramRows.ProgramRows, State.IsSound, State.State, Tree.ActTree}
+use Rattle.core_program.specs.{Acts.Spend, Passed.args_at, Passed.cells_entered, ProgramRows.ProgramRows, State.IsSound, State.State, Tree.ActTree}
 use Rattle.core_program.specs.Numbering.{Inside, belows, each_from}
-use Rattle.core_program.specs.Run.{Call, Marked, Result, later_by, record_of}
+use Rattle.core_program.specs.Run.{Call, Marked, Result, frame_size, later_by, record_of}
 use Rattle.call_tree.specs.declared.records.Call as table
 use Rattle.program_run.proofs.RowsInParts.{further, later, rows_append, rows_call, rows_moved}
 use Rattle.program_run.specs.Tower.{RowSpot, rows_at}
@@ -127,13 +127,14 @@ module _ (p : ProgramRows) where
         let l = (ran_leaves p h s).leaves in
         told_front (length y.log) y.events z.events (ran_told h s) (ran_leaves p g l.sound).leaves (ran_told g l.sound)
     ran_told (ways.AtLimit q) s = none_told
-    ran_told (ways.CallStopped {cells = cells} {σ = σ} {y = y} q h e) s =
-        let m = limits_hold σ cells q in
+    ran_told (ways.CallStopped {e = e} {σ = σ} {y = y} q h d) s =
+        let m = limits_hold σ (cells_entered e) q in
         told_call y (call_leaves p h s m).leaves (call_told h s m)
-    ran_told (ways.CallEnded {f = f} {cells = cells} {args = args} {σ = σ} {y = y} {s = z} q h e g) s =
-        let m = limits_hold σ cells q in
+    ran_told (ways.CallEnded {e = e} {σ = σ} {y = y} {s = z} q h d g) s =
+        let m = limits_hold σ (cells_entered e) q in
         let l = (call_leaves p h s m).leaves in
-        told_front (length y.log) (of_call f args σ y).events z.events (told_call y l (call_told h s m)) (ran_leaves p g l.sound).leaves (ran_told g l.sound)
+        told_front (length y.log) (of_call e.routine (args_at e σ.top) σ y).events z.events (told_call y l (call_told h s m)) (ran_leaves p g l.sound).leaves
+        (ran_told g l.sound)
     ran_told (ways.NotBegun {w = w} {τ = τ} q) s =
         let l = act_left (Spend 1) s q in
         told_front (length w) [] [] (told_none l.depth l.steps) (leaves_same τ l.sound) none_told
@@ -146,13 +147,13 @@ module _ (p : ProgramRows) where
     frame_told (ways.NoRoom e t) s = none_told
     frame_told (ways.NoSteps {σ = σ} e t u) s = told_none refl (let z : 0 ≤ σ.steps = omega arith in z)
     frame_told (ways.Worked {args = args} {σ = σ} {q = q} {y = y} e t u h) s =
-        let g = ran_told h (sound_framed q.cells args σ s (grind (arith, nat_tests))) in
+        let g = ran_told h (sound_framed q args σ s (grind (arith, nat_tests))) in
         let few = g.steps in
         record {
           depth = g.depth;
           steps = omega (arith, few);
           inside = g.inside;
-          tell = λ s d. all_more y.after.output _ y.events (let z : σ.steps - q.cells ≤ σ.steps = omega arith in z) (g.tell s d);
+          tell = λ s d. all_more y.after.output _ y.events (let z : σ.steps - frame_size q args ≤ σ.steps = omega arith in z) (g.tell s d);
         }
 
     -- what is below a call

@@ -1,14 +1,15 @@
 -- What the steps of a runner do with its open calls.
-use Rattle.std.proofs.Common.{◌++◌, ◌+◌, ◌<◌, ◌∙◌, ◌∷◌, ◌≡◌, [], ℕ, Err, List, None, Ok, OnOk, Option, Result, Some, ap, arith, length, length-append, map}
-use Rattle.std.proofs.{Common.reverse, Common.subst, Common.sym, lemmas.List.reverse-append}
-use Rattle.cell_value.specs.declared.{values.Value.Value, ways_out.WayOut.WayOut}
+use Rattle.std.proofs.Common.{◌++◌, ◌+◌, ◌<◌, ◌∙◌, ◌∷◌, ◌≡◌, [], ℕ, Err, List, Ok, OnOk, Result, ap, arith, length, length-append, map, reverse, subst, sym}
+use Rattle.std.proofs.lemmas.List.{reverse-append}
+use Rattle.cell_value.specs.declared.values.Value.{Value}
 use Rattle.core_program.specs.{ProgramRows.ProgramRows, Tree.ActTree, Tree.Out}
 use Rattle.call_tree.specs.Recording.{Recording, entered}
 use Rattle.eval_ops.specs.Machines.{Moment}
 use Rattle.evaluator.specs.Stops.{NextStopIs, Stop}
 use Rattle.program_run.proofs.{ActsKeepCalls.onward, LinesTakeSteps.LeftAt, LinesTakeSteps.left_at_stop, StepsLeadToTheRun.climb_enter}
-use Rattle.program_run.specs.{Runners.CallBegun, Runners.Invocation, Runners.open_in, Table.side_of, declared.open_call.OpenCall.OpenCall}
+use Rattle.program_run.specs.{Runners.CallBegun, Runners.Invocation, Runners.open_in, Table.side_of}
 use Rattle.program_run.specs.Tower.{Activation, CallBegins, Calls, First, TowerAt, View}
+use Rattle.program_run.specs.declared.{open_call.OpenCall.OpenCall, runner.Begun.Begun, runner.Begun.TheVariants.Ended, runner.Begun.TheVariants.Framed}
 
 -- an open call more
 pub pushed : (p : ProgramRows) (xs ys : List OpenCall) (o : OpenCall) → ys ≡ xs ++ o ∷ []
@@ -30,10 +31,10 @@ entered_stands {p = p} {first = first} e rest v v' known t =
       recording = sym known.recording i;
     }) (climb_enter v v'.moment rest e t known.begins)
 
-pub few_begun : (p : ProgramRows) (call : Invocation) (halted : Option WayOut) (m m' : Moment) → CallBegun p call halted m m'
+pub few_begun : (p : ProgramRows) (call : Invocation) (begun : Begun) (m m' : Moment) → CallBegun p call begun m m'
     → length m.state.output + m.state.steps < 4294967296 → length m'.state.output + m'.state.steps < 4294967296
-few_begun p call None m m' b h = let e = ap length b.output in let l = b.steps in omega (arith, e, l, h)
-few_begun p call (Some way) m m' b h = let e = ap length b.output in let l = b.steps in omega (arith, e, l, h)
+few_begun p call (Framed cells) m m' b h = let e = ap length b.output in let l = b.steps in omega (arith, e, l, h)
+few_begun p call (Ended way) m m' b h = let e = ap length b.output in let l = b.steps in omega (arith, e, l, h)
 
 pub few_onward : {p : ProgramRows} {t : ActTree} {m : Moment} {stop : Stop} {m' : Moment} → NextStopIs p t m stop m'
     → length m.state.output + m.state.steps < 4294967296 → length m'.state.output + m'.state.steps < 4294967296
@@ -53,10 +54,10 @@ steps_onward {p = p} {t = t} {m = m} {stop = stop} {m' = m'} s = left_at_stop p 
 pub calls_onward : {p : ProgramRows} {t : ActTree} {m : Moment} {stop : Stop} {m' : Moment} → NextStopIs p t m stop m' → m'.state.calls ≡ m.state.calls
 calls_onward {p = p} {t = t} {m = m} {stop = stop} {m' = m'} s = (onward p s.moves t m stop m' s.is).same.calls
 
-pub begun_calls : (p : ProgramRows) (call : Invocation) (halted : Option WayOut) (m m' : Moment) → CallBegun p call halted m m'
+pub begun_calls : (p : ProgramRows) (call : Invocation) (begun : Begun) (m m' : Moment) → CallBegun p call begun m m'
     → m'.state.calls ≡ m.state.calls + 1
-begun_calls p call None m m' b = b.calls
-begun_calls p call (Some way) m m' b = b.calls
+begun_calls p call (Framed cells) m m' b = b.calls
+begun_calls p call (Ended way) m m' b = b.calls
 
 -- what holds after a success, from what else does
 pub on_ok : {X E : Type 0} (r : Result X E) (A B : Type 0) → (A → B) → OnOk r A → OnOk r B

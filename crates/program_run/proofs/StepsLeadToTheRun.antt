@@ -3,9 +3,8 @@ use Rattle.std.proofs.Common.{◌++◌, ◌+◌, ◌-◌, ◌∙◌, ◌∷◌, 
 use Rattle.cell_value.specs.declared.{entries.Touch.Touch, values.Value.Value}
 use Rattle.core_program.proofs.MoreDepthSameResult.{Less, joined_less, less_same, plain_grows, run_less}
 use Rattle.core_program.proofs.OutcomesCompose.{front_nothing, less_is, less_then}
-use Rattle.core_program.specs.{Acts.limit_passed, ProgramRows.ProgramRows, State.State, Tree.ActTree, Tree.Out, Tree.Ret}
-use Rattle.core_program.specs.Run.{Call, End, Outcome, Result, after_all, call_closed, call_of, ends, if_allowed, in_front, joined, plain, recorded, result_in}
-use Rattle.core_program.specs.Run.{run_of, way_out, without_frame}
+use Rattle.core_program.specs.{ProgramRows.ProgramRows, Run.way_out, Run.without_frame, State.State, Tree.ActTree, Tree.Out, Tree.Ret}
+use Rattle.core_program.specs.Run.{Call, End, Outcome, Result, after_all, call_closed, call_of, ends, in_front, joined, plain, recorded, result_in, run_of}
 use Rattle.call_tree.specs.Recording.{Recording, entered, left, new_call, nothing_entered}
 use Rattle.eval_ops.specs.Machines.{Moment}
 use Rattle.evaluator.specs.Stops.{AtCall, AtEnd, AtLine, NextStopIs, Stop}
@@ -197,9 +196,9 @@ module _ {p : ProgramRows} {first : First} where
           }
 
 -- no call is entered yet
-pub at_first : (p : ProgramRows) (f : ℕ) (args : List Value) (σ : State) (m : Moment) → m.state ≡ σ → m.log ≡ [] → limit_passed σ 0 ≡ None
+pub at_first : (p : ProgramRows) (f : ℕ) (args : List Value) (σ : State) (m : Moment) → m.state ≡ σ → m.log ≡ []
     → TowerAt p (first_call f args σ) (Calls f args Ret) (record { opens = []; moment = m; recording = nothing_entered (length p.routines) })
-at_first p f args σ m es el free = record {
+at_first p f args σ m es el = record {
   levels = Bottom (record { log = []; events = [] });
   opens = refl;
   fits = record { inside = λ k x. absurd (omega arith) };
@@ -209,12 +208,7 @@ at_first p f args σ m es el free = record {
   depth = let e = ap (λ (τ : State). τ.depth) es in omega (arith, e);
   items = ap (λ (τ : State). τ.items) es;
   leads = record {
-    leads = λ n r e. (
-      suc n,
-      ap (λ o. if_allowed o σ (joined (call_of p (run_of p n) f args σ) (λ out τ. run_of p (suc n) (Ret out) τ))) free
-          ∙ (joined_less _ _ _ _ (less_same (call_of p (run_of p n) f args σ)) (λ out τ. run_less (plain p) (plain_grows p) p n (Ret out) τ)).gives r
-          (ap (λ τ. followed p n Ret (call_of p (run_of p n) f args τ)) (sym es) ∙ sym (front_nothing _) ∙ e),
-    );
+    leads = λ n r e. (n, ap (left_inside p n (Calls f args Ret)) (sym es) ∙ sym (front_nothing _) ∙ e);
   };
 }
 

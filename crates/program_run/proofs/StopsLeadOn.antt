@@ -3,7 +3,7 @@ use Rattle.std.proofs.Common.{◌++◌, ◌∙◌, ◌≡◌, [], ℕ, List, Non
 use Rattle.cell_value.specs.declared.{entries.Touch.Touch, values.Value.Value, ways_out.WayOut.WayOut, ways_out.Which.Which}
 use Rattle.core_program.proofs.MoreDepthSameResult.{Grows, Less, in_front_less, joined_less, less_same, run_less}
 use Rattle.core_program.proofs.OutcomesCompose.{front_nothing, front_twice, less_is, less_then, none_some, some_same, walk_bind}
-use Rattle.core_program.specs.{Layer.layer, ProgramRows.ProgramRows, State.State}
+use Rattle.core_program.specs.{Layer.layer, Passed.Entering, Passed.args_at, Passed.cells_entered, ProgramRows.ProgramRows, State.State}
 use Rattle.core_program.specs.Acts.{Act, ActResult, Answer, Spend, Stops, Went, limit_passed, perform}
 use Rattle.core_program.specs.Run.{Ended, Halted, Result, Rules, ends, if_allowed, in_front, joined, on_done, within}
 use Rattle.core_program.specs.Tree.{ActTree, Do, Enter, Halt, Line, Meaningless, Out, Ret, Sub, bind, way_of}
@@ -107,20 +107,21 @@ module _ {S E : Type 0} (rules : Rules S E) (grows : Grows rules) (lens : IsLens
             (ap (λ z. finish rules p n z (rules.with_state s τ)) u.0 ∙ ap (λ x. finish rules p n stop (rules.with_state s x.state)) u.1 ∙ f);
       }
 
-  met_is : (p : ProgramRows) (n f cells : ℕ) (args : List Value) (next : Out → ActTree) (s : S) → limit_passed (rules.state_of s) cells ≡ None
-      → within rules p n (Enter f cells args next) s ≡ met rules p n f args next s
-  met_is p zero f cells args next s e = refl
-  met_is p (suc n) f cells args next s e = ap (λ o. if_allowed o s (met rules p (suc n) f args next s)) e
+  met_is : (p : ProgramRows) (n : ℕ) (c : Entering) (next : Out → ActTree) (s : S) → limit_passed (rules.state_of s) (cells_entered c) ≡ None
+      → within rules p n (Enter c next) s ≡ met rules p n c.routine (args_at c (rules.state_of s).top) next s
+  met_is p zero c next s e = refl
+  met_is p (suc n) c next s e = ap (λ o. if_allowed o s (met rules p (suc n) c.routine (args_at c (rules.state_of s).top) next s)) e
 
-  runs_call : (p : ProgramRows) (f cells : ℕ) (args : List Value) (next : Out → ActTree) (s : S) (l : List Touch) (stop : Stop) (m' : Moment) (n : ℕ)
-      (r : Result S E) (o : Option Which) → limit_passed (rules.state_of s) cells ≡ o
-      → ◌≡◌ {A = Found} (Some (at_call o f args next, record { state = rules.state_of s; log = l })) (Some (stop, m'))
-      → finish rules p n stop (rules.with_state s m'.state) ≡ Some r → Runs p (Enter f cells args next) s l m'.log r
-  runs_call p f cells args next s l stop m' n r None e h g = runs_stop p (Enter f cells args next) s l (AtCall f args next) stop m' n r
-      (less_then (less_is (sym (met_is p n f cells args next s e))) (run_less rules grows p n (Enter f cells args next) s)) h g
-  runs_call p f cells args next s l stop m' n r (Some which) e h g =
-      runs_stop p (Enter f cells args next) s l (AtEnd (Halted (WayOut.Limited which))) stop m' n r
-      (less_is (sym (ap (λ o. if_allowed o s (met rules p (suc n) f args next s)) e))) h g
+  runs_call : (p : ProgramRows) (c : Entering) (next : Out → ActTree) (s : S) (l : List Touch) (stop : Stop) (m' : Moment) (n : ℕ)
+      (r : Result S E) (o : Option Which) → limit_passed (rules.state_of s) (cells_entered c) ≡ o
+      → ◌≡◌ {A = Found} (Some (at_call o c (rules.state_of s).top next, record { state = rules.state_of s; log = l })) (Some (stop, m'))
+      → finish rules p n stop (rules.with_state s m'.state) ≡ Some r → Runs p (Enter c next) s l m'.log r
+  runs_call p c next s l stop m' n r None e h g =
+      runs_stop p (Enter c next) s l (AtCall c.routine (args_at c (rules.state_of s).top) next) stop m' n r
+      (less_then (less_is (sym (met_is p n c next s e))) (run_less rules grows p n (Enter c next) s)) h g
+  runs_call p c next s l stop m' n r (Some which) e h g =
+      runs_stop p (Enter c next) s l (AtEnd (Halted (WayOut.Limited which))) stop m' n r
+      (less_is (sym (ap (λ o. if_allowed o s (met rules p (suc n) c.routine (args_at c (rules.state_of s).top) next s)) e))) h g
 
   pub runs : (p : ProgramRows) (k : ℕ) (t : ActTree) (s : S) (σ : State) (l : List Touch) (n : ℕ) (stop : Stop) (m' : Moment) (r : Result S E)
       → rules.state_of s ≡ σ → next_stop p k t (record { state = σ; log = l }) ≡ Some (stop, m') → finish rules p n stop (rules.with_state s m'.state) ≡ Some r
@@ -144,11 +145,12 @@ module _ {S E : Type 0} (rules : Rules S E) (grows : Grows rules) (lens : IsLens
         grown = y.grown;
         is = (joined_less (within rules p (suc y.depth) (layer p part) s) _ (λ out τ. within rules p (suc y.depth) (next out) τ)
             (λ out τ. within rules p (suc (suc y.depth)) (next out) τ) (less_same _) (λ out τ. run_less rules grows p (suc y.depth) (next out) τ)).gives _
-            (sym (walk_bind rules _ _ (layer p part) next s) ∙ y.is);
+            (sym (walk_bind rules (λ part τ. within rules p y.depth (layer p part) τ) (rules.call (λ u τ. within rules p y.depth u τ)) (layer p part) next s)
+            ∙ y.is);
       }
-  runs p (suc k) (Enter g cells args next) s σ l n stop m' r q h f =
-      runs_call p g cells args next s l stop m' n r (limit_passed (rules.state_of s) cells) refl
-      (ap (λ z. Some (at_call (limit_passed z cells) g args next, record { state = z; log = l })) q ∙ h) f
+  runs p (suc k) (Enter c next) s σ l n stop m' r q h f =
+      runs_call p c next s l stop m' n r (limit_passed (rules.state_of s) (cells_entered c)) refl
+      (ap (λ (z : State). Some (at_call (limit_passed z (cells_entered c)) c z.top next, record { state = z; log = l })) q ∙ h) f
   runs p (suc k) (Line line next) s σ l n stop m' r q h f =
       runs_line p line next s l n stop m' r (perform (Spend 1) (rules.state_of s)) refl
       (ap (λ z. on_act line l (perform (Spend 1) z) (λ x m1. Some (AtLine line next, m1))) q ∙ h) f

@@ -24,7 +24,8 @@ state_from side depth items = record {
 abbrev pub call_from : ProgramRows → (routine : ℕ) → List Value → State → Outcome
 call_from p routine args σ = call_of p (run_of p (depth_enough p σ.steps)) routine args σ
 
--- a routine may be called from a state: it is there, and no limit is passed by its frame or by one call more
+-- a routine may be called from a state: it is there, and no limit is passed by its frame without copies, or by one
+-- call more
 pub record CanBeCalled (p : ProgramRows) (routine : ℕ) (σ : State) : Type 0 where
   pub there : IsSome (routine_at p routine)
   pub sound : IsSound σ

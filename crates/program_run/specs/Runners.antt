@@ -8,6 +8,7 @@ use Rattle.eval_ops.specs.Machines.{IsReady, Moment, moment_of}
 use Rattle.evaluator.specs.{Rest.rest_of, Rest.waiting, declared.body.Body.Body}
 use Rattle.program_run.specs.Tower.{CallBegins, Ends, First, IsOver, Open, Rests, Stage, TowerAt, View, activation}
 use Rattle.program_run.specs.declared.{open_call.OpenCall.OpenCall, runner.Runner.Runner}
+use Rattle.program_run.specs.declared.runner.Begun.{Begun, TheVariants.Ended, TheVariants.Framed}
 
 -- what is done after a call, by its caller
 abbrev pub rest_in : ProgramRows → Option Body → Out → ActTree
@@ -64,11 +65,16 @@ pub record Invocation : Type 0 where
 abbrev pub invocation : (routine : ℕ) → Routine → List Value → Invocation
 invocation f r args = record { routine = f; row = r; args = args }
 
--- the frame of a call was made, and else the call ends in this way
-abbrev pub CallBegun : ProgramRows → Invocation → Option WayOut → Moment → Moment → Type 0
-CallBegun p i None m m' =
-    CallBegins p (activation i.routine i.args i.row.cells (Rests (whole p i.routine m.state.top i.row))) m m'
-CallBegun p i (Some way) m m' = CallBegins p (activation i.routine i.args 0 (Ends (Halted way))) m m'
+-- the frame of a call was made with so many cells, and else the call ends in this way
+abbrev pub CallBegun : ProgramRows → Invocation → Begun → Moment → Moment → Type 0
+CallBegun p i (Framed cells) m m' =
+    CallBegins p (activation i.routine i.args cells (Rests (whole p i.routine m.state.top i.row))) m m'
+CallBegun p i (Ended way) m m' = CallBegins p (activation i.routine i.args 0 (Ends (Halted way))) m m'
+
+-- the cells of its frame, and 0 where none was made
+abbrev pub cells_begun : Begun → ℕ
+cells_begun (Framed cells) = cells
+cells_begun (Ended way) = 0
 
 -- an open call is innermost, and ends so, by this way out and with this result
 pub record InnermostEnds (p : ProgramRows) (first : First) (e : End) (r : Runner) (out : WayOut × Option Value) : Type

@@ -1,7 +1,7 @@
 -- Open calls over one another, and the run that they are part of.
 use Rattle.std.specs.Prelude.{◌++◌, ◌+◌, ◌∷◌, ◌≡◌, ◌≤◌, [], ℕ, List, None, Option, Some, length, slice_get, suc}
 use Rattle.cell_value.specs.declared.{entries.Touch.Touch, values.Value.Value}
-use Rattle.core_program.specs.{State.State, Tree.ActTree, Tree.Enter, Tree.Out, Tree.Ret}
+use Rattle.core_program.specs.{State.State, Tree.ActTree, Tree.Out, Tree.Ret}
 use Rattle.core_program.specs.Numbering.{Inside, belows, depth_of, each_from, last_below, parent_of}
 use Rattle.core_program.specs.ProgramRows.{ProgramRows, routine_at}
 use Rattle.core_program.specs.Run.{Call, End, Ended, Halted, Marked, Outcome, Result, after_all, at_work, call_closed}
@@ -31,16 +31,6 @@ pub data OpenLevels : Type 0 where
   Push : (under : OpenLevels) (call : OpenLevel) (own : Own) → OpenLevels
 
 -- ---- the run
-
--- what is run, and the state before it
-pub record First : Type 0 where
-  pub tree : ActTree
-  pub state : State
-
--- A call that is run by itself. It is entered also where its frame is too large for the stack, as that of the program
--- block is.
-abbrev pub first_call : (routine : ℕ) → List Value → State → First
-first_call f args σ = record { tree = Enter f 0 args Ret; state = σ }
 
 -- a call, from what its body gave
 abbrev pub called : OpenLevel → Outcome → Outcome
@@ -79,10 +69,22 @@ left_inside p n (Rests tree) σ = run_of p n tree σ
 left_inside p n (Calls routine args rest) σ = followed p n rest (call_of p (run_of p n) routine args σ)
 left_inside p n (Ends end) σ = ends end σ
 
+-- what is run, and the state before it
+pub record First : Type 0 where
+  pub stage : Stage
+  pub state : State
+
+abbrev pub run_first : ProgramRows → ℕ → First → Outcome
+run_first p n first = left_inside p n first.stage first.state
+
+-- A call that is run by itself. It is entered also where its frame is too large for the stack, as that of the program
+-- block is.
+abbrev pub first_call : (routine : ℕ) → List Value → State → First
+first_call f args σ = record { stage = Calls f args Ret; state = σ }
+
 -- what is left of a run, once known, gives the run
 pub record Leads (p : ProgramRows) (first : First) (rest : ℕ → Outcome) : Type 0 where
-  pub leads : (n : ℕ) (r : Result State Call) → rest n ≡ Some r
-      → (k : ℕ) × (run_of p k first.tree first.state ≡ Some r)
+  pub leads : (n : ℕ) (r : Result State Call) → rest n ≡ Some r → (k : ℕ) × (run_first p k first ≡ Some r)
 
 -- ---- the table of calls
 
@@ -217,7 +219,7 @@ pub record CallBegins (p : ProgramRows) (e : Activation) (m m' : Moment) : Type 
 pub record IsOver (p : ProgramRows) (first : First) (m : Moment) (kept : Recording) : Type 0 where
   pub result : Result State Call
   pub depth : ℕ
-  pub is : run_of p depth first.tree first.state ≡ Some result
+  pub is : run_first p depth first ≡ Some result
   pub after : m.state ≡ result.after
   pub items : m.state.items ≡ first.state.items
   pub log : m.log ≡ result.log

@@ -12,4 +12,5 @@ mod runs;
 pub use copies::copy_items;
 pub use history::History;
 pub use laws::calls_are_told;
+pub use runner::Begun;
 pub use runs::{run, run_from};

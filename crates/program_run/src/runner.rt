@@ -3,17 +3,17 @@
 ghost use Rattle.std.specs.Prelude.{◌+◌, ◌<◌, ◌≡◌, ◌≤◌, ℕ, IfOk, IsSome, None, OnOk, Option, Some, length};
 ghost use Rattle.core_program.specs.{Replay.end_of, Run.End, Run.Ended, Run.Halted, State.stack_end, Tree.Out};
 ghost use Rattle.core_program.specs.ProgramRows.{ProgramRows, routine_at};
-ghost use Rattle.core_program.specs.declared.program.Routine as table;
 ghost use Rattle.eval_ops.specs.Machines.{AllowsCall, IsReady, machine_state, moment_of};
 ghost use Rattle.evaluator.specs.declared.body.Body as bodies;
-ghost use Rattle.program_run.specs.{Runners.rest_in, Runners.work_left, Table.side_of};
-ghost use Rattle.program_run.specs.Runners.{At, AtRest, CallBegun, Chain, InnermostEnds, IsWell, invocation, opens_in};
+ghost use Rattle.program_run.specs.Runners.{At, AtRest, CallBegun, Chain, InnermostEnds, IsWell, cells_begun};
+ghost use Rattle.program_run.specs.Runners.{invocation, opens_in, rest_in, work_left};
+ghost use Rattle.program_run.specs.Table.{side_of};
 ghost use Rattle.program_run.specs.Tower.{Calls as Calling, Ends, First, IsOver, stage_after};
 
 use crate::open_call::OpenCall;
 use call_tree::{Calls, Side};
 use cell_value::{Cells, Memory, Value, WayOut};
-use core_program::Program;
+use core_program::{Program, Routine};
 use eval_ops::{Halt, Machine, close_call, make_frame, open_call, remove_frame};
 use evaluator::{Body, Stop, go_on};
 use std::alloc::{AllocError, Global};
@@ -48,28 +48,36 @@ fn side(machine: &Machine) -> Result<Side, Memory>
     })
 }
 
-/// Enters a call and makes its frame, and answers how the call ends where the frame is not made.
+/// How a call begins.
+#[derive(Clone, Copy)]
+pub enum Begun {
+    /// In a frame of this many cells.
+    Framed(u32),
+    /// The frame is not made, and the call ends so.
+    Ended(WayOut),
+}
+
+/// Enters a call of a routine and makes its frame.
 fn begin(
     alloc: Global,
     machine: &mut Machine,
     args: &Cells,
-    cells: u32,
-) -> Result<Option<WayOut>, Memory>
+    routine: Routine,
+) -> Result<Begun, Memory>
     requires ready { IsReady machine.old }
     requires room { AllowsCall machine.old }
-    ensures begins { IfOk result (λ halted. (p : ProgramRows) (f : ℕ) (r : table.Routine) → routine_at p f ≡ Some r
-        → r.cells ≡ cells
-        → CallBegun p (invocation f r args.now) halted (moment_of machine.old) (moment_of machine.new)) }
-    ensures fits { IfOk result (λ halted. halted ≡ None → machine.old.top + cells ≤ stack_end) }
+    ensures begins { IfOk result (λ begun. (p : ProgramRows) (f : ℕ) → routine_at p f ≡ Some routine
+        → CallBegun p (invocation f routine args.now) begun (moment_of machine.old) (moment_of machine.new)) }
+    ensures fits { IfOk result (λ begun. machine.old.top + cells_begun begun ≤ stack_end) }
     ensures spent { OnOk result (machine.new.steps ≤ machine.old.steps) }
     ensures ready { OnOk result (IsReady machine.new) }
 {
     open_call(machine);
-    match make_frame(alloc, machine, args, cells) {
-        Ok(()) => Ok(None),
-        Err(Halt::Fault(kind)) => Ok(Some(WayOut::Faulted(kind, 0))),
-        Err(Halt::OutOfSteps) => Ok(Some(WayOut::OutOfSteps)),
-        Err(Halt::Limited(which)) => Ok(Some(WayOut::Limited(which))),
+    match make_frame(alloc, machine, args, routine) {
+        Ok(cells) => Ok(Begun::Framed(cells)),
+        Err(Halt::Fault(kind)) => Ok(Begun::Ended(WayOut::Faulted(kind, 0))),
+        Err(Halt::OutOfSteps) => Ok(Begun::Ended(WayOut::OutOfSteps)),
+        Err(Halt::Limited(which)) => Ok(Begun::Ended(WayOut::Limited(which))),
         Err(Halt::Memory) => Err(AllocError),
     }
 }
@@ -188,19 +196,19 @@ impl Runner {
         let row = program.routine(routine).unwrap();
         let base = self.machine.top;
         let entry = side(&self.machine)?;
-        let halted = begin(alloc, &mut self.machine, &args, row.cells)?;
+        let begun = begin(alloc, &mut self.machine, &args, row)?;
         self.calls.enter(routine, args, entry)?;
-        match halted {
-            None => {
+        match begun {
+            Begun::Framed(cells) => {
                 self.opens.push(OpenCall {
                     caller,
                     base,
-                    cells: row.cells,
+                    cells,
                 })?;
                 self.body = Some(Body::new(alloc, routine, base));
                 Ok(())
             }
-            Some(way) => {
+            Begun::Ended(way) => {
                 self.opens.push(OpenCall {
                     caller,
                     base,

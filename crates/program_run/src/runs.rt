@@ -2,7 +2,7 @@
 
 ghost use Rattle.std.specs.Prelude.{◌+◌, ◌<◌, ◌∷◌, ◌≡◌, ◌≤◌, [], IfOk, IsSome, None, length};
 ghost use Rattle.cell_value.specs.declared.values.Value.TheVariants.{Nil};
-ghost use Rattle.core_program.specs.{Acts.limit_passed, ProgramRows.routine_at, State.stack_end};
+ghost use Rattle.core_program.specs.{ProgramRows.routine_at, State.stack_end};
 ghost use Rattle.core_program.specs.Run as meaning;
 ghost use Rattle.eval_ops.specs.Machines.{AllowsCall, IsReady, machine_state, moment_of};
 ghost use Rattle.program_run.specs.CalledFrom.{CanBeCalled, call_from, state_from};
@@ -76,7 +76,6 @@ fn run_call(
     requires there { IsSome (routine_at program.now routine) }
     requires ready { IsReady machine }
     requires room { AllowsCall machine }
-    requires free { limit_passed (machine_state machine) 0 ≡ None }
     requires log { machine.log ≡ [] }
     requires few { length machine.output + machine.steps < 4294967296 }
     ensures over { IfOk result (λ r. IsOver program.now (first_call routine args (machine_state machine))

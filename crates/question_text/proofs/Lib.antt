@@ -1,5 +1,6 @@
 mod CardsWhole
 mod CellsInTurn
+mod CopiesInRange
 mod FoundInOrder
 mod FramesOutward
 mod LinesInTurn

@@ -2,7 +2,7 @@
 use Rattle.std.proofs.Common.{◌++◌, ◌∙◌, ◌≡◌, ◌≤◌, [], ℕ, Bool, List, None, Option, Some, ap, false, length, refl, slice_get, sym}
 use Rattle.std.proofs.lemmas.Option.{slice_get_past}
 use Rattle.call_tree.specs.{Recording.routines_of, declared.records.Call.Call}
-use Rattle.cell_names.specs.{Finding.Finding, Finding.finding_of, Names.Scene, Names.root_at, Names.root_text, Places.finds}
+use Rattle.cell_names.specs.{Conformant.arguments_of, Finding.Finding, Finding.finding_of, Names.Scene, Names.root_at, Names.root_text, Places.finds}
 use Rattle.cell_names.specs.declared.{names.Root.Root, places.PlacedPart.PlacedPart}
 use Rattle.question_text.proofs.{CardsWhole.scene_by, CellsInTurn.no_cell_no_lines, CellsInTurn.none_of_two}
 use Rattle.question_text.specs.{Cards.Recorded, Cards.scene_of, CellNames.cell_name, CellNames.name_in, Frames.opened_from}
@@ -24,7 +24,13 @@ pub record IsSceneOf (r : Recorded) (k : ℕ) (finding : Finding) (routines : Li
 
 module _ (r : Recorded) (k : ℕ) (finding : Finding) (routines : List ℕ) (opened : ℕ → Option PlacedPart) where
   scene_is : IsSceneOf r k finding routines opened → scene_by r finding routines opened ≡ scene_of r k
-  scene_is g = λ i. record { program = r.program; finding = g.found i; routines = g.column i; opened = g.frames i }
+  scene_is g = λ i. record {
+    program = r.program;
+    finding = g.found i;
+    routines = g.column i;
+    args = arguments_of r.calls;
+    opened = g.frames i;
+  }
 
   pub state_is : (call : Call) (name out new : List ℕ) → IsSceneOf r k finding routines opened → slice_get r.calls k ≡ Some call
       → new ≡ out ++ lines_by (scene_by r finding routines opened) name (Some call) → new ≡ out ++ state_text r k name

@@ -1,14 +1,14 @@
 -- What is shown of a call that is to be judged: the lines of its card, in order.
-use Rattle.std.specs.Prelude.{if◌then◌else◌, ◌++◌, ◌+◌, ◌==◌, ◌∷◌, [], ℕ, List, None, Option, Some, codes, drop}
-use Rattle.std.specs.Prelude.{flat_map, length, min, nat_lt, slice_get, slice_range}
+use Rattle.std.specs.Prelude.{if◌then◌else◌, ◌++◌, ◌+◌, ◌==◌, ◌∷◌, [], ℕ, List, None, Option, Some, codes, flat_map}
+use Rattle.std.specs.Prelude.{length, min, nat_lt, slice_get, slice_range}
 use Rattle.cell_value.specs.Effects.{changes_of, given_of, looked_of, reads_of, taken_of}
 use Rattle.cell_value.specs.declared.{entries.Touch.Touch, values.Value.Value}
 use Rattle.core_program.specs.ProgramRows.{ProgramRows, routine_at, row_at}
 use Rattle.core_program.specs.declared.program.Routine.{Routine}
 use Rattle.call_tree.specs.{Recording.routines_of, Told.part_of, declared.records.Call.Call}
-use Rattle.cell_names.specs.{Finding.finding_of, Names.Scene, Names.result_of, Pieces.in_quotation_marks, Places.finds}
-use Rattle.cell_names.specs.Values.{typed_text, untyped_text}
-use Rattle.question_text.specs.{Cells.change_line, Cells.parameters_text, Cells.seen_line, Frames.opened_from}
+use Rattle.cell_names.specs.{Conformant.arguments_of, Finding.finding_of, Names.Scene, Names.frame, Names.result_of}
+use Rattle.cell_names.specs.{Pieces.in_quotation_marks, Places.finds, Values.typed_text, Values.untyped_text}
+use Rattle.question_text.specs.{Cells.arguments_text, Cells.change_line, Cells.seen_line, Frames.opened_from}
 use Rattle.question_text.specs.{Lines.call_line, Lines.inner_line, Lines.routine_line, WaysOut.way_text}
 use Rattle.question_text.specs.declared.prepared.Recorded as kept
 
@@ -81,20 +81,21 @@ scene_of r k = record {
   program = r.program;
   finding = finding_of r.program r.tokens r.log;
   routines = routines_of r.calls;
+  args = arguments_of r.calls;
   opened = finds (opened_from r.calls (length r.calls) (Some k));
 }
 
 -- the lines of a card after the first: parameters, reads, changes, looks, takes, gives, result, and the way out
-abbrev pub card_lines : Recorded → Scene → Call → List ℕ
-card_lines r s call =
-    parameters_text s call.entry.top call.routine 1 (drop 1 call.args)
+abbrev pub card_lines : Recorded → (k : ℕ) → Scene → Call → List ℕ
+card_lines r k s call =
+    arguments_text s (frame k call.routine call.entry.top) call.args (routine_at s.program call.routine)
     ++ effect_text s r.items call (part_of r.log call)
     ++ result_text r.program call.routine call.result
     ++ inner_line (way_text r.calls call.parent call.way)
 
 abbrev pub card_by : Recorded → (k : ℕ) → Option Call → List ℕ
 card_by r k None = []
-card_by r k (Some call) = call_line r.program k call ++ card_lines r (scene_of r k) call
+card_by r k (Some call) = call_line r.program k call ++ card_lines r k (scene_of r k) call
 
 -- the card of call k of a run
 unfoldable pub card : Recorded → (k : ℕ) → List ℕ
@@ -102,7 +103,7 @@ card r k = card_by r k (slice_get r.calls k)
 
 abbrev pub question_by : Recorded → (k : ℕ) → Option Call → List ℕ
 question_by r k None = []
-question_by r k (Some call) = routine_line r.program call ++ card_lines r (scene_of r k) call
+question_by r k (Some call) = routine_line r.program call ++ card_lines r k (scene_of r k) call
 
 -- the text of the question about call k of a run: its card, with the name of its routine alone as the first line
 unfoldable pub question : Recorded → (k : ℕ) → List ℕ

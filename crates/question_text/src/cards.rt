@@ -15,7 +15,9 @@ use crate::lines::{write_call_line, write_routine_line};
 use crate::prepared::{CardParts, Recorded};
 use crate::ways_out::write_way_line;
 use call_tree::Call;
-use cell_names::{Scene, result_of, write_quoted, write_quoted_items, write_typed, write_untyped};
+use cell_names::{
+    Frame, Scene, result_of, write_quoted, write_quoted_items, write_typed, write_untyped,
+};
 use cell_value::{Items, Value};
 use core_program::Program;
 use edge_ports::Printer;
@@ -166,6 +168,7 @@ fn write_effect<P: Printer>(
 fn write_lines<P: Printer>(
     out: &mut P,
     from: &Recorded,
+    number: u32,
     scene: &Scene,
     call: &Call,
     done: &Footprint,
@@ -173,9 +176,14 @@ fn write_lines<P: Printer>(
     requires told { IsTold from.now.log.now from.now.items.now call.now }
     requires done { IsDoneIn (part_of from.now.log.now call.now) call.now done.now }
     ensures { Prints (P.printout out.old) (P.printout out.new)
-        (card_lines (recorded_in from.now) (scene_in scene.now) call.now) }
+        (card_lines (recorded_in from.now) number (scene_in scene.now) call.now) }
 {
-    write_parameters(out, scene, call.entry.top, call.routine, &call.args);
+    let frame = Frame {
+        call: number,
+        routine: call.routine,
+        top: call.entry.top,
+    };
+    write_parameters(out, scene, frame, &call.args);
     write_effect(out, from, scene, call, done);
     write_result(out, from.program, call.routine, call.result);
     write_way_line(out, from.calls, call.parent, call.way);
@@ -194,15 +202,16 @@ fn write_below<P: Printer>(
     requires opened { AreOpenedIn (recorded_in from.now) number parts.now.opened }
     requires done { IsDoneIn (part_of from.now.log.now call.now) call.now parts.now.done }
     ensures { Prints (P.printout out.old) (P.printout out.new)
-        (card_lines (recorded_in from.now) (scene_of (recorded_in from.now) number) call.now) }
+        (card_lines (recorded_in from.now) number (scene_of (recorded_in from.now) number) call.now) }
 {
     let scene = Scene {
         program: from.program,
         names: from.names,
         routines: from.calls.routine_column(),
+        calls: from.calls,
         opened: &parts.opened,
     };
-    write_lines(out, from, &scene, call, &parts.done);
+    write_lines(out, from, number, &scene, call, &parts.done);
 }
 
 /// Prints the card of a call: what it was called with, what it read and changed, looked at, took and gave, what it gave

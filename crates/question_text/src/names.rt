@@ -34,6 +34,7 @@ pub fn write_name<P: Printer>(
         program: from.program,
         names: from.names,
         routines: from.calls.routine_column(),
+        calls: from.calls,
         opened,
     };
     write_root_name(out, &scene, None, address, root_at(&scene, address));

@@ -231,6 +231,7 @@ pub fn write_state<P: Printer>(
         program: from.program,
         names: from.names,
         routines: from.calls.routine_column(),
+        calls: from.calls,
         opened,
     };
     write_lines(out, &scene, from.calls.call(number), name)

@@ -26,7 +26,7 @@ abbrev pub section_at : ProgramRows → (at : ℕ) → Section
 section_at p at = section_in p (row_at p at)
 
 -- Two sections agree that are both by value or both `var`, with equally many names and of one shape. A procedure or
--- function as a parameter agrees with nothing.
+-- function as a parameter agrees with nothing, and so does a conformant array, which has no shape.
 abbrev pub sections_in_turn : Programs → Section → Section → InTurn
 sections_in_turn ps (Section.Names m a count next) (Section.Names n b other after) =
     if same_mode m n && (count == other && same_shape ps a b) then InTurn.Further next after else InTurn.Apart

@@ -92,6 +92,10 @@ fn same_mode(mode: Mode, other: Mode) -> bool
             Mode::Place => true,
             _ => false,
         },
+        Mode::Copy => match other {
+            Mode::Copy => true,
+            _ => false,
+        },
     }
 }
 

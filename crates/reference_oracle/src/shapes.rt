@@ -340,6 +340,7 @@ fn type_pairs(
             _ => Ok(None),
         },
         TypeRow::Pointer { .. } => Ok(None),
+        TypeRow::Conformant { .. } => Ok(None),
     }
 }
 

@@ -3,7 +3,7 @@ use Rattle.std.proofs.Common.{◌++◌, ◌+◌, ◌-◌, ◌<◌, ◌∙◌, �
 use Rattle.std.proofs.{Common.sym, Common.unwrap_or, Common.zero, lemmas.List.append-nil, lemmas.List.length-append, lemmas.Option.none-some}
 use Rattle.grammar.specs.Nodes.{Node}
 use Rattle.pas_tree.specs.declared.constants.Constant.{Constant}
-use Rattle.core_program.specs.{ProgramRows.type_in, declared.rows.NameRow.NameRow, declared.rows.Row.Row}
+use Rattle.core_program.specs.{ProgramRows.type_in, declared.rows.NameRow.NameRow, declared.rows.PartRow.PartRow, declared.rows.Row.Row}
 use Rattle.check_steps.specs.{Around.Falls, Around.reach, Frames.frame_in, Names.usable, Regions.RegionRows, Regions.defined_in, Regions.or_else}
 use Rattle.check_steps.specs.Known.{Known, find, find_from, found_in, found_with, frame_at, name_at, name_in, row_at, type_at}
 use Rattle.check_steps.specs.declared.{regions.Found.Found, regions.Frame.Frame, words.Spelled.Spelled, words.SpelledToken.SpelledToken}
@@ -16,6 +16,7 @@ use Rattle.rule_laws.specs.{CaseConstants.stands_for, CaseConstants.with_sign_of
 abbrev pub denoted : Row → Row
 denoted (Row.Name (NameRow.Routine assigned number region)) = Row.Nothing
 denoted (Row.Name (NameRow.Label marked value level ways)) = Row.Nothing
+denoted (Row.Part (PartRow.Completing first)) = Row.Nothing
 denoted r = said r
 
 denoted_said : (r : Row) → denoted (said r) ≡ denoted r
@@ -24,6 +25,7 @@ denoted_said (Row.Name (NameRow.Constant of' v)) = refl
 denoted_said (Row.Name (NameRow.Text token)) = refl
 denoted_said (Row.Name (NameRow.Routine assigned number region)) = refl
 denoted_said (Row.Name (NameRow.Label marked value level ways)) = refl
+denoted_said (Row.Part (PartRow.Completing first)) = refl
 denoted_said r = refl
 
 pub record Alike (k j : Known) : Type 0 where
@@ -70,6 +72,7 @@ nothing_said (Row.Name (NameRow.Constant of' v)) type value = absurd (none-some 
 nothing_said (Row.Name (NameRow.Text token)) type value = absurd (none-some (ConstantValue.Text token) (sym value))
 nothing_said (Row.Name (NameRow.Routine assigned number region)) type value = refl
 nothing_said (Row.Name (NameRow.Label marked v level ways)) type value = refl
+nothing_said (Row.Part (PartRow.Completing first)) type value = refl
 nothing_said r type value = refl
 
 pub nothing_told : (k : Known) (part : Node) → ((n : ℕ) → Has part n ⊎ (n ≡ length k.words - 1) → IsFree k n) → IsUntold k part
@@ -79,6 +82,7 @@ value_denoted : (r : Row) → value_in (denoted r) ≡ value_in r
 value_denoted (Row.Name (NameRow.Constant of' v)) = refl
 value_denoted (Row.Name (NameRow.Text token)) = refl
 value_denoted (Row.Name (NameRow.Routine assigned number region)) = refl
+value_denoted (Row.Part (PartRow.Completing first)) = refl
 value_denoted r = refl
 
 type_denoted : (r : Row) → type_in (denoted r) ≡ type_in r
@@ -86,6 +90,7 @@ type_denoted (Row.Type t) = refl
 type_denoted (Row.Name (NameRow.Constant of' v)) = refl
 type_denoted (Row.Name (NameRow.Text token)) = refl
 type_denoted (Row.Name (NameRow.Routine assigned number region)) = refl
+type_denoted (Row.Part (PartRow.Completing first)) = refl
 type_denoted r = refl
 
 pub type_said : (r : Row) → type_in (said r) ≡ type_in r
@@ -94,6 +99,7 @@ type_said (Row.Name (NameRow.Constant of' v)) = refl
 type_said (Row.Name (NameRow.Text token)) = refl
 type_said (Row.Name (NameRow.Routine assigned number region)) = refl
 type_said (Row.Name (NameRow.Label marked value level ways)) = refl
+type_said (Row.Part (PartRow.Completing first)) = refl
 type_said r = refl
 
 pub type_still : (k j : Known) → Alike k j → (n : ℕ) → type_at j n ≡ type_at k n

@@ -14,14 +14,15 @@ use Rattle.expression_checker.specs.Expressions.{selected, selector, simple, ter
 use Rattle.expression_checker.specs.Operations.{adding_operator, multiplying_operator, relational_operator}
 use Rattle.expression_checker.specs.declared.{actuals.Passing.Passing, names.Meaning.Meaning, typed.Typed.Typed}
 use Rattle.expression_checker.specs.declared.members.{Gathered.Gathered, MemberStart.MemberStart}
-use Rattle.rule_laws.proofs.{CheckNames.use_again-touches, Every.Every, Every.Of, ExpressionActuals.actual_by-touches, ExpressionCallees.applied-touches}
-use Rattle.rule_laws.proofs.{ExpressionCallees.called_function-touches, ExpressionNames.accessed_as-touches, ExpressionNames.variable-touches, Faces.Shown}
-use Rattle.rule_laws.proofs.{Parts.name_alone-in, Touches.Touches, Touches.bind-touches, Touches.give-touches, Touches.look-touches}
+use Rattle.rule_laws.proofs.{CheckNames.use_again-touches, Every.Every, Every.Of, ExpressionActuals.actual_by-touches, Faces.Shown, Parts.name_alone-in}
+use Rattle.rule_laws.proofs.ExpressionCallees.{applied-touches, called_function-touches}
 use Rattle.rule_laws.proofs.ExpressionMembers.{member_range-touches, one_member-touches, set_constructor-touches}
+use Rattle.rule_laws.proofs.ExpressionNames.{accessed_as-touches, bound_at-touches, variable-touches}
 use Rattle.rule_laws.proofs.ExpressionOperations.{negated-touches, operated-touches, signed-touches}
 use Rattle.rule_laws.proofs.ExpressionSelectors.{dereferenced-touches, indexed-touches, selected_field-touches}
 use Rattle.rule_laws.proofs.ExpressionTyped.{constant_at-touches, literal-touches, nil_at-touches}
 use Rattle.rule_laws.proofs.TokenPlaces.{adding_token-in, first_of_expression-in, multiplying_token-in, relational_token-in}
+use Rattle.rule_laws.proofs.Touches.{Touches, bind-touches, give-touches, look-touches}
 
 pub designator-touches : {Q : ℕ → Type 0} {strict : Shown} (frame : ℕ) (name : ℕ) → Of Q name → Touches Q strict (designator frame name)
 unfolding designator
@@ -30,6 +31,7 @@ designator-touches frame name name-in =
 
 pub named_as-touches : {Q : ℕ → Type 0} {strict : Shown} (frame : ℕ) (name : ℕ) (m : Meaning) → Of Q name → Touches Q strict (named_as frame name m)
 named_as-touches frame name (Meaning.Constant v) name-in = constant_at-touches name v name-in
+named_as-touches frame name (Meaning.Bound r of') name-in = bound_at-touches name r of' name-in
 named_as-touches frame name Meaning.Other name-in = designator-touches frame name name-in
 named_as-touches frame name m name-in = accessed_as-touches name m name-in
 

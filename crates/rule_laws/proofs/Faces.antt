@@ -1,9 +1,9 @@
 -- What steps on other tokens leave of a row.
 use Rattle.std.proofs.Common.{◌&&◌, ◌-◌, ◌∙◌, ◌∷◌, ◌≡◌, ◌⊎◌, [], ℕ, Bool, List, ap, false, inl, inr, nat_eq, not, refl, set, slice_get, suc, sym, true}
 use Rattle.std.proofs.Common.{unwrap_or, zero}
-use Rattle.core_program.specs.declared.rows.{NameRow.NameRow, Row.Row}
+use Rattle.core_program.specs.declared.rows.{NameRow.NameRow, PartRow.PartRow, Row.Row}
 use Rattle.check_steps.specs.{Items.row_on, Known.Known, Known.row_at, Known.with_row}
-use Rattle.statement_checker.specs.{Assignments.with_value, Labels.marked_label, Labels.with_ways}
+use Rattle.statement_checker.specs.{Assignments.assigned_in, Assignments.with_value, Labels.marked_label, Labels.with_ways}
 
 -- what steps leave as it is, where they do: no frame is opened, no label marked, no function assigned
 pub record Shown : Type 0 where
@@ -31,13 +31,14 @@ face s (Row.Name (NameRow.Routine assigned number region)) = Row.Name (NameRow.R
 face s (Row.Item i) = Row.Nothing
 face s r = r
 
--- what a row says of a type, a constant, a procedure, a function or a label
+-- what a row says of a type, a constant, a procedure, a function or a label, or of the heading that one completes
 abbrev pub said : Row → Row
 said (Row.Type t) = Row.Type t
 said (Row.Name (NameRow.Constant of' v)) = Row.Name (NameRow.Constant of' v)
 said (Row.Name (NameRow.Text token)) = Row.Name (NameRow.Text token)
 said (Row.Name (NameRow.Routine assigned number region)) = Row.Name (NameRow.Routine false number region)
 said (Row.Name (NameRow.Label marked value level ways)) = Row.Name (NameRow.Label false value level 0)
+said (Row.Part (PartRow.Completing first)) = Row.Part (PartRow.Completing first)
 said r = Row.Nothing
 
 -- whether the row is that of a label which the block of this level declares and which marks no statement so far
@@ -50,12 +51,18 @@ pub unsaid_fine : (level : ℕ) (r : Row) → said r ≡ Row.Nothing → fine_in
 unsaid_fine level (Row.Name (NameRow.Label marked value l ways)) e = absurd cc
 unsaid_fine level r e = refl
 
+-- where nothing is said no function stands
+pub unsaid_given : (r : Row) → said r ≡ Row.Nothing → assigned_in r ≡ false
+unsaid_given (Row.Name (NameRow.Routine assigned number region)) e = absurd cc
+unsaid_given r e = refl
+
 -- ---- changes that show nothing
 
 pub record Shows (strict : Shown) (g : Row → Row) : Type 0 where
   pub looks : (r : Row) → face strict (g r) ≡ face strict r
   pub says : (r : Row) → said (g r) ≡ said r
   pub spends : (level : ℕ) (r : Row) → fine_in level r ≡ false → fine_in level (g r) ≡ false
+  pub gives : strict.results ≡ true → (r : Row) → assigned_in r ≡ false → assigned_in (g r) ≡ false
 
 ways_face : (strict : Shown) (r : Row) (n : ℕ) → face strict (with_ways r n) ≡ face strict r
 ways_face strict (Row.Name (NameRow.Label marked value level ways)) n = refl
@@ -69,11 +76,16 @@ ways_fine : (level : ℕ) (r : Row) (n : ℕ) → fine_in level (with_ways r n) 
 ways_fine level (Row.Name (NameRow.Label marked value l ways)) n = refl
 ways_fine level r n = refl
 
+ways_given : (r : Row) (n : ℕ) → assigned_in (with_ways r n) ≡ assigned_in r
+ways_given (Row.Name (NameRow.Label marked value level ways)) n = refl
+ways_given r n = refl
+
 pub ways_show : (strict : Shown) (f : Row → ℕ) → Shows strict (λ r. with_ways r (f r))
 ways_show strict f = record {
   looks = λ r. ways_face strict r (f r);
   says = λ r. ways_said r (f r);
   spends = λ level r e. ways_fine level r (f r) ∙ e;
+  gives = λ _ r e. ways_given r (f r) ∙ e;
 }
 
 on_face : (strict : Shown) (r : Row) (n : ℕ) → face strict (row_on r n) ≡ face strict r
@@ -88,8 +100,17 @@ on_fine : (level : ℕ) (r : Row) (n : ℕ) → fine_in level (row_on r n) ≡ f
 on_fine level (Row.Item i) n = refl
 on_fine level r n = refl
 
+on_given : (r : Row) (n : ℕ) → assigned_in (row_on r n) ≡ assigned_in r
+on_given (Row.Item i) n = refl
+on_given r n = refl
+
 pub on_show : (strict : Shown) (n : ℕ) → Shows strict (λ r. row_on r n)
-on_show strict n = record { looks = λ r. on_face strict r n; says = λ r. on_said r n; spends = λ level r e. on_fine level r n ∙ e }
+on_show strict n = record {
+  looks = λ r. on_face strict r n;
+  says = λ r. on_said r n;
+  spends = λ level r e. on_fine level r n ∙ e;
+  gives = λ _ r e. on_given r n ∙ e;
+}
 
 value_face : (strict : Shown) → strict.results ≡ false → (r : Row) → face strict (with_value r) ≡ face strict r
 value_face strict lax (Row.Name (NameRow.Routine assigned number region)) =
@@ -105,7 +126,12 @@ value_fine level (Row.Name (NameRow.Routine assigned number region)) = refl
 value_fine level r = refl
 
 pub value_shows : (strict : Shown) → strict.results ≡ false → Shows strict with_value
-value_shows strict lax = record { looks = value_face strict lax; says = value_said; spends = λ level r e. value_fine level r ∙ e }
+value_shows strict lax = record {
+  looks = value_face strict lax;
+  says = value_said;
+  spends = λ level r e. value_fine level r ∙ e;
+  gives = λ strictly r e. absurd (let never : false ≡ true = sym lax ∙ strictly in cc);
+}
 
 mark_face : (strict : Shown) → strict.marks ≡ false → (r : Row) → face strict (marked_label r) ≡ face strict r
 mark_face strict lax (Row.Name (NameRow.Label marked value level ways)) =
@@ -120,8 +146,12 @@ mark_fine : (level : ℕ) (r : Row) → fine_in level r ≡ false → fine_in le
 mark_fine level (Row.Name (NameRow.Label marked value l ways)) e = refl
 mark_fine level r e = e
 
+mark_given : (r : Row) → assigned_in (marked_label r) ≡ assigned_in r
+mark_given (Row.Name (NameRow.Label marked value level ways)) = refl
+mark_given r = refl
+
 pub mark_shows : (strict : Shown) → strict.marks ≡ false → Shows strict marked_label
-mark_shows strict lax = record { looks = mark_face strict lax; says = mark_said; spends = mark_fine }
+mark_shows strict lax = record { looks = mark_face strict lax; says = mark_said; spends = mark_fine; gives = λ _ r e. mark_given r ∙ e }
 
 -- ---- one row put
 

@@ -2,9 +2,10 @@
 use Rattle.std.proofs.Common.{◌+◌, ◌<◌, ◌∷◌, ◌≡◌, ◌≤◌, [], ℕ, ℤ, Bool, List, None, Option, Some, arith, false, is_none, length, refl, subst, true}
 use Rattle.pas_tree.specs.{ConstantTrees.NamesTree, declared.constants.NextName.NextName}
 use Rattle.pas_tree.specs.BlockTrees.{RoutineTree, routine_body, routine_heading}
+use Rattle.core_program.specs.ProgramRows.{routine_at}
 use Rattle.core_program.specs.declared.{program.Routine.Routine as RoutineRow, rows.NameRow.NameRow, rows.PartRow.PartRow, rows.Row.Row, rows.TypeRow.TypeRow}
 use Rattle.check_steps.specs.{Items.link, Items.row_on, Names.declare_in, Names.define_in, Regions.declared_in, Regions.defined_in, Required.require}
-use Rattle.check_steps.specs.{Required.required_def, Steps.open_region, Steps.put, Steps.put_routine, Steps.when}
+use Rattle.check_steps.specs.{Required.required_def, Steps.open_region, Steps.put, Steps.when}
 use Rattle.check_steps.specs.Known.{Known, and_choice, and_definition, and_frame, and_label, and_region, and_routine, name_at, row_at, with_routine, with_row}
 use Rattle.check_steps.specs.Steps.{◌>>=◌, Step, add_chosen, add_definition, add_routine, ask, change, each, each_back, extend, give, look, open_frame}
 use Rattle.check_steps.specs.declared.regions.{Definition.Definition, Frame.Frame}
@@ -42,7 +43,9 @@ pub record IsRecordRegion (I : Known → Type 0) (k : Known) (region : ℕ) : Ty
 pub record Lasting (G : RoutineTree → Type 0) (I : Known → Type 0) : Type 0 where
   pub puts : (k : Known) (m : ℕ) (r : Row) → is_quiet r ≡ true → I k → I (with_row k m r)
   pub stays : (k : Known) (m : ℕ) → I k → I (with_row k m (row_at k m))
-  pub bodies : (k : Known) (n : ℕ) (r : RoutineRow) → I k → I (with_routine k n r)
+  -- a routine keeps its name
+  pub bodies : (k : Known) (n : ℕ) (r : RoutineRow) → ((q : RoutineRow) → routine_at k.program n ≡ Some q → r.name ≡ q.name) → I k
+      → I (with_routine k n r)
   pub routines : (k : Known) (r : RoutineRow) → I k → I (and_routine k r)
   pub frames : (k : Known) (f : Frame) → I k → I (and_frame k f)
   pub regions : (k : Known) (token : ℕ) (f : Frame) → I k → I (and_region k token f)
@@ -63,7 +66,9 @@ pub record Declaring (G : RoutineTree → Type 0) (I : Known → Type 0) : Type 
   pub kept : Lasting G I
   pub declares : (k : Known) (region value token : ℕ) → I k → I (and_label k region value token)
   pub labels : (k : Known) (token value level : ℕ) → I k → I (with_row k token (Row.Name (NameRow.Label false value level 0)))
-  pub heads : (k : Known) (name number region : ℕ) → I k → I (with_row k name (Row.Name (NameRow.Routine false number region)))
+  -- a routine of this name is there
+  pub heads : (k : Known) (name number region : ℕ) → ((q : RoutineRow) → routine_at k.program number ≡ Some q → q.name ≡ name)
+      → number < length k.program.routines → I k → I (with_row k name (Row.Name (NameRow.Routine false number region)))
 
 -- ---- rows
 
@@ -97,9 +102,6 @@ changes f h = record { of = h }
 extends : {I : Known → Type 0} {A : Type 0} (value : Known → A) (f : Known → Known) → ((k : Known) → I k → I (f k)) → Keeps I (extend value f)
 unfolding extend
 extends value f h = record { of = h }
-
-pub put_routine-lasts : {G : RoutineTree → Type 0} {I : Known → Type 0} → Lasting G I → (number : ℕ) (r : RoutineRow) → Keeps I (put_routine number r)
-put_routine-lasts c number r = changes (λ k. with_routine k number r) (λ k i. c.bodies k number r i)
 
 pub add_routine-lasts : {G : RoutineTree → Type 0} {I : Known → Type 0} → Lasting G I → (r : RoutineRow) → Keeps I (add_routine r)
 add_routine-lasts c r = extends (λ k. length k.program.routines) (λ k. and_routine k r) (λ k i. c.routines k r i)

@@ -1,16 +1,17 @@
 -- What the steps of `Rattle.decl_checker.specs.Blocks` leave as it was.
-use Rattle.std.proofs.Common.{ℕ, None, Option, Some}
+use Rattle.std.proofs.Common.{◌∙◌, ◌≡◌, ℕ, None, Option, Some, ap, refl, sym}
+use Rattle.std.proofs.lemmas.Option.{same_Some}
 use Rattle.pas_tree.specs.BlockTrees.{BlockTree, ConstantPartTree, RoutineTree, TypePartTree, VariablePartTree}
 use Rattle.pas_tree.specs.BlockTrees as tree
 use Rattle.core_program.specs.{ProgramRows.routine_at, declared.program.Routine.Routine as RoutineRow}
-use Rattle.check_steps.specs.Known.{Known, frame_at, line_at}
+use Rattle.check_steps.specs.{Known.Known, Known.frame_at, Known.line_at, Steps.◌>>=◌, Steps.change, Steps.give, Steps.look}
 use Rattle.kind_checker.specs.Constants.{constant_part, constants_in, define_constant}
 use Rattle.denoter_checker.specs.Parts.{define_type, define_variable, types_in, variable_declaration, variables_in}
 use Rattle.decl_checker.specs.Blocks.{constants, define_block, define_constants, define_types, define_variables, parts, put_body, put_held, types, variables}
 use Rattle.decl_checker.specs.Blocks.{with_body, word_after}
-use Rattle.rule_laws.proofs.{Breaks.Each, Keeping.Keeps, Keeping.bind-keeps, Keeping.give-keeps, Keeping.look-keeps, LastsConstants.constant_part-lasts}
+use Rattle.rule_laws.proofs.{Breaks.Each, Lasting.Declaring, Lasting.Lasting, Lasting.each-lasts, LastsConstants.constant_part-lasts}
 use Rattle.rule_laws.proofs.{LastsConstants.define_constant-lasts, LastsLabels.define_labels-lasts, LastsRoutineParts.define_routines-lasts}
-use Rattle.rule_laws.proofs.Lasting.{Declaring, Lasting, each-lasts, put_routine-lasts}
+use Rattle.rule_laws.proofs.Keeping.{Keeps, bind-keeps, give-keeps, look-keeps}
 use Rattle.rule_laws.proofs.LastsParts.{define_type-lasts, define_variable-lasts, type_part-lasts, variable_declaration-lasts}
 use Rattle.rule_laws.specs.NameLaws.{block_routines}
 
@@ -49,15 +50,16 @@ parts-lasts kept frame place (tree.a_block labels consts kinds variable_part rou
     bind-keeps (constants-lasts kept frame consts) (λ _. bind-keeps (types-lasts kept frame (word_after variable_part routines body) kinds)
     (λ _. variables-lasts kept frame place variable_part))
 
-pub put_held-lasts : {G : RoutineTree → Type 0} {I : Known → Type 0} (kept : Lasting G I) (number : ℕ) (x_routine : Option RoutineRow)
-    → Keeps I (put_held number x_routine)
-put_held-lasts kept number None = give-keeps tt
-put_held-lasts kept number (Some r) = put_routine-lasts kept number r
-
+-- the routine keeps its name
 pub put_body-lasts : {G : RoutineTree → Type 0} {I : Known → Type 0} (kept : Lasting G I) (number cells begin : ℕ) → Keeps I (put_body number cells begin)
-unfolding put_body
-put_body-lasts kept number cells begin = bind-keeps (look-keeps (λ k. with_body (routine_at k.program number) cells begin (line_at k begin)))
-    (λ r. put_held-lasts kept number r)
+unfolding put_body look ◌>>=◌ change give
+put_body-lasts {I = I} kept number cells begin = record { of = λ k i. by k i (routine_at k.program number) refl }
+  where
+    by : (k : Known) → I k → (o : Option RoutineRow) → routine_at k.program number ≡ o
+        → I (put_held number (with_body o cells begin (line_at k begin)) k).known
+    by k i None e = i
+    by k i (Some q) e = kept.bodies k number (record q { cells = cells; statements = begin; line = line_at k begin })
+        (λ x there. ap (λ (r : RoutineRow). r.name) (same_Some q x (sym e ∙ there))) i
 
 pub define_block-lasts : {G : RoutineTree → Type 0} {I : Known → Type 0} (kept : Declaring G I) (frame : ℕ) (b : BlockTree) → Each G (block_routines b)
     → Keeps I (define_block frame b)

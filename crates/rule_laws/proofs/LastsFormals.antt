@@ -1,20 +1,26 @@
 -- What the steps of `Rattle.denoter_checker.specs.Formals` leave as it was.
 use Rattle.std.proofs.Common.{ℕ}
 use Rattle.pas_tree.specs.{BlockTrees.RoutineTree, HeadingPlaces.heading_name}
-use Rattle.pas_tree.specs.HeadingTrees.{FormalTree, FormalTrees, FormalsTree, HeadingTree, HeldFormals}
+use Rattle.pas_tree.specs.HeadingTrees.{FormalNamesTree, FormalTree, FormalTrees, FormalsTree, HeadingTree, HeldFormals}
 use Rattle.pas_tree.specs.HeadingTrees as tree
 use Rattle.check_steps.specs.Known.{Known, frame_at}
 use Rattle.kind_checker.specs.{Names.define_name, declared.names.NameKind.NameKind}
-use Rattle.denoter_checker.specs.Formals.{define_each_formal, define_formal, define_formals, define_formals_at, define_held, define_more_formals, formals_of}
-use Rattle.rule_laws.proofs.{Lasting.Lasting, Lasting.each_name-lasts, LastsNameLists.define_name-lasts}
+use Rattle.denoter_checker.specs.Formals.{define_each_formal, define_formal, define_formal_names, define_formals, define_formals_at, define_held}
+use Rattle.denoter_checker.specs.Formals.{define_more_formals, formals_of}
+use Rattle.rule_laws.proofs.{Lasting.Lasting, Lasting.each_name-lasts, LastsNameLists.define_name-lasts, LastsSchemas.define_bounds-lasts}
 use Rattle.rule_laws.proofs.Keeping.{Keeps, bind-keeps, give-keeps, look-keeps}
+
+pub define_formal_names-lasts : {G : RoutineTree → Type 0} {I : Known → Type 0} (kept : Lasting G I) (region : ℕ) (f : FormalNamesTree)
+    → Keeps I (define_formal_names region f)
+unfolding define_formal_names
+define_formal_names-lasts kept region f = bind-keeps
+    (each_name-lasts (define_name region NameKind.Formal) tt f.names (λ a x. define_name-lasts kept region NameKind.Formal a x))
+    (λ _. define_bounds-lasts kept region f.of_type)
 
 pub define_formal-lasts : {G : RoutineTree → Type 0} {I : Known → Type 0} (kept : Lasting G I) (region : ℕ) (formal : FormalTree)
     → Keeps I (define_formal region formal)
-define_formal-lasts kept region (tree.value_formals f) = each_name-lasts (define_name region NameKind.Formal) tt f.names
-    (λ a x. define_name-lasts kept region NameKind.Formal a x)
-define_formal-lasts kept region (tree.variable_formals word f) =
-    each_name-lasts (define_name region NameKind.Formal) tt f.names (λ a x. define_name-lasts kept region NameKind.Formal a x)
+define_formal-lasts kept region (tree.value_formals f) = define_formal_names-lasts kept region f
+define_formal-lasts kept region (tree.variable_formals word f) = define_formal_names-lasts kept region f
 define_formal-lasts kept region (tree.a_routine_formal h) = define_name-lasts kept region NameKind.Formal tt (heading_name h)
 
 pub define_more_formals-lasts : {G : RoutineTree → Type 0} {I : Known → Type 0} (kept : Lasting G I) (region : ℕ) (rest : FormalTrees)

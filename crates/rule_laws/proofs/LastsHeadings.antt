@@ -1,19 +1,17 @@
 -- What the steps of `Rattle.denoter_checker.specs.Headings` leave as it was.
-use Rattle.std.proofs.Common.{◌+◌, ◌≡◌, ℕ, None, Option, Some, false, nat_le, refl, true}
-use Rattle.pas_tree.specs.{BlockTrees.RoutineTree, SchemaTrees.FormalTypeTree, declared.headings.ResultType.ResultType}
-use Rattle.pas_tree.specs.HeadingPlaces.{heading_name, heading_word}
+use Rattle.std.proofs.Common.{◌+◌, ◌≡◌, ℕ, None, Option, Some, nat_le, refl, true}
+use Rattle.pas_tree.specs.{BlockTrees.RoutineTree, HeadingPlaces.heading_name, HeadingPlaces.heading_word, declared.headings.ResultType.ResultType}
 use Rattle.pas_tree.specs.HeadingTrees.{FormalNamesTree, FormalTree, FormalTrees, FormalsTree, FunctionTree, HeadingTree, HeldFormals, ProcedureTree}
 use Rattle.pas_tree.specs.HeadingTrees as tree
-use Rattle.pas_tree.specs.SchemaTrees as schemas
 use Rattle.core_program.specs.ProgramRows.{size_of}
 use Rattle.core_program.specs.declared.rows.{Mode.Mode, NameRow.NameRow, PartRow.PartRow, Row.Row}
 use Rattle.check_steps.specs.Known.{Known, frame_at, type_at}
 use Rattle.kind_checker.specs.Sizes.{frame_capped}
-use Rattle.denoter_checker.specs.{Formals.is_complete, Headings.untaken, Headings.value_cells}
-use Rattle.denoter_checker.specs.Headings.{cells_of, checked_result_type, formal_place, formal_type, function_row, function_signature, may_be_result}
-use Rattle.denoter_checker.specs.Headings.{more_places, open_heading, parameter, parameters, places, places_of, procedure_row, procedure_signature}
-use Rattle.denoter_checker.specs.Headings.{put_more_sections, put_section, put_sections, result_or, routine_formal, section_list, section_row, signature}
-use Rattle.rule_laws.proofs.{LastsFormals.define_formals_at-lasts, LastsTypes.named_type-lasts}
+use Rattle.denoter_checker.specs.{Formals.is_complete, Schemas.mode_in}
+use Rattle.denoter_checker.specs.Headings.{cells_of, checked_result_type, formal_place, function_row, function_signature, may_be_result, more_places}
+use Rattle.denoter_checker.specs.Headings.{open_heading, parameter, parameters, places, places_of, procedure_row, procedure_signature, put_more_sections}
+use Rattle.denoter_checker.specs.Headings.{put_section, put_sections, result_or, routine_formal, section_list, section_row, signature, value_cells}
+use Rattle.rule_laws.proofs.{LastsFormals.define_formals_at-lasts, LastsSchemas.formal_type-lasts, LastsTypes.named_type-lasts}
 use Rattle.rule_laws.proofs.Keeping.{Keeps, ask-keeps, bind-keeps, give-keeps, look-keeps}
 use Rattle.rule_laws.proofs.Lasting.{Lasting, each_name-lasts, is_quiet, open_region-lasts, put-lasts}
 
@@ -24,6 +22,7 @@ value_cells-lasts kept t name = bind-keeps (look-keeps (λ k. size_of k.program 
 
 pub cells_of-lasts : {G : RoutineTree → Type 0} {I : Known → Type 0} (kept : Lasting G I) (m : Mode) (t name : ℕ) → Keeps I (cells_of m t name)
 cells_of-lasts kept Mode.Place t name = give-keeps 1
+cells_of-lasts kept Mode.Copy t name = give-keeps 1
 cells_of-lasts kept m t name = value_cells-lasts kept t name
 
 pub parameter-lasts : {G : RoutineTree → Type 0} {I : Known → Type 0} (kept : Lasting G I) (m : Mode) (level t at name : ℕ)
@@ -32,21 +31,13 @@ unfolding parameter
 parameter-lasts kept m level t at name = bind-keeps (put-lasts kept name (Row.Name (NameRow.Variable m t at level)) refl)
     (λ _. bind-keeps (cells_of-lasts kept m t name) (λ cells. give-keeps (frame_capped (at + cells))))
 
-pub untaken-lasts : {G : RoutineTree → Type 0} {I : Known → Type 0} (kept : Lasting G I) (first : ℕ) → Keeps I (untaken first)
-unfolding untaken
-untaken-lasts kept first = bind-keeps (ask-keeps _ first false) (λ _. give-keeps first)
-
-pub formal_type-lasts : {G : RoutineTree → Type 0} {I : Known → Type 0} (kept : Lasting G I) (frame : ℕ) (t : FormalTypeTree) → Keeps I (formal_type frame t)
-formal_type-lasts kept frame (schemas.a_formal_name n) = named_type-lasts kept frame n
-formal_type-lasts kept frame (schemas.a_schema (schemas.a_packed_schema p)) = untaken-lasts kept p.packed
-formal_type-lasts kept frame (schemas.a_schema (schemas.an_unpacked_schema word open' specs close of component)) = untaken-lasts kept word
-
 pub parameters-lasts : {G : RoutineTree → Type 0} {I : Known → Type 0} (kept : Lasting G I) (m : Mode) (frame at : ℕ) (f : FormalNamesTree)
     → Keeps I (parameters m frame at f)
 unfolding parameters
 parameters-lasts kept m frame at f = bind-keeps (look-keeps (λ k. (frame_at k frame).level))
-    (λ level. bind-keeps (formal_type-lasts kept frame f.of_type) (λ t. each_name-lasts (parameter m level t) at f.names
-    (λ a x. parameter-lasts kept m level t a x)))
+    (λ level. bind-keeps (formal_type-lasts kept frame level at f.of_type)
+    (λ t. each_name-lasts (parameter (mode_in m f.of_type) level t.of) t.place f.names
+    (λ a x. parameter-lasts kept (mode_in m f.of_type) level t.of a x)))
 
 pub routine_formal-lasts : {G : RoutineTree → Type 0} {I : Known → Type 0} (kept : Lasting G I) (frame at : ℕ) (h : HeadingTree)
     → Keeps I (routine_formal frame at h)

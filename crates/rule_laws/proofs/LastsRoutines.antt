@@ -1,19 +1,20 @@
 -- What the steps of `Rattle.decl_checker.specs.Routines` leave as it was.
-use Rattle.std.proofs.Common.{ℕ, None, Option, Some, false, suc, zero}
+use Rattle.std.proofs.Common.{◌∙◌, ◌∷◌, [], ℕ, None, Option, Some, ap, arith, length, suc, sym, zero}
+use Rattle.std.proofs.lemmas.{List.length-append, Option.same_Some}
 use Rattle.pas_tree.specs.{HeadingPlaces.heading_name, HeadingTrees.HeadingTree, StatementPlaces.compound_word}
 use Rattle.pas_tree.specs.BlockTrees.{BlockTree, BodyTree, RoutineTree, RoutineTrees, routine_body, routine_heading}
 use Rattle.pas_tree.specs.BlockTrees as tree
-use Rattle.core_program.specs.declared.rows.{NameRow.NameRow, Row.Row}
-use Rattle.check_steps.specs.{Known.Known, Known.frame_at, Known.row_at, Steps.◌>>=◌, Steps.Step, Steps.give, Steps.look}
+use Rattle.core_program.specs.declared.program.Routine.{Routine as RoutineRow}
+use Rattle.check_steps.specs.Known.{Known, and_routine, frame_at, row_at}
+use Rattle.check_steps.specs.Steps.{◌>>=◌, Step, change, extend, give, look}
 use Rattle.denoter_checker.specs.{Formals.is_function, Headings.signature}
 use Rattle.denoter_checker.specs.RoutineParts.{block_in, completion_of, routine_at, routine_if_any, routine_name}
 use Rattle.decl_checker.specs.Routines.{add_heading, block, body_in, define_body, define_completion, define_inside, enter_at, enter_heading, first_heading}
 use Rattle.decl_checker.specs.Routines.{first_name, heading_row, one_deeper, open_routine, place_after_result, resumed, routine, routines_in}
 use Rattle.decl_checker.specs.declared.routines.Entered.{Entered}
-use Rattle.rule_laws.proofs.{Breaks.Each, LastsFormals.define_formals_at-lasts, LastsHeadings.signature-lasts, LastsStatements.compound_uses-lasts}
-use Rattle.rule_laws.proofs.Keeping.{Keeps, bind-keeps, give-keeps, look-keeps, put-keeps}
-use Rattle.rule_laws.proofs.Lasting.{Declaring, Lasting, add_routine-lasts, open_region-lasts}
-use Rattle.rule_laws.proofs.LastsBlocks.{define_block-lasts, parts-lasts, put_body-lasts}
+use Rattle.rule_laws.proofs.{Breaks.Each, Keeping.Keeps, Keeping.bind-keeps, Keeping.give-keeps, Keeping.look-keeps, Lasting.Declaring, Lasting.Lasting}
+use Rattle.rule_laws.proofs.{Lasting.open_region-lasts, LastsBlocks.define_block-lasts, LastsBlocks.parts-lasts, LastsBlocks.put_body-lasts}
+use Rattle.rule_laws.proofs.{LastsFormals.define_formals_at-lasts, LastsHeadings.signature-lasts, LastsStatements.compound_uses-lasts, Standing.got_end}
 use Rattle.rule_laws.specs.{ForwardHeadings.routines_in as listed, NameLaws.block_routines}
 use Rattle.rule_laws.specs.TextParts.{OfBody, OfEach, OfRoutine, OfRoutines}
 
@@ -74,11 +75,17 @@ define_inside-lasts c frame h body completion body-in completion-in = bind-keeps
 
 pub add_heading-lasts : {G : RoutineTree → Type 0} {I : Known → Type 0} (c : Declaring G I) (frame : ℕ) (h : HeadingTree) (end : ℕ)
     → Keeps I (add_heading frame h end)
-unfolding add_heading
-add_heading-lasts c frame h end = bind-keeps (look-keeps (λ k. frame_at k frame)) (λ here.
-    bind-keeps (add_routine-lasts c.kept (heading_row h here.level end)) (λ number.
-    bind-keeps (put-keeps (heading_name h) (Row.Name (NameRow.Routine false number here.region)) (λ k i. c.heads k (heading_name h) number here.region i))
-    (λ _. give-keeps number)))
+unfolding add_heading look extend change give ◌>>=◌
+add_heading-lasts c frame h end = record {
+  of = λ k i.
+      let here = frame_at k frame in
+      let row = heading_row h here.level end in
+      let number = length k.program.routines in
+      let more = length-append k.program.routines (row ∷ []) in
+      c.heads (and_routine k row) (heading_name h) number here.region
+      (λ q there. ap (λ (r : RoutineRow). r.name) (sym (same_Some row q (sym (got_end k.program.routines row) ∙ there))))
+      (omega (arith, more)) (c.kept.routines k row i);
+}
 
 -- what comes after the completion is known
 abbrev pub after_completion : ℕ → RoutineTree → Option RoutineTree → Step Entered

@@ -3,13 +3,15 @@ use Rattle.std.proofs.Common.{if◌then◌else◌, ◌++◌, ◌<◌, ◌↔◌,
 use Rattle.std.proofs.Common.{is_none, is_some, length, length-set, map, nat_eq, nat_le, refl, subst, sym, true}
 use Rattle.std.{proofs.lemmas.List.Elements.All-head, proofs.lemmas.List.Elements.All-tail, specs.Map.lookup}
 use Rattle.pas_tree.specs.{BlockTrees.VariableDeclarationTree, BlockTrees.VariablePartTree, ConstantTrees.NamesTree, DenoterTrees.StructureTree}
-use Rattle.pas_tree.specs.{DenoterTrees.VariantsTree, HeadingPlaces.heading_name, declared.constants.NextName.NextName, declared.denoters.TagField.TagField}
+use Rattle.pas_tree.specs.{DenoterTrees.VariantsTree, HeadingPlaces.heading_name, SchemaTrees.FormalTypeTree, SchemaTrees.SchemaTree}
 use Rattle.pas_tree.specs.BlockTrees.{ConstantPartTree, LabelPartTree, ParametersTree, RoutineTree, RoutineTrees, TypeDefinitionTree, TypePartTree}
 use Rattle.pas_tree.specs.BlockTrees as blocks
 use Rattle.pas_tree.specs.DenoterTrees.{ArmTree, ArmTrees, ArrayTree, DenoterTree, DenoterTrees, FieldsTree, FixedTree, PartTree, SectionTree, SectionTrees}
 use Rattle.pas_tree.specs.DenoterTrees as denoters
-use Rattle.pas_tree.specs.HeadingTrees.{FormalTree, FormalTrees, FormalsTree, HeldFormals}
+use Rattle.pas_tree.specs.HeadingTrees.{FormalNamesTree, FormalTree, FormalTrees, FormalsTree, HeldFormals}
 use Rattle.pas_tree.specs.HeadingTrees as headings
+use Rattle.pas_tree.specs.SchemaTrees as schemas
+use Rattle.pas_tree.specs.declared.{constants.NextName.NextName, denoters.TagField.TagField, schemas.NextSpec.NextSpec, schemas.Spec.Spec}
 use Rattle.pas_tree.specs.declared.blocks.{ConstantDefinition.ConstantDefinition, NextLabel.NextLabel}
 use Rattle.core_program.specs.declared.rows.{NameRow.NameRow, Row.Row, TextFile.TextFile}
 use Rattle.check_steps.specs.{Breaks.number, Known.Known, Known.and_label, Known.frame_at, Known.label_at, Names.declare_in}
@@ -18,11 +20,12 @@ use Rattle.check_steps.specs.Steps.{◌>>=◌, Step, add_label, ask, change, eac
 use Rattle.check_steps.specs.declared.{breaks.Break.Break, regions.Def.Def, regions.Frame.Frame, words.SpelledToken.SpelledToken}
 use Rattle.kind_checker.specs.{Constants.constants_in, Constants.define_constant, declared.names.NameKind.NameKind}
 use Rattle.kind_checker.specs.Names.{define_name, defined_as, each_name, on_name}
-use Rattle.denoter_checker.specs.{Parts.define_type, Parts.define_variable, Parts.types_in, Parts.variables_in, declared.defines.Wanted.Wanted}
+use Rattle.denoter_checker.specs.{Formals.formals_of, Parts.define_type, Parts.define_variable, Parts.types_in, Parts.variables_in, RoutineParts.define_routine}
+use Rattle.denoter_checker.specs.{RoutineParts.define_routines, RoutineParts.routine_name, declared.defines.Wanted.Wanted}
 use Rattle.denoter_checker.specs.Defines.{by, define_arm, define_arms, define_array, define_denoter, define_field, define_fixed, define_in_fields}
 use Rattle.denoter_checker.specs.Defines.{define_others, define_part, define_record, define_section, define_sections, define_structure, define_variants}
-use Rattle.denoter_checker.specs.Formals.{define_each_formal, define_formal, define_formals_at, define_held, define_more_formals, formals_of}
-use Rattle.denoter_checker.specs.RoutineParts.{define_routine, define_routines, routine_name}
+use Rattle.denoter_checker.specs.Formals.{define_each_formal, define_formal, define_formal_names, define_formals_at, define_held, define_more_formals}
+use Rattle.denoter_checker.specs.Schemas.{define_bounds, define_next_spec, define_schema, define_spec}
 use Rattle.decl_checker.specs.Blocks.{define_block, define_constants, define_types, define_variables}
 use Rattle.decl_checker.specs.Labels.{define_label, define_labels, define_next_label}
 use Rattle.decl_checker.specs.Parameters.{define_file, program_parameter, program_parameters, text_file_named}
@@ -33,10 +36,11 @@ use Rattle.rule_laws.proofs.InTurn.{Calm, Ends, Goes, Wrong, calm_calm, calm_the
 use Rattle.rule_laws.proofs.NameTurns.{Region, Turn, define_goes, or_none, rule_two}
 use Rattle.rule_laws.specs.{ForwardHeadings.routines_in, Laws.broken_at}
 use Rattle.rule_laws.specs.NameLaws.{BlocksTellNames, HeadingsTellFormals, ProgramsTellParameters, RecordsTellFields}
-use Rattle.rule_laws.specs.RegionNames.{arm_names, arms_names, array_names, block_names, constant_names, constants_of, denoter_names, field_names, file_name}
-use Rattle.rule_laws.specs.RegionNames.{file_names, fixed_names, formal_names, formals_names, heading_names, held_names, index_names, is_defined, label_token}
-use Rattle.rule_laws.specs.RegionNames.{labels_of, list_names, listed_names, next_token, other_formal_names, parameter_names, section_names, sections_names}
-use Rattle.rule_laws.specs.RegionNames.{structure_names, tag_names, type_names, types_of, variable_names, variables_of, variant_names, wanted}
+use Rattle.rule_laws.specs.RegionNames.{arm_names, arms_names, array_names, block_names, bound_names, constant_names, constants_of, denoter_names, field_names}
+use Rattle.rule_laws.specs.RegionNames.{file_name, file_names, fixed_names, formal_names, formals_names, heading_names, held_names, index_names, is_defined}
+use Rattle.rule_laws.specs.RegionNames.{label_token, labels_of, list_names, listed_names, more_spec_names, names_and_bounds, next_token, other_formal_names}
+use Rattle.rule_laws.specs.RegionNames.{parameter_names, schema_names, section_names, sections_names, spec_names, structure_names, tag_names, type_names}
+use Rattle.rule_laws.specs.RegionNames.{types_of, variable_names, variables_of, variant_names, wanted}
 
 -- ---- lists of names
 
@@ -295,9 +299,33 @@ field_law k frame fields before name after below same one =
 
 -- ---- formal parameters
 
+spec_goes : (p : Region) (s : Spec) → Goes (rule_two p) (spec_names s) (define_spec p.region s)
+unfolding define_spec
+spec_goes p s = goes_then (s.least ∷ []) (s.greatest ∷ []) (name_goes p NameKind.Formal tt s.least) (λ _. name_goes p NameKind.Formal tt s.greatest)
+
+specs_go : (p : Region) (ns : List NextSpec) → Goes (rule_two p) (more_spec_names ns) (each (define_next_spec p.region) tt ns)
+unfolding define_next_spec
+specs_go p [] = goes_nowhere tt
+specs_go p (n ∷ ns) = goes_then (spec_names n.spec) (more_spec_names ns) (spec_goes p n.spec) (λ _. specs_go p ns)
+
+mutual
+  bounds_go : (p : Region) (t : FormalTypeTree) → Goes (rule_two p) (bound_names t) (define_bounds p.region t)
+  bounds_go p (schemas.a_formal_name n) = goes_nowhere tt
+  bounds_go p (schemas.a_schema s) = schema_goes p s
+
+  schema_goes : (p : Region) (s : SchemaTree) → Goes (rule_two p) (schema_names s) (define_schema p.region s)
+  schema_goes p (schemas.a_packed_schema s) = spec_goes p s.spec
+  schema_goes p (schemas.an_unpacked_schema word left specs right of_word component) =
+      goes_then (spec_names specs.first) (more_spec_names specs.others ++ bound_names component) (spec_goes p specs.first) (λ _.
+      goes_then (more_spec_names specs.others) (bound_names component) (specs_go p specs.others) (λ _. bounds_go p component))
+
+group_goes : (p : Region) (f : FormalNamesTree) → Goes (rule_two p) (names_and_bounds f) (define_formal_names p.region f)
+unfolding define_formal_names
+group_goes p f = goes_then (listed_names f.names) (bound_names f.of_type) (names_go p NameKind.Formal f.names) (λ _. bounds_go p f.of_type)
+
 formal_goes : (p : Region) (f : FormalTree) → Goes (rule_two p) (formal_names f) (define_formal p.region f)
-formal_goes p (headings.value_formals f) = names_go p NameKind.Formal f.names
-formal_goes p (headings.variable_formals word f) = names_go p NameKind.Formal f.names
+formal_goes p (headings.value_formals f) = group_goes p f
+formal_goes p (headings.variable_formals word f) = group_goes p f
 formal_goes p (headings.a_routine_formal h) = name_goes p NameKind.Formal tt (heading_name h)
 
 formals_go : (p : Region) (fs : FormalTrees) → Goes (rule_two p) (other_formal_names fs) (define_more_formals p.region fs)

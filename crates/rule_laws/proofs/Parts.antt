@@ -72,12 +72,15 @@ lone_of-in Q k frame formal.File None h = tt
 lone_of-in Q k frame formal.Unknown name h = tt
 lone_of-in Q k frame (formal.Value of') name h = tt
 lone_of-in Q k frame (formal.Variable of') name h = tt
+lone_of-in Q k frame (formal.Array copied first of' measure) name h = tt
 lone_of-in Q k frame (formal.Operand g) name h = tt
 
 pub rule_of-quiet : (f : ExpectedFormal) → nat_eq (rule_of f) 15 ≡ false
 rule_of-quiet formal.Unknown = refl
 rule_of-quiet (formal.Value of') = refl
 rule_of-quiet (formal.Variable of') = refl
+rule_of-quiet (formal.Array true first of' measure) = refl
+rule_of-quiet (formal.Array false first of' measure) = refl
 rule_of-quiet (formal.Routine heading) = refl
 rule_of-quiet formal.File = refl
 rule_of-quiet (formal.Operand g) = refl

@@ -146,7 +146,7 @@ usable_is : (f g : Found) (b : Bool) → (if b then Some f else None) ≡ Some g
 usable_is f g true e = e
 usable_is f g false e = absurd (none-some g e)
 
-usable_found : (at : ℕ) (o : Option Found) (f : Found) → usable at o ≡ Some f → o ≡ Some f
+pub usable_found : (at : ℕ) (o : Option Found) (f : Found) → usable at o ≡ Some f → o ≡ Some f
 usable_found at None f e = e
 usable_found at (Some g) f e = usable_is g f (nat_le g.definition.end at) e
 

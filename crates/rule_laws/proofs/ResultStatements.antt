@@ -16,7 +16,7 @@ use Rattle.statement_checker.specs.{Parts.another_record, Parts.first_record, Re
 use Rattle.statement_checker.specs.Statements.{branch_step, branching, case_statement, compound, element, else_statement, if_statement, label_token}
 use Rattle.statement_checker.specs.Statements.{labelled_by, more_branches, more_statements, plain, repeat_statement, sequence, statement_step}
 use Rattle.statement_checker.specs.declared.{parts.Opened.Opened, parts.Selected.Selected, sequences.Branching.Branching, sequences.Element.Element}
-use Rattle.rule_laws.proofs.{DenoterVariants.choices-touches, Every.Every, Every.Of, ResultRecords.each_enters, ResultRecords.first_enters}
+use Rattle.rule_laws.proofs.{DenoterVariants.choices-touches, Every.Every, Every.Of, Faces.loose, ResultRecords.each_enters, ResultRecords.first_enters}
 use Rattle.rule_laws.proofs.{ResultSets.sets_gives, ResultSets.sets_then, ResultTargets.assignment_sets, ResultTurns.Spot, StatementChoices.case_row-touches}
 use Rattle.rule_laws.proofs.{StatementLabels.reach_label-touches, StatementParts.selected-touches, StatementRecords.put_with-touches}
 use Rattle.rule_laws.proofs.ResultSets.{PartAt, Room, Sets, calm_gives, calm_then, gives_calm, room_left, room_right, search_of, sets_after, sets_calm}
@@ -88,8 +88,8 @@ with_sets a rs f word first others b r word-in first-in others-in rest = record 
       let one = first_enters a.p a.is seen a.block a.below rs j f word first first-in t l in
       let two = each_enters a.p a.is seen a.block a.below (inside_access a.p.k a.block rs first) d.known d.value others slot others-in one.turn one.leads in
       let ends = (rest e.value (next_opened d.value others slot others-in d.known)).of seen e.known two.turn two.leads in
-      let here = ((first_record-touches f word first first-in).same j).frames in
-      let there = ((next_records-touches d.value others slot others-in).same d.known).frames in
+      let here = ((first_record-touches {strict = loose} refl f word first first-in).same j).frames in
+      let there = ((next_records-touches {strict = loose} refl d.value others slot others-in).same d.known).frames in
       record {
         turn = ends.turn;
         longer = longer_still j.frames d.known.frames i.frames here (longer_still d.known.frames e.known.frames i.frames there ends.longer);

@@ -4,7 +4,7 @@ use Rattle.std.proofs.{Common.slice_get, Common.subst, Common.sym, Common.true, 
 use Rattle.grammar.specs.Nodes.{Node}
 use Rattle.pas_tree.specs.{ExpressionTrees.AccessTree, StatementTrees.AssignmentTree, TreeNodes.access_node, TreeNodes.assignment_node}
 use Rattle.core_program.specs.ProgramRows.{routine_at}
-use Rattle.core_program.specs.declared.{program.Routine.Routine, rows.AccessRow.AccessRow, rows.NameRow.NameRow, rows.Row.Row}
+use Rattle.core_program.specs.declared.{program.Routine.Routine, rows.AccessRow.AccessRow, rows.NameRow.NameRow, rows.PartRow.PartRow, rows.Row.Row}
 use Rattle.check_steps.specs.{Names.usable, declared.regions.Definition.Definition, declared.regions.Found.Found}
 use Rattle.check_steps.specs.Known.{Known, find, name_at, row_at, with_row}
 use Rattle.check_steps.specs.Steps.{◌>>=◌, Step, change, give, look, put, when}
@@ -38,14 +38,14 @@ abbrev pub Aims : Spot → Bool → Target → Type 0
 Aims p hits t = (IsOther p t × (hits ≡ false)) ⊎ (IsOwn p t × (hits ≡ true))
 
 -- whose result a row gives
-record ResultOf (k : Known) (row : Row) (r : FunctionResult) : Type 0 where
-  assigned : Bool
-  number : ℕ
-  region : ℕ
-  routine : Routine
-  is : row ≡ Row.Name (NameRow.Routine assigned number region)
-  there : routine_at k.program number ≡ Some routine
-  same : r.function ≡ routine.name
+pub record ResultOf (k : Known) (row : Row) (r : FunctionResult) : Type 0 where
+  pub assigned : Bool
+  pub number : ℕ
+  pub region : ℕ
+  pub routine : Routine
+  pub is : row ≡ Row.Name (NameRow.Routine assigned number region)
+  pub there : routine_at k.program number ≡ Some routine
+  pub same : r.function ≡ routine.name
 
 of_result : (t : FunctionResult) (r : FunctionResult) → Target.Result t ≡ Target.Result r → r.function ≡ t.function
 of_result t r e = let same : t ≡ r = cc in sym (ap (λ (x : FunctionResult). x.function) same)
@@ -73,7 +73,7 @@ no_result : (b : Bool) (r : FunctionResult) → (if b then Target.Blockless else
 no_result true r e = cc
 no_result false r e = cc
 
-row_result : (k : Known) (frame : ℕ) (row : Row) (r : FunctionResult) → target_in k frame row ≡ Target.Result r → ResultOf k row r
+pub row_result : (k : Known) (frame : ℕ) (row : Row) (r : FunctionResult) → target_in k frame row ≡ Target.Result r → ResultOf k row r
 row_result k frame (Row.Name (NameRow.Routine assigned number region)) r e =
     routine_result k frame assigned number region (routine_at k.program number) r refl e
 row_result k frame (Row.Name (NameRow.RoutineFormal place level heading)) r e = absurd (no_result (is_some (signature_at k heading).result) r e)
@@ -93,6 +93,7 @@ said_routine (Row.Name (NameRow.Text token)) number region e = absurd cc
 said_routine (Row.Name (NameRow.Routine assigned n g)) number region e =
     let same : n ≡ number = cc in
     record { assigned = assigned; region = g; is = ap (λ m. Row.Name (NameRow.Routine assigned m g)) same }
+said_routine (Row.Part (PartRow.Completing first)) number region e = absurd cc
 said_routine row number region e = absurd cc
 
 stood : (p : Spot) (is : IsSpot p) (seen : Bool) (j : Known) (n number region : ℕ) (assigned : Bool) → Turn p is seen j

@@ -72,6 +72,7 @@ unfolding ◌>>=◌ change give
 accessed_of name (Meaning.Variable r of' l) j = refl
 accessed_of name Meaning.Unknown j = refl
 accessed_of name (Meaning.Constant v) j = refl
+accessed_of name (Meaning.Bound r of') j = refl
 accessed_of name Meaning.Other j = refl
 
 row_typed : (k j : Known) (frame : ℕ) (f : Found) (r : Row) → type_row k (type_meant (meaning_in j frame f r)) ≡ type_of_variable k r
@@ -138,6 +139,7 @@ typing_after p is {m = m} touches g = record {
 component_typed : (k : Known) (t : Option TypeRow) (bracket : ℕ) → type_row k (component_at t bracket).of ≡ component_type k t
 component_typed k None bracket = refl
 component_typed k (Some (TypeRow.Array packed index component cells)) bracket = refl
+component_typed k (Some (TypeRow.Conformant packed index component place)) bracket = refl
 component_typed k (Some t) bracket = refl
 
 indexed_typed : (p : Spot) (is : IsSpot p) (t : Option TypeRow) (v : Typed) (bracket first : ℕ) (i : Typed) → type_row p.k v.of ≡ t

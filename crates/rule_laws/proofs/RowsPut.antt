@@ -11,6 +11,7 @@ use Rattle.rule_laws.proofs.Faces.{said}
 
 pub index_none : (r : Option TypeRow) (p i : Typed) → said (index_row r p i) ≡ Row.Nothing
 index_none (Some (TypeRow.Array packed index component cells)) p i = refl
+index_none (Some (TypeRow.Conformant packed index component place)) p i = refl
 index_none r p i = refl
 
 pub field_none : (p : Typed) (f : Option SelectedField) → said (field_row p f) ≡ Row.Nothing

@@ -21,7 +21,7 @@ got_still [] ys n x e = absurd (let never : None ≡ Some x = e in cc)
 got_still (y ∷ xs) ys zero x e = e
 got_still (y ∷ xs) ys (suc n) x e = got_still xs ys n x e
 
-got_end : {X : Type 0} (xs : List X) (x : X) → slice_get (xs ++ x ∷ []) (length xs) ≡ Some x
+pub got_end : {X : Type 0} (xs : List X) (x : X) → slice_get (xs ++ x ∷ []) (length xs) ≡ Some x
 got_end [] x = refl
 got_end (y ∷ xs) x = got_end xs x
 
@@ -29,7 +29,7 @@ pub standing : {G : RoutineTree → Type 0} (n : ℕ) (f : Frame) → Lasting G 
 standing n f = record {
   puts = λ j m r quiet s. record { there = s.there; below = s.below };
   stays = λ j m s. record { there = s.there; below = s.below };
-  bodies = λ j m r s. record { there = s.there; below = s.below };
+  bodies = λ j m r same s. record { there = s.there; below = s.below };
   routines = λ j r s. record { there = s.there; below = s.below };
   frames = λ j g s. record { there = got_still j.frames (g ∷ []) n f s.there; below = s.below };
   regions = λ j token g s. record {
@@ -75,7 +75,7 @@ standing_all n f = record {
       let same = length-set j.regions region (record rows { labels = rows.labels ++ (value, token) ∷ [] }) in
       record { there = s.there; below = (let b = s.below in omega (arith, b, same)) };
   labels = λ j token value level s. record { there = s.there; below = s.below };
-  heads = λ j name number region s. record { there = s.there; below = s.below };
+  heads = λ j name number region named few s. record { there = s.there; below = s.below };
 }
 
 -- ---- a region of fields
@@ -92,7 +92,7 @@ opened_lasts {G = G} {I = I} c n f =
     record {
       puts = λ j m r quiet s. record { kept = c.puts j m r quiet s.kept; stands = e.puts j m r quiet s.stands; none = s.none };
       stays = λ j m s. record { kept = c.stays j m s.kept; stands = e.stays j m s.stands; none = s.none };
-      bodies = λ j m r s. record { kept = c.bodies j m r s.kept; stands = e.bodies j m r s.stands; none = s.none };
+      bodies = λ j m r same s. record { kept = c.bodies j m r same s.kept; stands = e.bodies j m r same s.stands; none = s.none };
       routines = λ j r s. record { kept = c.routines j r s.kept; stands = e.routines j r s.stands; none = s.none };
       frames = λ j g s. record { kept = c.frames j g s.kept; stands = e.frames j g s.stands; none = s.none };
       regions = λ j token g s. record {

@@ -10,7 +10,7 @@ use Rattle.statement_checker.specs.{Assignments.target_at, Parts.target_as, Sequ
 use Rattle.statement_checker.specs.Parts.{actuals_in, another_passed, another_record, assigned_to, assignment, bounded, call_alone, call_as, call_statement}
 use Rattle.statement_checker.specs.Parts.{call_with, condition_row, declared_call, first_record, for_begins, for_ends, passed_actual, selected, target_access}
 use Rattle.statement_checker.specs.declared.{assignments.Target.Target, loops.Control.Control, parts.ForBounds.ForBounds, parts.Opened.Opened}
-use Rattle.rule_laws.proofs.{Every.Every, Every.Of, ExpressionCallees.count_checked-touches, ExpressionThreats.threat_alone-touches, Faces.Shown, Faces.loose}
+use Rattle.rule_laws.proofs.{Every.Every, Every.Of, ExpressionCallees.count_checked-touches, ExpressionThreats.threat_alone-touches, Faces.Shown}
 use Rattle.rule_laws.proofs.{Parts.access_name-in, StatementActuals.no_width-touches, StatementCalls.call_row-touches, StatementCalls.procedure_at-touches}
 use Rattle.rule_laws.proofs.{StatementChoices.selector-touches, StatementConditions.condition-touches, StatementProcedures.required_call-touches}
 use Rattle.rule_laws.proofs.{StatementRecords.inside_record-touches, StatementSequences.add_element-touches, TokenPlaces.first_of_expression-in}
@@ -116,15 +116,16 @@ unfolding call_statement
 call_statement-touches frame label name actuals name-in actuals-in = bind-touches (procedure_at-touches frame name name-in) (λ c. bind-touches (look-touches
     (λ k. line_of k label name)) (λ line. call_as-touches frame line name c actuals name-in actuals-in))
 
-pub first_record-touches : {Q : ℕ → Type 0} (frame : ℕ) (word : ℕ) (a : AccessTree) → Every Q (access_node a)
-    → Touches Q loose (first_record frame word a)
+pub first_record-touches : {Q : ℕ → Type 0} {strict : Shown} → strict.frames ≡ false → (frame : ℕ) (word : ℕ) (a : AccessTree) → Every Q (access_node a)
+    → Touches Q strict (first_record frame word a)
 unfolding first_record
-first_record-touches frame word a a-in = bind-touches (access-touches frame a a-in) (λ v. bind-touches (inside_record-touches frame a.name v a-in.0) (λ inner.
+first_record-touches lax frame word a a-in = bind-touches (access-touches frame a a-in) (λ v.
+    bind-touches (inside_record-touches lax frame a.name v a-in.0) (λ inner.
     give-touches (record { frame = inner; last = record { slot = word; item = v.row } })))
 
-pub another_record-touches : {Q : ℕ → Type 0} (o : Opened) (n : NextAccessTree) → Of Q o.last.slot → Every Q (next_access_node n)
-    → Touches Q loose (another_record o n)
+pub another_record-touches : {Q : ℕ → Type 0} {strict : Shown} → strict.frames ≡ false → (o : Opened) (n : NextAccessTree) → Of Q o.last.slot
+    → Every Q (next_access_node n) → Touches Q strict (another_record o n)
 unfolding another_record
-another_record-touches o n slot-in n-in = bind-touches (access-touches o.frame n.access n-in.1)
-    (λ v. bind-touches (inside_record-touches o.frame n.access.name v n-in.1.0)
+another_record-touches lax o n slot-in n-in = bind-touches (access-touches o.frame n.access n-in.1)
+    (λ v. bind-touches (inside_record-touches lax o.frame n.access.name v n-in.1.0)
     (λ inner. bind-touches (add_element-touches o.last n.comma v.row slot-in) (λ last. give-touches (record { frame = inner; last = last }))))

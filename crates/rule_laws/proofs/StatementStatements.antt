@@ -1,5 +1,5 @@
 -- What the steps of `Rattle.statement_checker.specs.Statements` touch.
-use Rattle.std.proofs.Common.{◌∷◌, ◌≡◌, [], ℕ, List, None, Option, Some, map, refl, subst, sym}
+use Rattle.std.proofs.Common.{◌∷◌, ◌≡◌, [], ℕ, List, None, Option, Some, false, map, refl, subst, sym}
 use Rattle.grammar.specs.Nodes.{Node, row}
 use Rattle.pas_tree.specs.{Denoters.last_semicolon_node, ExpressionTrees.AccessTree, ExpressionTrees.ExpressionTree, StatementTrees.StatementTree}
 use Rattle.pas_tree.specs.{StatementTrees.StatementTrees, StatementTrees.StatementsTree, Statements.label_node, declared.statements.Label.Label}
@@ -14,7 +14,7 @@ use Rattle.statement_checker.specs.{Choices.selector, Parts.another_record, Part
 use Rattle.statement_checker.specs.Statements.{added_element, branch_step, branching, case_statement, compound, element, else_statement, if_statement}
 use Rattle.statement_checker.specs.Statements.{label_token, labelled_by, more_branches, more_statements, plain, repeat_statement, sequence, statement_step}
 use Rattle.statement_checker.specs.declared.{parts.Opened.Opened, parts.Selected.Selected, sequences.Branching.Branching, sequences.Element.Element}
-use Rattle.rule_laws.proofs.{DenoterVariants.choices-touches, Every.Every, Every.Of, Faces.loose, StatementChoices.case_row-touches}
+use Rattle.rule_laws.proofs.{DenoterVariants.choices-touches, Every.Every, Every.Of, Faces.Shown, Faces.loose, StatementChoices.case_row-touches}
 use Rattle.rule_laws.proofs.{StatementLabels.reach_label-touches, StatementRecords.put_with-touches}
 use Rattle.rule_laws.proofs.StatementLabels.{jump-touches, labelled-touches, leave-touches, leave_all-touches, mark-touches, reach_all-touches}
 use Rattle.rule_laws.proofs.StatementParts.{another_record-touches, assignment-touches, call_statement-touches, condition_row-touches, first_record-touches}
@@ -41,11 +41,11 @@ pub record_opened : {Q : ℕ → Type 0} (o : Opened) (n : NextAccessTree) → O
 unfolding another_record add_element link_element ◌>>=◌ change give
 record_opened o n here k = here
 
-pub next_records-touches : {Q : ℕ → Type 0} (o : Opened) (ns : List NextAccessTree) → Of Q o.last.slot → Every Q (row (map next_access_node ns))
-    → Touches Q loose (each another_record o ns)
-next_records-touches o [] here inside = give-touches o
-next_records-touches {Q = Q} o (n ∷ ns) here inside = bind-gives (λ (p : Opened). Of Q p.last.slot) (another_record-touches o n here inside.0)
-    (record_opened o n inside.0.0) (λ p p-in. next_records-touches p ns p-in inside.1)
+pub next_records-touches : {Q : ℕ → Type 0} {strict : Shown} → strict.frames ≡ false → (o : Opened) (ns : List NextAccessTree) → Of Q o.last.slot
+    → Every Q (row (map next_access_node ns)) → Touches Q strict (each another_record o ns)
+next_records-touches lax o [] here inside = give-touches o
+next_records-touches {Q = Q} lax o (n ∷ ns) here inside = bind-gives (λ (p : Opened). Of Q p.last.slot) (another_record-touches lax o n here inside.0)
+    (record_opened o n inside.0.0) (λ p p-in. next_records-touches lax p ns p-in inside.1)
 
 pub next_opened : {Q : ℕ → Type 0} (o : Opened) (ns : List NextAccessTree) → Of Q o.last.slot → Every Q (row (map next_access_node ns))
     → (k : Known) → Of Q (each another_record o ns k).value.last.slot
@@ -102,8 +102,8 @@ mutual
       bind-touches (statement_step-touches frame s plain-in.1.1.1.1.1.1.1)
       (λ inside. for_ends-touches label word direction b inside plain-in.0 plain-in.1.1.1.1.0))
   plain-touches {Q = Q} frame label (tree.a_with word first others do_word s) plain-in = bind-gives (λ (o : Opened). Of Q o.last.slot)
-      (first_record-touches frame word first plain-in.1.0) (first_opened frame word first plain-in.0) (λ one one-in.
-      bind-gives (λ (o : Opened). Of Q o.last.slot) (next_records-touches one others one-in plain-in.1.1.0)
+      (first_record-touches refl frame word first plain-in.1.0) (first_opened frame word first plain-in.0) (λ one one-in.
+      bind-gives (λ (o : Opened). Of Q o.last.slot) (next_records-touches refl one others one-in plain-in.1.1.0)
       (next_opened one others one-in plain-in.1.1.0) (λ all all-in.
       bind-touches (link_element-touches all.last 0 all-in) (λ _. bind-touches (statement_step-touches all.frame s plain-in.1.1.1.1) (λ inside.
       put_with-touches label word do_word inside plain-in.1.1.1.0))))

@@ -45,7 +45,7 @@ pub spelling : (k : Known) → Lasting Any (Spells k)
 spelling k = record {
   puts = λ j m r quiet i. record { words = i.words };
   stays = λ j m i. record { words = i.words };
-  bodies = λ j n r i. record { words = i.words };
+  bodies = λ j n r same i. record { words = i.words };
   routines = λ j r i. record { words = i.words };
   frames = λ j f i. record { words = i.words };
   regions = λ j token f i. record { words = i.words };
@@ -62,7 +62,7 @@ spelling_all k = record {
   kept = spelling k;
   declares = λ j region value token i. record { words = i.words };
   labels = λ j token value level i. record { words = i.words };
-  heads = λ j name number region i. record { words = i.words };
+  heads = λ j name number region named few i. record { words = i.words };
 }
 
 pub same_names : (k j : Known) (before : List ℕ) (x : ℕ) → Spells k j → has_name j before x ≡ has_name k before x

@@ -51,7 +51,7 @@ roomy_lasts : (k : Known) (b : BlockTree) → Lasting (IsOfText k b) (Roomy k)
 roomy_lasts k b = record {
   puts = λ j m r quiet s. put_roomy k j m r s;
   stays = λ j m s. put_roomy k j m (row_at j m) s;
-  bodies = λ j n r s. record { words = s.words; names = s.names; room = s.room };
+  bodies = λ j n r same s. record { words = s.words; names = s.names; room = s.room };
   routines = λ j r s. record { words = s.words; names = s.names; room = s.room };
   frames = λ j f s. record { words = s.words; names = s.names; room = s.room };
   regions = λ j token f s. record { words = s.words; names = s.names; room = s.room };
@@ -76,7 +76,7 @@ both_last k b =
     record {
       puts = λ j m r quiet s. record { sound = c.puts j m r quiet s.sound; roomy = e.puts j m r quiet s.roomy };
       stays = λ j m s. record { sound = c.stays j m s.sound; roomy = e.stays j m s.roomy };
-      bodies = λ j n r s. record { sound = c.bodies j n r s.sound; roomy = e.bodies j n r s.roomy };
+      bodies = λ j n r same s. record { sound = c.bodies j n r same s.sound; roomy = e.bodies j n r same s.roomy };
       routines = λ j r s. record { sound = c.routines j r s.sound; roomy = e.routines j r s.roomy };
       frames = λ j f s. record { sound = c.frames j f s.sound; roomy = e.frames j f s.roomy };
       regions = λ j token f s. record { sound = c.regions j token f s.sound; roomy = e.regions j token f s.roomy };
@@ -119,8 +119,8 @@ both_all k b =
         sound = c.labels j token value level s.sound;
         roomy = put_roomy k j token (Row.Name (NameRow.Label false value level 0)) s.roomy;
       };
-      heads = λ j name number region s. record {
-        sound = c.heads j name number region s.sound;
+      heads = λ j name number region named few s. record {
+        sound = c.heads j name number region named few s.sound;
         roomy = put_roomy k j name (Row.Name (NameRow.Routine false number region)) s.roomy;
       };
     }
@@ -302,7 +302,7 @@ block_gives x t frame (tree.a_block labels consts kinds variable_part routines b
 
 -- ---- the names of a part are different tokens
 
-name_has : (h : HeadingTree) → Has (heading_node h) (heading_name h)
+pub name_has : (h : HeadingTree) → Has (heading_node h) (heading_name h)
 name_has (headings.a_procedure (headings.procedure_heading word name formals)) = inr (inl refl)
 name_has (headings.a_function (headings.function_heading word name formals result)) = inr (inl refl)
 

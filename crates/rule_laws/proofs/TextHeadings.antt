@@ -201,7 +201,7 @@ sound_lasts k b = record {
   puts = λ j m r quiet s. put_sound k b j m r (λ function block e. absurd (no_forward r function block quiet e))
       (λ first e. absurd (no_completing r first quiet e)) s;
   stays = λ j m s. alike k b j (with_row j m (row_at j m)) refl (λ r n d e. e) (same_row j m) s;
-  bodies = λ j n r s. record { words = s.words; own = s.own; forward = s.forward; completing = s.completing };
+  bodies = λ j n r same s. record { words = s.words; own = s.own; forward = s.forward; completing = s.completing };
   routines = λ j r s. record { words = s.words; own = s.own; forward = s.forward; completing = s.completing };
   frames = λ j f s. record { words = s.words; own = s.own; forward = s.forward; completing = s.completing };
   regions = λ j token f s. alike k b j (and_region j token f) refl (λ r n d e. region_defined j token f r n d e) (λ n. refl) s;
@@ -242,6 +242,6 @@ sound_all k b = record {
       alike k b j (and_label j region value token) refl (λ r n d e. sym (label_defined j region value token r n) ∙ e) (λ n. refl) s;
   labels = λ j token value level s. put_sound k b j token (Row.Name (NameRow.Label false value level 0)) (λ function block e. absurd (no_name e))
       (λ first e. absurd (no_name e)) s;
-  heads = λ j name number region s. put_sound k b j name (Row.Name (NameRow.Routine false number region)) (λ function block e. absurd (no_name e))
+  heads = λ j name number region named few s. put_sound k b j name (Row.Name (NameRow.Routine false number region)) (λ function block e. absurd (no_name e))
       (λ first e. absurd (no_name e)) s;
 }

@@ -1,5 +1,5 @@
 -- The labels in front of the statements of a text.
-use Rattle.std.proofs.Common.{◌++◌, ◌<◌, ◌||◌, ◌∙◌, ◌∷◌, ◌≡◌, ◌⊎◌, [], ℕ, Bool, List, None, Option, Some, ap, arith, false, inl, inr, length, nat_eq, refl}
+use Rattle.std.proofs.Common.{◌++◌, ◌<◌, ◌||◌, ◌∙◌, ◌∷◌, ◌≡◌, [], ℕ, Bool, List, None, Option, Some, ap, arith, false, inl, inr, length, nat_eq, refl}
 use Rattle.std.proofs.Common.{slice_get, subst, suc, sym, true, unwrap_or, zero}
 use Rattle.std.proofs.lemmas.{Bool.Decides.nat_tests, List.append_assoc, Option.none-some}
 use Rattle.pas_lexer.specs.Lexed.{Lexed}
@@ -7,7 +7,7 @@ use Rattle.pas_tree.specs.{HeadingPlaces.heading_name, TreeNodes.compound_node, 
 use Rattle.pas_tree.specs.BlockTrees.{BlockTree, BodyTree, ProgramTree, RoutineTree, RoutineTrees, routine_body}
 use Rattle.pas_tree.specs.BlockTrees as tree
 use Rattle.pas_tree.specs.StatementTrees.{CompoundTree, compound_body}
-use Rattle.core_program.specs.{ProgramRows.type_in, declared.rows.NameRow.NameRow, declared.rows.Row.Row}
+use Rattle.core_program.specs.{ProgramRows.type_in, declared.rows.NameRow.NameRow, declared.rows.PartRow.PartRow, declared.rows.Row.Row}
 use Rattle.check_steps.specs.{Steps.◌>>=◌, Steps.Step, Steps.look, Words.known_at_start}
 use Rattle.check_steps.specs.Known.{Known, find_label, find_label_from, frame_at, label_at, row_at, type_at}
 use Rattle.check_steps.specs.Regions.{RegionRows, declared_in, or_else, region_at}
@@ -23,19 +23,20 @@ use Rattle.rule_laws.proofs.{LabelsTold.compound_tells, Outward.Outward, Outward
 use Rattle.rule_laws.proofs.{StatementLabels.reach_all-touches, StatementStatements.compound-touches, TextFields.IsTold, TextFields.Text, TextRoutines.no_split}
 use Rattle.rule_laws.proofs.Gives.{Gives, gives_both, gives_first, gives_none, gives_then}
 use Rattle.rule_laws.proofs.LabelTold.{Anywhere, Inside, IsWhere, Seen, Where, Wrong, anywhere, everywhere}
+use Rattle.rule_laws.proofs.Listed.{Listed, each_listed, listed_left, listed_right}
 use Rattle.rule_laws.proofs.TextTables.{IsHome, Labelled, Labelling, Programs, Tidy, defines_first, labelling, outer_frame, program_walked}
 use Rattle.rule_laws.proofs.Touches.{Same, Touches, bind-touches, enter_block-touches, give-touches, late-touches, look-touches, same_in, same_then}
 use Rattle.rule_laws.specs.{BlockLabels.compound_labels, CaseLaws.late_at, NameLaws.block_labels, RegionNames.labels_of}
-use Rattle.rule_laws.specs.TextLaws.{MarksAreTold, TextsTellMarks, TextsTellUndeclared, UndeclaredAreTold, all_labels, all_labels_in, has_label, labels_in_body}
-use Rattle.rule_laws.specs.TextLaws.{labels_in_routine, labels_in_routines, statement_labels, statement_labels_in}
+use Rattle.rule_laws.specs.TextLaws.{MarksAreTold, TextsTellMarks, UndeclaredAreTold, all_labels, all_labels_in, has_label, labels_in_body, labels_in_routine}
+use Rattle.rule_laws.specs.TextLaws.{labels_in_routines, statement_labels, statement_labels_in}
 use Rattle.rule_laws.specs.TextParts.{OfBody, OfEach, OfRoutine, OfRoutines}
 
 -- ---- what the statements leave of the tables
 
-record Coded (k j : Known) : Type 0 where
-  same : Same Anywhere loose k j
+pub record Coded (k j : Known) : Type 0 where
+  pub same : Same Anywhere loose k j
 
-coded : {k : Known} {A : Type 0} {m : Step A} → Touches Anywhere loose m → Keeps (Coded k) m
+pub coded : {k : Known} {A : Type 0} {m : Step A} → Touches Anywhere loose m → Keeps (Coded k) m
 coded {k = k} {m = m} touches = record { of = λ j i. record { same = same_then k j (m j).known i.same (touches.same j) } }
 
 statement_part-touches : (frame : ℕ) (span : Span) (c : CompoundTree) → Touches Anywhere loose (statement_part frame span c)
@@ -54,11 +55,11 @@ mutual
       bind-touches (code_routines-touches routines) (λ _.
       statement_part-touches frame (span_of (tree.a_block labels constants types variables routines body)) body))
 
-  code_routines-touches : (rs : RoutineTrees) → Touches Anywhere loose (code_routines rs)
+  pub code_routines-touches : (rs : RoutineTrees) → Touches Anywhere loose (code_routines rs)
   code_routines-touches tree.end_of_routines = give-touches tt
   code_routines-touches (tree.more_routines r rest) = bind-touches (code_routine-touches r) (λ _. code_routines-touches rest)
 
-  code_routine-touches : (r : RoutineTree) → Touches Anywhere loose (code_routine r)
+  pub code_routine-touches : (r : RoutineTree) → Touches Anywhere loose (code_routine r)
   code_routine-touches (tree.a_routine heading semicolon body last_semicolon) = code_body-touches (is_function heading) (heading_name heading) body
 
   code_body-touches : (function : Bool) (name : ℕ) (body : BodyTree) → Touches Anywhere loose (code_body function name body)
@@ -69,9 +70,9 @@ mutual
 -- ---- the statements of a block
 
 -- what is known of the text where its statements begin
-record Begun (x : Text) (k : Known) : Type 0 where
-  tidy : Tidy k
-  words : k.words ≡ x.k.words
+pub record Begun (x : Text) (k : Known) : Type 0 where
+  pub tidy : Tidy k
+  pub words : k.words ≡ x.k.words
 
 types_before : (k j : Known) → Same Anywhere loose k j → (n region : ℕ) → fields_in (type_at j n) ≡ Some region → fields_in (type_at k n) ≡ Some region
 types_before k j s n region e = elim (s.sayings n) [
@@ -89,15 +90,16 @@ or_none : (a : Bool) → (a || false) ≡ a
 or_none true = refl
 or_none false = refl
 
-wrong_at : (p : Where) (s : Bool) (before after : List ℕ) → (s || has_label p.k before p.t) ≡ true → Wrong p s (before ++ p.t ∷ after)
+pub wrong_at : (p : Where) (s : Bool) (before after : List ℕ) → (s || has_label p.k before p.t) ≡ true → Wrong p s (before ++ p.t ∷ after)
 wrong_at p s [] after e = inl (refl, sym (or_none s) ∙ e)
 wrong_at p s (y ∷ ys) after e =
     let q = nat_eq (label_at p.k p.t) (label_at p.k y) in
     inr (wrong_at p (s || q) ys after (or_assoc s q (has_label p.k ys p.t) ∙ e))
 
 -- where the label's step tells once it may mark no statement
-told_from : (x : Text) (k : Known) → Begun x k → (frame : ℕ) → Outward k.frames frame → (c : CompoundTree) (j : Known) → Coded k j → (label : ℕ) (s : Bool)
-    → (s ≡ true → find_label j frame (label_at j label) ≡ None) → Wrong (record { k = j; frame = frame; t = label }) s (compound_labels c)
+pub told_from : (x : Text) (k : Known) → Begun x k → (frame : ℕ) → Outward k.frames frame → (c : CompoundTree) (j : Known) → Coded k j → (label : ℕ) (s : Bool)
+    → (s ≡ true → fine_in (frame_at j frame).level (row_of j (find_label j frame (label_at j label))) ≡ false)
+    → Wrong (record { k = j; frame = frame; t = label }) s (compound_labels c)
     → In (late_at 15 label) (compound frame c j).broken
 told_from x k begun frame outward c j i label s spent wrong =
     let p : Where = record { k = j; frame = frame; t = label } in
@@ -116,11 +118,15 @@ told_from x k begun frame outward c j i label s spent wrong =
         words = refl;
         regions = refl;
         sayings = λ n. inr refl;
-        spent = λ e. ap (λ (o : Option ℕ). fine_in (frame_at j frame).level (row_of j o)) (spent e);
+        spent = spent;
       };
       inside = λ g e. subst (Inside p j) (sym e) here;
     } in
     ((compound_tells p is S frame refl c).of s j seen).told wrong
+
+-- where none is found
+unfound : (j : Known) (frame v : ℕ) → find_label j frame v ≡ None → fine_in (frame_at j frame).level (row_of j (find_label j frame v)) ≡ false
+unfound j frame v none = ap (λ (o : Option ℕ). fine_in (frame_at j frame).level (row_of j o)) none
 
 -- what the statements of a block give, by their labels
 record Giver (x : Text) (k : Known) (T : List ℕ → Type 0) : Type 0 where
@@ -164,15 +170,10 @@ not_there j v region none = by (declared_in j.regions region v) refl
 at_below : (j : Known) (n : ℕ) (f : Frame) (bound : ℕ) → slice_get j.frames n ≡ Some f → f.region < bound → (frame_at j n).region < bound
 at_below j n f bound own below = subst (λ (o : Option Frame). (unwrap_or o no_frame).region < bound) (sym own) below
 
--- one of these tokens
-abbrev Listed : List ℕ → ℕ → Type 0
-Listed [] n = ⊥
-Listed (x ∷ xs) n = (x ≡ n) ⊎ Listed xs n
-
 same_number : {a b : ℕ} → a ≡ b → nat_eq a b ≡ true
 same_number h = grind (arith, nat_tests)
 
-listed_has : (k : Known) (xs : List ℕ) (n x : ℕ) → Listed xs n → label_at k n ≡ label_at k x → has_label k xs x ≡ true
+pub listed_has : (k : Known) (xs : List ℕ) (n x : ℕ) → Listed xs n → label_at k n ≡ label_at k x → has_label k xs x ≡ true
 listed_has k [] n x h same = absurd h
 listed_has k (a ∷ xs) n x (inl e) same = first (nat_eq (label_at k x) (label_at k a)) (has_label k xs x) (same_number (sym same ∙ ap (label_at k) (sym e)))
   where
@@ -200,22 +201,23 @@ undeclared x k all begun declared = record {
         let never : true ≡ false = sym (listed_has x.k all d label is.1 (is.0 ∙ spelled)) ∙ off in cc in
         let wrong = subst (Wrong p true) (sym same) (wrong_at p true before after refl) in
         w (late_at 15 label)
-        (told_from x k begun frame outward c j i label true (λ e. none_found j (label_at j label) (length j.frames) (Some frame) none) wrong);
+        (told_from x k begun frame outward c j i label true
+        (λ e. unfound j frame (label_at j label) (none_found j (label_at j label) (length j.frames) (Some frame) none)) wrong);
   };
 }
 
 -- ---- blocks in blocks
 
-looked_gives : {I : Known → Type 0} {Told : Break → Type 0} {A B X : Type 0} (f : Known → A) (g : A → Step B)
+pub looked_gives : {I : Known → Type 0} {Told : Break → Type 0} {A B X : Type 0} (f : Known → A) (g : A → Step B)
     → ((j : Known) → I j → Gives I Told (g (f j)) X) → Gives I Told (look f >>= g) X
 unfolding look ◌>>=◌
 looked_gives f g rest = record { of = λ j i w. (rest j i).of j i w }
 
-record RoutineRow (r : Row) (number region : ℕ) : Type 0 where
-  assigned : Bool
-  is : r ≡ Row.Name (NameRow.Routine assigned number region)
+pub record RoutineRow (r : Row) (number region : ℕ) : Type 0 where
+  pub assigned : Bool
+  pub is : r ≡ Row.Name (NameRow.Routine assigned number region)
 
-said_routine : (r : Row) (number region : ℕ) → said r ≡ Row.Name (NameRow.Routine false number region) → RoutineRow r number region
+pub said_routine : (r : Row) (number region : ℕ) → said r ≡ Row.Name (NameRow.Routine false number region) → RoutineRow r number region
 said_routine (Row.Type t) number region e = absurd cc
 said_routine (Row.Name (NameRow.Constant of' v)) number region e = absurd cc
 said_routine (Row.Name (NameRow.Text token)) number region e = absurd cc
@@ -224,6 +226,7 @@ said_routine (Row.Name (NameRow.Routine assigned n g)) number region e =
     let a : n ≡ number = cc in
     let b : g ≡ region = cc in
     record { assigned = assigned; is = ap (λ i. Row.Name (NameRow.Routine assigned i g)) a ∙ ap (λ i. Row.Name (NameRow.Routine assigned number i)) b }
+said_routine (Row.Part (PartRow.Completing first)) number region e = absurd cc
 said_routine r number region e = absurd cc
 
 -- the region of a routine's row is as it was where the statements began
@@ -235,7 +238,7 @@ home_then k j name tidy i (Row.Name (NameRow.Routine assigned number region)) e 
 home_then k j name tidy i (Row.Name r) e = tidy.first
 home_then k j name tidy i r e = tidy.first
 
-own_then : (k j : Known) (name : ℕ) → Tidy k → Coded k j → Outward k.frames (own_frame j name)
+pub own_then : (k j : Known) (name : ℕ) → Tidy k → Coded k j → Outward k.frames (own_frame j name)
 own_then k j name tidy i =
     subst (λ (rs : List RegionRows). Outward k.frames (region_at rs (routine_region (row_at j name))).frame) (sym i.same.regions)
     (home_then k j name tidy i (row_at j name) refl).outward
@@ -279,19 +282,6 @@ mutual
 
 -- ---- label parts
 
-listed_left : (xs ys : List ℕ) (n : ℕ) → Listed xs n → Listed (xs ++ ys) n
-listed_left [] ys n h = absurd h
-listed_left (x ∷ xs) ys n (inl e) = inl e
-listed_left (x ∷ xs) ys n (inr h) = inr (listed_left xs ys n h)
-
-listed_right : (xs ys : List ℕ) (n : ℕ) → Listed ys n → Listed (xs ++ ys) n
-listed_right [] ys n h = h
-listed_right (x ∷ xs) ys n h = inr (listed_right xs ys n h)
-
-each_listed : (L : ℕ → Type 0) (xs : List ℕ) → ((n : ℕ) → Listed xs n → L n) → Each L xs
-each_listed L [] h = tt
-each_listed L (x ∷ xs) h = (h x (inl refl), each_listed L xs (λ n i. h n (inr i)))
-
 block_own : (L : ℕ → Type 0) (b : BlockTree) → ((n : ℕ) → Listed (all_labels b) n → L n) → Each L (block_labels b)
 block_own L (tree.a_block labels constants types variables routines body) h =
     each_listed L (labels_of labels) (λ n i. h n (listed_left (labels_of labels) (labels_in_routines routines) n i))
@@ -322,16 +312,16 @@ mutual
 -- ---- the laws
 
 -- what is known where the statements of a text begin
-record Starts (l : Lexed) (t : ProgramTree) : Type 0 where
-  begun : Begun (record { k = known_at_start l; bs = broken l t }) (program_step t (known_at_start l)).known
-  programs : Programs l t (Listed (all_labels t.block)) (Listed (block_labels t.block))
-  declared : (region v d : ℕ) → declared_in (program_step t (known_at_start l)).known.regions region v ≡ Some d
+pub record Starts (l : Lexed) (t : ProgramTree) : Type 0 where
+  pub begun : Begun (record { k = known_at_start l; bs = broken l t }) (program_step t (known_at_start l)).known
+  pub programs : Programs l t (Listed (all_labels t.block)) (Listed (block_labels t.block))
+  pub declared : (region v d : ℕ) → declared_in (program_step t (known_at_start l)).known.regions region v ≡ Some d
       → (label_at (known_at_start l) d ≡ v) × Listed (all_labels t.block) d
 
 own_listed : (b : BlockTree) (n : ℕ) → Listed (block_labels b) n → Listed (all_labels b) n
 own_listed (tree.a_block labels constants types variables routines body) n h = listed_left (labels_of labels) (labels_in_routines routines) n h
 
-starts : (l : Lexed) (t : ProgramTree) → Starts l t
+pub starts : (l : Lexed) (t : ProgramTree) → Starts l t
 starts l t =
     let own = block_labels t.block in
     let all = all_labels t.block in
@@ -389,7 +379,7 @@ found_low j v n around f (suc (suc m)) bound own outer last below none =
     outermost_none j v zero = refl
     outermost_none j v (suc m) = refl
 
-main_told : (x : Text) {k : Known} (T : List ℕ → Type 0) (frame : ℕ) (b : BlockTree)
+pub main_told : (x : Text) {k : Known} (T : List ℕ → Type 0) (frame : ℕ) (b : BlockTree)
     → ((c : CompoundTree) → Gives (Coded k) (IsTold x) (compound frame c) (T (compound_labels c)))
     → Gives (Coded k) (IsTold x) (code_block frame b) (T (statement_labels b))
 unfolding statement_part
@@ -427,14 +417,16 @@ main_gives l t s c = record {
       = ap (λ (gs : List Frame). slice_get gs s.programs.around) frames
       ∙ got_still fs (valued.frames.more ++ i.same.frames.more) s.programs.around outer_frame s.programs.last in
       let wrong = subst (Wrong p true) (sym same) (wrong_at p true before after refl) in
-      w (late_at 15 label) (told_from x k s.begun d.value (starts_outward l t s) c j i label true (λ e.
-      found_low j (label_at j label) d.value s.programs.around f (length j.frames) (length (defines_first l t).regions) there s.programs.outer last
-      s.programs.stands.below none) wrong);
+      w (late_at 15 label) (told_from x k s.begun d.value (starts_outward l t s) c j i label true (λ e. unfound j d.value (label_at j label)
+      (found_low j (label_at j label) d.value s.programs.around f (length j.frames) (length (defines_first l t).regions) there s.programs.outer last
+      s.programs.stands.below none)) wrong);
 }
 
-pub text_declared_law : TextsTellUndeclared
+pub text_declared : (l : Lexed) (t : ProgramTree) → let k = known_at_start l in
+    UndeclaredAreTold k (broken l t) (block_labels t.block) (statement_labels t.block)
+    × OfRoutines (λ r. UndeclaredAreTold k (broken l t) (all_labels t.block) (statement_labels_in (routine_body r))) t.block
 unfolding check_step ◌>>=◌
-text_declared_law l t =
+text_declared l t =
     let x : Text = record { k = known_at_start l; bs = broken l t } in
     let d = program_step t (known_at_start l) in
     let s = starts l t in

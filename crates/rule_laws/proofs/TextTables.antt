@@ -141,7 +141,7 @@ pub tidy_lasts : {G : RoutineTree → Type 0} → Lasting G Tidy
 tidy_lasts = record {
   puts = λ j m r quiet s. quiet_tidy j m r quiet s;
   stays = λ j m s. put_tidy j m (row_at j m) (λ region e. s.typed m region e) (λ assigned number region e. s.heads m assigned number region e) s;
-  bodies = λ j n r s. record {
+  bodies = λ j n r same s. record {
     typed = λ n region e. (let x = s.typed n region e in record { there = x.there; none = x.none });
     heads = λ n assigned number region e. (let x = s.heads n assigned number region e in record { there = x.there; outward = x.outward });
     first = record { there = s.first.there; outward = s.first.outward };
@@ -213,7 +213,7 @@ valued_lasts : {G : RoutineTree → Type 0} (y : Labelling) → Lasting G (Value
 valued_lasts y = record {
   puts = λ j m r quiet s. valued_row y j m r s;
   stays = λ j m s. valued_row y j m (row_at j m) s;
-  bodies = λ j m r s. record { words = s.words; declared = s.declared; many = s.many; below = s.below; frames = s.frames };
+  bodies = λ j m r same s. record { words = s.words; declared = s.declared; many = s.many; below = s.below; frames = s.frames };
   routines = λ j r s. record { words = s.words; declared = s.declared; many = s.many; below = s.below; frames = s.frames };
   frames = λ j g s. record {
     words = s.words;
@@ -255,7 +255,7 @@ walked_lasts {G = G} y S =
     record {
       puts = λ j m r quiet s. record { tidy = c.puts j m r quiet s.tidy; valued = e.puts j m r quiet s.valued; outward = s.outward };
       stays = λ j m s. record { tidy = c.stays j m s.tidy; valued = e.stays j m s.valued; outward = s.outward };
-      bodies = λ j n r s. record { tidy = c.bodies j n r s.tidy; valued = e.bodies j n r s.valued; outward = s.outward };
+      bodies = λ j n r same s. record { tidy = c.bodies j n r same s.tidy; valued = e.bodies j n r same s.valued; outward = s.outward };
       routines = λ j r s. record { tidy = c.routines j r s.tidy; valued = e.routines j r s.valued; outward = s.outward };
       frames = λ j f s. record { tidy = c.frames j f s.tidy; valued = e.frames j f s.valued; outward = λ g g-in. outward_more j.frames f g (s.outward g g-in) };
       regions = λ j token f s. record {
@@ -321,7 +321,13 @@ open_lasts {G = G} y S n f =
         beyond = s.beyond;
         free = put_free j m (row_at j m) f.region (s.free m) s.free;
       };
-      bodies = λ j m r s. record { walked = c.bodies j m r s.walked; stands = e.bodies j m r s.stands; own = s.own; beyond = s.beyond; free = s.free };
+      bodies = λ j m r same s. record {
+        walked = c.bodies j m r same s.walked;
+        stands = e.bodies j m r same s.stands;
+        own = s.own;
+        beyond = s.beyond;
+        free = s.free;
+      };
       routines = λ j r s. record { walked = c.routines j r s.walked; stands = e.routines j r s.stands; own = s.own; beyond = s.beyond; free = s.free };
       frames = λ j g s. record { walked = c.frames j g s.walked; stands = e.frames j g s.stands; own = s.own; beyond = s.beyond; free = s.free };
       regions = λ j token g s. record {
@@ -477,7 +483,7 @@ define_next_label-open : (y : Labelling) (S : ℕ → Type 0) (n : ℕ) (f : Fra
 unfolding define_next_label
 define_next_label-open y S n f u l ok = define_label-open y S n f l.number ok
 
-each_next : (L : ℕ → Type 0) (ls : List NextLabel) → Each L (map label_token ls) → Each (λ (l : NextLabel). L l.number) ls
+pub each_next : (L : ℕ → Type 0) (ls : List NextLabel) → Each L (map label_token ls) → Each (λ (l : NextLabel). L l.number) ls
 each_next L [] h = tt
 each_next L (l ∷ ls) h = (h.0, each_next L ls h.1)
 
@@ -510,7 +516,7 @@ define_body-open y S n f (tree.a_block_body b) all = define_block-open y S n f b
 abbrev pub Labelled : Labelling → RoutineTree → Type 0
 Labelled y r = Each y.L (labels_in_body (routine_body r))
 
-abbrev OfOther : (RoutineTree → Type 0) → Option RoutineTree → Type 0
+abbrev pub OfOther : (RoutineTree → Type 0) → Option RoutineTree → Type 0
 OfOther P None = Unit {0}
 OfOther P (Some r) = P r
 

@@ -1,7 +1,7 @@
 -- The tokens of a text are counted, so none stands twice.
-use Rattle.std.proofs.Common.{◌++◌, ◌+◌, ◌<◌, ◌∷◌, ◌≡◌, ◌≤◌, [], ℕ, List, ap, arith, inl, inr, length, refl, subst, suc, sym}
+use Rattle.std.proofs.Common.{◌++◌, ◌+◌, ◌<◌, ◌∙◌, ◌∷◌, ◌≡◌, ◌≤◌, [], ℕ, List, ap, arith, inl, inr, length, refl, subst, suc, sym}
 use Rattle.std.proofs.lemmas.List.{length-append, length-map}
-use Rattle.pas_lexer.specs.Lexed.{Lexed}
+use Rattle.pas_lexer.specs.{Lexed.Lexed, declared.kinds.Token.Token}
 use Rattle.grammar.specs.Nodes.{Item, Leaf, Node, Nothing, Pair, spell}
 use Rattle.grammar.specs.declared.terminals.Terminal.{Terminal}
 use Rattle.pas_tree.specs.{BlockTrees.ProgramTree, TreeNodes.tree_node}
@@ -89,6 +89,12 @@ length_numbered n (k ∷ ks) = ap suc (length_numbered (n + 1) ks)
 length_items : (ks : List Terminal) → length (items_from ks 0) ≡ length ks
 unfolding items_from
 length_items ks = length_numbered 0 ks
+
+pub text_length : (tokens : List Token) (t : ProgramTree) → spell (tree_node t) ≡ items_of tokens → length (spell (tree_node t)) ≡ length tokens
+text_length tokens t spelled_as =
+    let ks = terminals_of tokens in
+    let kinds : length ks ≡ length tokens = length-map tokens (λ t. terminal_of t.kind) in
+    ap (λ (is : List Item). length is) spelled_as ∙ length_items ks ∙ kinds
 
 pub text_tokens : (l : Lexed) (t : ProgramTree) → spell (tree_node t) ≡ items_of l.tokens → Every (λ n. n < length (known_at_start l).words) (tree_node t)
 text_tokens l t spelled_as =

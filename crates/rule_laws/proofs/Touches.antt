@@ -8,8 +8,9 @@ use Rattle.check_steps.specs.{Breaks.number, Steps.threaten, Steps.too_big, Step
 use Rattle.check_steps.specs.Known.{Known, and_choice, is_chosen, row_at, same_choice, with_row}
 use Rattle.check_steps.specs.Steps.{◌>>=◌, Step, add_chosen, ask, change, each, early, enter_block, extend, give, hold, late, look, open_frame, put, release}
 use Rattle.check_steps.specs.declared.breaks.{Break.Break, Broken.Broken, Broken.TheVariants.Early, Broken.TheVariants.Late, Broken.TheVariants.TooBig}
+use Rattle.statement_checker.specs.Assignments.{assigned_in}
 use Rattle.rule_laws.proofs.{Breaks.Each, Breaks.both, Every.Every, Every.Of}
-use Rattle.rule_laws.proofs.Faces.{Shown, Shows, face, fine_in, loose, row_either, said, unsaid_fine}
+use Rattle.rule_laws.proofs.Faces.{Shown, Shows, face, fine_in, row_either, said, unsaid_fine, unsaid_given}
 
 -- ---- where rules are broken
 
@@ -45,6 +46,7 @@ pub record Same (Q : ℕ → Type 0) (strict : Shown) (k j : Known) : Type 0 whe
   pub sayings : (n : ℕ) → Says Q k j n
   pub chosen : (list : ℕ) → (Of Q list → ⊥) → (v : ℤ) → is_chosen j list v ≡ is_chosen k list v
   pub spent : (n level : ℕ) → fine_in level (row_at k n) ≡ false → fine_in level (row_at j n) ≡ false
+  pub given : strict.results ≡ true → (n : ℕ) → assigned_in (row_at k n) ≡ false → assigned_in (row_at j n) ≡ false
 
 pub record Touches (Q : ℕ → Type 0) (strict : Shown) {A : Type 0} (m : Step A) : Type 0 where
   pub same : (k : Known) → Same Q strict k (m k).known
@@ -75,6 +77,7 @@ same_in k = record {
   sayings = λ n. inr refl;
   chosen = λ list h v. refl;
   spent = λ n level e. e;
+  given = λ _ n e. e;
 }
 
 beside_after : {Q : ℕ → Type 0} {strict : Shown} (k j : Known) → Same Q strict k j → (n : ℕ) → IsBeside Q k n → IsBeside Q j n
@@ -104,6 +107,7 @@ same_then k j i a b = record {
   sayings = λ n. said_then k j i n a.words (a.sayings n) (b.sayings n);
   chosen = λ list h v. b.chosen list h v ∙ a.chosen list h v;
   spent = λ n level e. b.spent n level (a.spent n level e);
+  given = λ strictly n e. b.given strictly n (a.given strictly n e);
 }
 
 -- ---- rows put
@@ -135,6 +139,13 @@ put_spent k m n level r new e = elim (row_either k m n r) [
   | inr p ↦ ap (fine_in level) p.1 ∙ new p.0 e
 ]
 
+pub put_given : (k : Known) (m n : ℕ) (r : Row) → (n ≡ m → assigned_in (row_at k n) ≡ false → assigned_in r ≡ false)
+    → assigned_in (row_at k n) ≡ false → assigned_in (row_at (with_row k m r) n) ≡ false
+put_given k m n r new e = elim (row_either k m n r) [
+  | inl old ↦ ap assigned_in old ∙ e
+  | inr p ↦ ap assigned_in p.1 ∙ new p.0 e
+]
+
 same_put : {Q : ℕ → Type 0} {strict : Shown} (k : Known) (m : ℕ) (r : Row) → Of Q m → said r ≡ Row.Nothing → Same Q strict k (with_row k m r)
 same_put {Q = Q} {strict = strict} k m r here none = record {
   words = refl;
@@ -148,6 +159,7 @@ same_put {Q = Q} {strict = strict} k m r here none = record {
   sayings = λ n. put_said k m n r (inl here) none;
   chosen = λ list h v. refl;
   spent = λ n level e. put_spent k m n level r (λ _ x. unsaid_fine level r none) e;
+  given = λ _ n e. put_given k m n r (λ _ x. unsaid_given r none) e;
 }
 
 -- the last token's row
@@ -164,6 +176,7 @@ same_end {Q = Q} {strict = strict} k r none = let m = length k.words - 1 in reco
   sayings = λ n. put_said k m n r (inr refl) none;
   chosen = λ list h v. refl;
   spent = λ n level e. put_spent k m n level r (λ _ x. unsaid_fine level r none) e;
+  given = λ _ n e. put_given k m n r (λ _ x. unsaid_given r none) e;
 }
 
 pub same_changed : {Q : ℕ → Type 0} {strict : Shown} (k : Known) (m : ℕ) (g : Row → Row) → Shows strict g → Same Q strict k (with_row k m (g (row_at k m)))
@@ -179,6 +192,7 @@ same_changed {Q = Q} {strict = strict} k m g s = let r = g (row_at k m) in recor
   sayings = λ n. changed_said k m n r (s.says (row_at k m));
   chosen = λ list h v. refl;
   spent = λ n level e. put_spent k m n level r (λ at x. s.spends level (row_at k m) (ap (λ i. fine_in level (row_at k i)) (sym at) ∙ x)) e;
+  given = λ strictly n e. put_given k m n r (λ at x. s.gives strictly (row_at k m) (ap (λ i. assigned_in (row_at k i)) (sym at) ∙ x)) e;
 }
 
 -- ---- lists of values that choose
@@ -224,6 +238,7 @@ same_choices {Q = Q} k list v here = record {
   sayings = λ n. inr refl;
   chosen = λ l h w. other_chosen k list l v w (λ e. h (subst (Of Q) (sym e) here));
   spent = λ n level e. e;
+  given = λ _ n e. e;
 }
 
 -- ---- steps
@@ -285,9 +300,9 @@ unfolding look ◌>>=◌ change
 changed-touches number g shows = record { same = λ k. same_changed k number g shows; told = λ k. tt }
 
 -- Where it is strict no frame is opened.
-pub open_frame-touches : {Q : ℕ → Type 0} (f : Frame) → Touches Q loose (open_frame f)
+pub open_frame-touches : {Q : ℕ → Type 0} {strict : Shown} → strict.frames ≡ false → (f : Frame) → Touches Q strict (open_frame f)
 unfolding extend
-open_frame-touches f = record {
+open_frame-touches lax f = record {
   same = λ k. record {
     words = refl;
     texts = refl;
@@ -295,11 +310,12 @@ open_frame-touches f = record {
     regions = refl;
     many = refl;
     frames = record { more = f ∷ []; is = refl };
-    still = λ e. absurd (let never : false ≡ true = e in cc);
+    still = λ e. absurd (let never : false ≡ true = sym lax ∙ e in cc);
     rows = λ n h. refl;
     sayings = λ n. inr refl;
     chosen = λ list h v. refl;
     spent = λ n level e. e;
+    given = λ _ n e. e;
   };
   told = λ k. tt;
 }
@@ -327,6 +343,7 @@ unseen {strict = strict} k j words program regions frames choices = record {
   sayings = λ n. inr (ap (λ p. said (row_in p n)) program);
   chosen = λ list h v. ap (λ (cs : List (ℕ × ℤ)). list_any (same_choice (list, v)) cs) choices;
   spent = λ n level e. ap (λ p. fine_in level (row_in p n)) program ∙ e;
+  given = λ _ n e. ap (λ p. assigned_in (row_in p n)) program ∙ e;
 }
 
 pub hold-touches : {Q : ℕ → Type 0} {strict : Shown} (variable : ℕ) → Touches Q strict (hold variable)

@@ -6,6 +6,7 @@ pub mod FunctionAssignments
 pub mod FunctionResults
 pub mod LabelLaws
 pub mod Laws
+pub mod LeftNames
 pub mod NameLaws
 pub mod RegionNames
 pub mod ResultLaws

@@ -1,15 +1,17 @@
 -- The names that a region defines, by their tokens, in the order in which they are defined (6.2.2.7).
 use Rattle.std.specs.Prelude.{if◌then◌else◌, ◌++◌, ◌||◌, ◌∷◌, [], ℕ, Bool, List, None, Option, Some, is_some, map}
 use Rattle.std.specs.{Prelude.nat_eq, List.list_any}
-use Rattle.pas_tree.specs.{ConstantTrees.NamesTree, HeadingPlaces.heading_name}
+use Rattle.pas_tree.specs.{ConstantTrees.NamesTree, HeadingPlaces.heading_name, SchemaTrees.FormalTypeTree}
+use Rattle.pas_tree.specs.{SchemaTrees.SchemaTree, declared.schemas.NextSpec.NextSpec, declared.schemas.Spec.Spec}
 use Rattle.pas_tree.specs.BlockTrees.{BlockTree, ConstantPartTree, LabelPartTree, ParametersTree, TypeDefinitionTree}
 use Rattle.pas_tree.specs.BlockTrees.{TypePartTree, VariableDeclarationTree, VariablePartTree}
 use Rattle.pas_tree.specs.BlockTrees as blocks
 use Rattle.pas_tree.specs.DenoterTrees.{ArmTree, ArmTrees, ArrayTree, DenoterTree, DenoterTrees, FieldsTree, FixedTree}
 use Rattle.pas_tree.specs.DenoterTrees.{PartTree, SectionTree, SectionTrees, StructureTree, VariantsTree}
 use Rattle.pas_tree.specs.DenoterTrees as denoters
-use Rattle.pas_tree.specs.HeadingTrees.{FormalTree, FormalTrees, FormalsTree, HeadingTree, HeldFormals}
+use Rattle.pas_tree.specs.HeadingTrees.{FormalNamesTree, FormalTree, FormalTrees, FormalsTree, HeadingTree, HeldFormals}
 use Rattle.pas_tree.specs.HeadingTrees as headings
+use Rattle.pas_tree.specs.SchemaTrees as schemas
 use Rattle.pas_tree.specs.declared.{constants.NextName.NextName, denoters.TagField.TagField}
 use Rattle.pas_tree.specs.declared.blocks.{ConstantDefinition.ConstantDefinition, NextLabel.NextLabel}
 use Rattle.check_steps.specs.{Known.Known, Known.name_at, Regions.defined_in}
@@ -118,9 +120,30 @@ block_names (blocks.a_block labels constants types variables routines body) =
 
 -- ---- formal parameters, which are names of the block's region
 
+abbrev pub spec_names : Spec → List ℕ
+spec_names s = s.least ∷ s.greatest ∷ []
+
+abbrev pub more_spec_names : List NextSpec → List ℕ
+more_spec_names [] = []
+more_spec_names (n ∷ ns) = spec_names n.spec ++ more_spec_names ns
+
+abbrev mutual
+  -- the bounds of the schema of a section, if it has one
+  pub bound_names : FormalTypeTree → List ℕ
+  bound_names (schemas.a_formal_name n) = []
+  bound_names (schemas.a_schema s) = schema_names s
+
+  pub schema_names : SchemaTree → List ℕ
+  schema_names (schemas.a_packed_schema p) = spec_names p.spec
+  schema_names (schemas.an_unpacked_schema word left specs right of_word component) =
+      spec_names specs.first ++ (more_spec_names specs.others ++ bound_names component)
+
+abbrev pub names_and_bounds : FormalNamesTree → List ℕ
+names_and_bounds f = listed_names f.names ++ bound_names f.of_type
+
 abbrev pub formal_names : FormalTree → List ℕ
-formal_names (headings.value_formals f) = listed_names f.names
-formal_names (headings.variable_formals word f) = listed_names f.names
+formal_names (headings.value_formals f) = names_and_bounds f
+formal_names (headings.variable_formals word f) = names_and_bounds f
 formal_names (headings.a_routine_formal h) = heading_name h ∷ []
 
 abbrev pub other_formal_names : FormalTrees → List ℕ

@@ -1,6 +1,6 @@
 -- What a whole text breaks of rules 2, 8 and 15; and its tokens.
-use Rattle.std.specs.Prelude.{◌++◌, ◌∷◌, ◌≡◌, ◌⊎◌, [], ℕ, Bool, Contains, List, false, map, nat_eq, true}
-use Rattle.std.specs.List.{list_any}
+use Rattle.std.specs.Prelude.{◌++◌, ◌<◌, ◌^◌, ◌∷◌, ◌≡◌, ◌⊎◌, [], ℕ, Bool, Contains, List, false, length, map, nat_eq}
+use Rattle.std.specs.{Prelude.true, List.list_any}
 use Rattle.pas_lexer.specs.{Lexed.Lexed, declared.kinds.Token.Token}
 use Rattle.grammar.specs.Nodes.{spell}
 use Rattle.pas_tree.specs.{BlockTrees.routine_heading, TreeNodes.tree_node}
@@ -9,12 +9,13 @@ use Rattle.pas_tree.specs.BlockTrees as tree
 use Rattle.pas_parser.specs.Formed.{items_of}
 use Rattle.check_steps.specs.{Words.known_at_start, declared.breaks.Break.Break}
 use Rattle.check_steps.specs.Known.{Known, label_at, name_at}
-use Rattle.denoter_checker.specs.{RoutineParts.routine_name, declared.defines.Wanted.Wanted}
+use Rattle.denoter_checker.specs.{Formals.is_function, RoutineParts.routine_name, declared.defines.Wanted.Wanted}
 use Rattle.code_checker.specs.CheckedPrograms.{broken}
-use Rattle.rule_laws.specs.{BlockLabels.compound_labels, CaseLaws.late_at, Laws.broken_at, NameLaws.block_labels}
-use Rattle.rule_laws.specs.{NameLaws.block_routines, TextParts.OfRecordsIn, TextParts.OfRoutines, Tokens.IsDistinct}
+use Rattle.rule_laws.specs.{BlockLabels.compound_labels, CaseLaws.late_at, Laws.broken_at, LeftNames.block_lefts}
+use Rattle.rule_laws.specs.{NameLaws.block_labels, NameLaws.block_routines, Tokens.IsDistinct}
 use Rattle.rule_laws.specs.ForwardHeadings.{are_completing, has_forward, is_block}
 use Rattle.rule_laws.specs.RegionNames.{block_names, field_names, heading_names, labels_of}
+use Rattle.rule_laws.specs.TextParts.{OfRecordsIn, OfRoutines, Within}
 
 -- No token stands twice in a tree that spells the tokens of a source, nor in any part of it.
 abbrev pub TokensDiffer : Type 0
@@ -159,11 +160,25 @@ abbrev pub UndeclaredAreTold : Known → List Break → (declared labels : List 
 UndeclaredAreTold k bs declared labels = (before : List ℕ) (label : ℕ) (after : List ℕ)
     → labels ≡ before ++ label ∷ after → has_label k declared label ≡ false → Contains bs (late_at 15 label)
 
--- So it is with the labels in front of the statements of the program's block and those of its label part; and with the
+-- So it is with the labels in front of the statements of the program's block and those of its label part; with the
 -- labels in front of the statements of the block of each procedure and function and those of all label parts of the
--- text.
+-- text; and, in a text of fewer tokens than 2 ^ 32, with those of the block of each procedure and function and those of
+-- its own label part, where it and all procedures and functions around it have names that no forward heading has.
 abbrev pub TextsTellUndeclared : Type 0
-TextsTellUndeclared = (l : Lexed) (t : ProgramTree) → let k = known_at_start l in
-    UndeclaredAreTold k (broken l t) (block_labels t.block) (statement_labels t.block)
-    × OfRoutines (λ r. UndeclaredAreTold k (broken l t) (all_labels t.block) (statement_labels_in (routine_body r)))
-    t.block
+TextsTellUndeclared = (l : Lexed) (t : ProgramTree) → let k = known_at_start l in let b = t.block in
+    UndeclaredAreTold k (broken l t) (block_labels b) (statement_labels b)
+    × OfRoutines (λ r. UndeclaredAreTold k (broken l t) (all_labels b) (statement_labels_in (routine_body r))) b
+    × (spell (tree_node t) ≡ items_of l.tokens → length l.tokens < 2 ^ 32
+    → Within (λ r. IsNeverForward k b (name_at k (routine_name r)))
+    (λ r. UndeclaredAreTold k (broken l t) (labels_in_body (routine_body r)) (statement_labels_in (routine_body r))) b)
+
+-- ---- functions without a value (6.6.2)
+
+-- Each function that has a block breaks rule 12 whose name no assignment of the text has alone on its left, but for one
+-- that has the name of a forward heading.
+abbrev pub TextsTellResults : Type 0
+TextsTellResults = (l : Lexed) (t : ProgramTree) → spell (tree_node t) ≡ items_of l.tokens
+    → let k = known_at_start l in let b = t.block in
+    OfRoutines (λ r. is_function (routine_heading r) ≡ true → is_block (routine_body r) ≡ true
+    → IsNeverForward k b (name_at k (routine_name r)) → has_name k (block_lefts b) (routine_name r) ≡ false
+    → Contains (broken l t) (late_at 12 (routine_name r))) b

@@ -27,6 +27,24 @@ abbrev mutual
   OfBody P (blocks.a_directive directive) = Unit {0}
   OfBody P (blocks.a_block_body b) = OfRoutines P b
 
+abbrev mutual
+  -- this holds of each of them that is of some kind and stands inside of such alone
+  pub Within : (N P : RoutineTree → Type 0) → BlockTree → Type 0
+  Within N P (blocks.a_block labels constants types variables routines body) = WithinEach N P routines
+
+  pub WithinEach : (N P : RoutineTree → Type 0) → RoutineTrees → Type 0
+  WithinEach N P blocks.end_of_routines = Unit {0}
+  WithinEach N P (blocks.more_routines r rest) = WithinRoutine N P r × WithinEach N P rest
+
+  pub WithinRoutine : (N P : RoutineTree → Type 0) → RoutineTree → Type 0
+  WithinRoutine N P (blocks.a_routine heading semicolon body last_semicolon) =
+      N (blocks.a_routine heading semicolon body last_semicolon)
+      → P (blocks.a_routine heading semicolon body last_semicolon) × WithinBody N P body
+
+  pub WithinBody : (N P : RoutineTree → Type 0) → BodyTree → Type 0
+  WithinBody N P (blocks.a_directive directive) = Unit {0}
+  WithinBody N P (blocks.a_block_body b) = Within N P b
+
 -- ---- record types
 
 abbrev mutual

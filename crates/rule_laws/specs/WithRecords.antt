@@ -46,6 +46,7 @@ type_defined k (Some d) = type_of_field k (row_at k d.token)
 
 abbrev pub component_type : Known → Option TypeRow → Option TypeRow
 component_type k (Some (TypeRow.Array packed index component cells)) = type_at k component
+component_type k (Some (TypeRow.Conformant packed index component place)) = type_at k component
 component_type k t = None
 
 abbrev pub field_type : Known → Option TypeRow → ℕ → Option TypeRow

@@ -6,7 +6,7 @@ ghost use Rattle.rule_laws.specs.NameLaws.{BlocksTellNames, HeadingsTellFormals,
 ghost use Rattle.rule_laws.specs.NameLaws.{PartsTellSecondHeadings, ProgramsTellParameters, RecordsTellFields};
 ghost use Rattle.rule_laws.specs.ResultLaws.{FunctionsTellAssignments};
 ghost use Rattle.rule_laws.specs.TextLaws.{TextsTellFields, TextsTellForwards, TextsTellMarks, TextsTellNames};
-ghost use Rattle.rule_laws.specs.TextLaws.{TextsTellUndeclared, TokensDiffer};
+ghost use Rattle.rule_laws.specs.TextLaws.{TextsTellResults, TextsTellUndeclared, TokensDiffer};
 
 /// No token stands twice in the tree of a text.
 pub fn tokens_of_a_text_differ()
@@ -76,10 +76,17 @@ pub fn labels_of_statements_differ()
     ensures { TextsTellMarks }
 {}
 
-/// In a text each label in front of a statement of the program's block breaks rule 15 whose value the program's label
-/// part doesn't have; and each of the block of a procedure or function whose value no label part of the text has.
+/// In a text each label in front of a statement breaks rule 15 whose value the label part of its block doesn't have,
+/// but in the blocks of procedures and functions with the names of forward headings, and inside of these: there each
+/// whose value no label part of the text has.
 pub fn labels_of_statements_are_declared()
     ensures { TextsTellUndeclared }
+{}
+
+/// In a text each function that has a block breaks rule 12 whose name no assignment of the text has alone on its left,
+/// but for one that has the name of a forward heading.
+pub fn functions_of_a_text_are_assigned()
+    ensures { TextsTellResults }
 {}
 
 /// So of the formal parameters of a heading.

@@ -1,16 +1,20 @@
 -- Actions put no other pointers into cells than those that they read, and those to what they made.
 use Rattle.std.proofs.Common.{if◌then◌else◌, ◌&&◌, ◌*ℤ◌, ◌*◌, ◌++◌, ◌+ℤ◌, ◌+◌, ◌-ℤ◌, ◌==◌, ◌∷◌, ◌≤◌, [], ℕ, ℤ, Bool, Err, List, None, Ok, Option, Result, Some}
-use Rattle.std.proofs.Common.{arith, false, int_div, int_le, int_lt, is_none, nat_le, nat_lt, neg_ℤ, pos, replicate, suc, true, unsigned_abs, zero}
+use Rattle.std.proofs.Common.{arith, false, int_div, int_le, int_lt, is_none, min, nat_le, nat_lt, neg_ℤ, pos, replicate, suc, true, unsigned_abs, zero}
 use Rattle.std.specs.Int.{int_rem_euclid}
-use Rattle.cell_value.specs.{Comparisons.compared, Sets.lies_between, Sets.with_range_of, declared.arithmetic.ArithOp.ArithOp, declared.faults.OpFault.OpFault}
-use Rattle.cell_value.specs.{declared.values.Order.Order, declared.values.SetBits.SetBits, declared.values.Value.Value, declared.ways_out.Kind.Kind}
+use Rattle.cell_value.specs.{Comparisons.compared, Effects.heap_end, Sets.lies_between, Sets.with_range_of}
 use Rattle.cell_value.specs.Arithmetic.{arith_of, in_range_of, integer, maxint, negate_of, of_numbers}
+use Rattle.cell_value.specs.declared.{arithmetic.ArithOp.ArithOp, faults.OpFault.OpFault, ways_out.Kind.Kind}
+use Rattle.cell_value.specs.declared.values.{Order.Order, SetBits.SetBits, Value.Value}
 use Rattle.core_program.specs.{Headings.may_stand_for, Packing.copies, Packing.count_of, Packing.first_moved, Packing.start_at, ProgramRows.ProgramRows}
 use Rattle.core_program.specs.{ProgramRows.type_at, Run.or_no_result, Run.result_read, State.moved, Values.truth, Values.with_sign_of}
 use Rattle.core_program.specs.Actions.{◌>>=◌, Action, Fail, Give, NoMeaning, Perform}
 use Rattle.core_program.specs.Acts.{Act, Answer, DropBlock, Fault, MakeBlock, ReadCell, WriteCell}
 use Rattle.core_program.specs.Cells.{cell_out, component, frame_of_link, frame_out, if_there, linked, or_disposed, ordinal_at, position_between, read_value}
 use Rattle.core_program.specs.Cells.{read_values, reference_out, referred, routine_held, routine_meant, routine_out, set_at, variable_of, write, writes}
+use Rattle.core_program.specs.Conformant.{Dimensions, WholeArray, all_lie_in, bound_cells, bounds_tested, cells_over, component_or_fault, components_over}
+use Rattle.core_program.specs.Conformant.{conformant_component_at, extents_at, extents_held, read_each, whole_at, whole_over}
+use Rattle.core_program.specs.Conformant as arrays
 use Rattle.core_program.specs.Heap.{defined_pointer, dispose, drop_found, if_related, is_pointer, made_variable, or_no_pointer, pointed_at, pointed_by}
 use Rattle.core_program.specs.Heap.{pointer_at, pointer_result_at, pointers_compared, same_pointer, variable_under}
 use Rattle.core_program.specs.Input.{at_end, at_line_end, char_of, first_digit, further, integer_read, is_blank, is_digit, is_minus, is_sign, leading}
@@ -20,9 +24,9 @@ use Rattle.core_program.specs.Values.{as_tested, as_value, comparison, defined, 
 use Rattle.core_program.specs.Values.{or_fault, or_undefined, set_in_range, set_test, sets_compared, sets_of, sets_related, test_of, tested, texts_compared}
 use Rattle.core_program.specs.Variants.{activate, all_entered, answered, assign_to, changes, chosen, field_at, field_held, field_in, is_at, on_variant}
 use Rattle.core_program.specs.Variants.{or_activated, undefine_if, variant_at, variant_entered}
-use Rattle.core_program.specs.declared.{components.Components.Components, variants.VariantPart.VariantPart}
+use Rattle.core_program.specs.declared.{components.Components.Components, components.Extent.Extent, components.HeldSpec.HeldSpec, scan.Scan.Scan}
+use Rattle.core_program.specs.declared.{scan.Scan.TheVariants.Blanks, scan.Scan.TheVariants.Digits, scan.Scanned.Scanned, variants.VariantPart.VariantPart}
 use Rattle.core_program.specs.declared.rows.{OrdinalFunction.OrdinalFunction, Row.Row, SetOperator.SetOperator, TypeRow.TypeRow}
-use Rattle.core_program.specs.declared.scan.{Scan.Scan, Scan.TheVariants.Blanks, Scan.TheVariants.Digits, Scanned.Scanned}
 use Rattle.run_laws.specs.PointerLaws.{LeadsToMade}
 
 -- ---- values
@@ -265,9 +269,12 @@ variable_kept : (n : ℕ) (v : Value) → IsKept n (variable_of v)
 variable_kept n (Value.Place addr) = tt
 variable_kept n v = tt
 
+referred_kept : (n addr : ℕ) → IsKept n (referred addr)
+referred_kept n addr = on_led Any n (read_value addr) variable_of (read_led n addr) (λ m l v o. variable_kept m v)
+
 pub reference_kept : (n levels base place : ℕ) → IsKept n (reference_out levels base place)
-reference_kept n levels base place = next n (cell_out levels base place) referred (cell_kept n levels base place)
-    (λ m l addr. on_led Any m (read_value addr) variable_of (read_led m addr) (λ q i v o. variable_kept q v))
+reference_kept n levels base place =
+    next n (cell_out levels base place) referred (cell_kept n levels base place) (λ m l addr. referred_kept m addr)
 
 routine_value_kept : (n : ℕ) (p : ProgramRows) (heading : ℕ) (v : Value) → IsKept n (routine_meant p heading v)
 routine_value_kept n p heading (Value.Routine routine frame) = if_kept {A = ℕ × ℕ} Any n (may_stand_for p heading routine) _ _ tt tt
@@ -284,6 +291,48 @@ position_kept n least greatest v = tt
 pub component_kept : (n : ℕ) (a : Components) (addr : ℕ) (v : Value) → IsKept n (component a addr v)
 component_kept n a addr v = next n (position_between a.least a.greatest v) (λ k. Give (moved addr (k * a.size))) (position_kept n a.least a.greatest v)
     (λ m l _. tt)
+
+-- ---- arrays of conformant parameters
+
+pub located_kept : (n levels base place : ℕ)
+    → IsKept {A = ℕ × ℕ} n (frame_out levels base >>= λ frame. referred (moved frame place) >>= λ addr. Give (addr, frame))
+located_kept n levels base place = next n (frame_out levels base) _ (frame_kept n levels base)
+    (λ m l frame. next m (referred (moved frame place)) _ (referred_kept m (moved frame place)) (λ q i addr. tt))
+
+each_kept : (n : ℕ) (vs : List Value) (addrs : List ℕ) → IsKept n (read_each vs addrs)
+each_kept n vs [] = tt
+each_kept n vs (addr ∷ addrs) = on_led Any n (read_value addr) (λ v. read_each (vs ++ v ∷ []) addrs) (read_led n addr)
+    (λ m l v o. each_kept m (vs ++ v ∷ []) addrs)
+
+extents_meant : (n : ℕ) (o : Option (List Extent)) → IsKept n (arrays.or_undefined o)
+extents_meant n (Some es) = tt
+extents_meant n None = tt
+
+pub extents_kept : (n : ℕ) (specs : List HeldSpec) (frame : ℕ) → IsKept n (extents_at specs frame)
+extents_kept n specs frame = next n (read_each [] (bound_cells frame specs)) (λ vs. arrays.or_undefined (extents_held specs vs))
+    (each_kept n [] (bound_cells frame specs)) (λ m l vs. extents_meant m (extents_held specs vs))
+
+found_kept : (n : ℕ) (o : Option Components) (addr : ℕ) (v : Value) → IsKept n (component_or_fault o addr v)
+found_kept n (Some c) addr v = component_kept n c addr v
+found_kept n None addr v = tt
+
+pub bounded_kept : (n : ℕ) (d : Dimensions) (addr frame : ℕ) (v : Value) → IsKept n (conformant_component_at d addr frame v)
+bounded_kept n d addr frame v = next n (extents_at d.specs frame) (λ es. component_or_fault (components_over es d.size) addr v)
+    (extents_kept n d.specs frame) (λ m l es. found_kept m (components_over es d.size) addr v)
+
+abbrev pub WholeLed : ℕ → WholeArray → Type 0
+WholeLed n w = AllLed n w.cells
+
+over_led : (n : ℕ) (es : List Extent) (size addr : ℕ) → Kept WholeLed n (whole_over es size addr)
+over_led n es size addr = kept_then AllLed WholeLed n (read_values [] addr (min (cells_over es size) (heap_end + 1)))
+    (λ vs. Give (record { extents = es; cells = vs })) (reads_led n [] addr (min (cells_over es size) (heap_end + 1)) tt) (λ m l vs o. o)
+
+pub whole_led : (n : ℕ) (d : Dimensions) (addr frame : ℕ) → Kept WholeLed n (whole_at d addr frame)
+whole_led n d addr frame = kept_then Any WholeLed n (extents_at d.specs frame) (λ es. whole_over es d.size addr)
+    (extents_kept n d.specs frame) (λ m l es o. over_led m es d.size addr)
+
+pub section_kept : (n : ℕ) (es : List Extent) (specs : List HeldSpec) → IsKept n (bounds_tested es specs)
+section_kept n es specs = if_kept Any n (all_lie_in es specs) _ _ tt tt
 
 -- ---- the heap
 

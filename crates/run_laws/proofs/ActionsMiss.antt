@@ -1,7 +1,7 @@
 -- Actions that stop where a cell is not there, and drop a block only where its first cell was found.
-use Rattle.std.proofs.Common.{if◌then◌else◌, ◌&&◌, ◌*◌, ◌++◌, ◌+◌, ◌∷◌, ◌≡◌, [], ℕ, ℤ, Bool, Err, List, None, Ok, Option, Result, Some, false, int_le, nat_lt}
-use Rattle.std.proofs.Common.{pos, refl, replicate, suc, true, unsigned_abs, zero}
-use Rattle.cell_value.specs.{Arithmetic.in_range_of, Arithmetic.integer, Sets.lies_between}
+use Rattle.std.proofs.Common.{if◌then◌else◌, ◌&&◌, ◌*◌, ◌++◌, ◌+◌, ◌∷◌, ◌≡◌, [], ℕ, ℤ, Bool, Err, List, None, Ok, Option, Result, Some, false, int_le, min}
+use Rattle.std.proofs.Common.{nat_lt, pos, refl, replicate, suc, true, unsigned_abs, zero}
+use Rattle.cell_value.specs.{Arithmetic.in_range_of, Arithmetic.integer, Effects.heap_end, Sets.lies_between}
 use Rattle.cell_value.specs.declared.{faults.OpFault.OpFault, values.Value.Value, ways_out.Kind.Kind}
 use Rattle.core_program.proofs.OutcomesCompose.{none_some}
 use Rattle.core_program.specs.{Headings.may_stand_for, Heap.pointer_result_at, Heap.variable_under, Packing.copies, Packing.count_of, Packing.first_moved}
@@ -10,6 +10,9 @@ use Rattle.core_program.specs.Actions.{◌>>=◌, Action, Fail, Give, NoMeaning,
 use Rattle.core_program.specs.Acts.{Act, Answer, DropBlock, Fault, GiveByte, HasCell, MakeBlock, ReadCell, Spend, TakeIf, WriteCell}
 use Rattle.core_program.specs.Cells.{cell_out, component, frame_of_link, frame_out, if_there, linked, or_disposed, ordinal_at, position_between, read_value}
 use Rattle.core_program.specs.Cells.{read_values, reference_out, referred, routine_held, routine_meant, routine_out, set_at, variable_of, write, writes}
+use Rattle.core_program.specs.Conformant.{Dimensions, all_lie_in, bound_cells, bounds_tested, cells_over, component_or_fault, components_over}
+use Rattle.core_program.specs.Conformant.{conformant_component_at, extents_at, extents_held, read_each, whole_at, whole_over}
+use Rattle.core_program.specs.Conformant as arrays
 use Rattle.core_program.specs.Heap.{defined_pointer, dispose, drop_found, is_pointer, made_variable, or_no_pointer, pointed_at, pointed_by, pointer_at}
 use Rattle.core_program.specs.Input.{at_end, at_line_end, char_of, first_digit, further, integer_read, is_blank, is_digit, is_minus, is_sign, leading}
 use Rattle.core_program.specs.Input.{next_char, past_item, scan_on, signed_number, tells_line_end}
@@ -17,7 +20,8 @@ use Rattle.core_program.specs.Output.{Text, end_line, end_page, gives, in_width,
 use Rattle.core_program.specs.Values.{as_tested, defined, defined_set, or_fault, or_undefined, test_of, tested}
 use Rattle.core_program.specs.Variants.{activate, all_entered, answered, assign_to, changes, chosen, field_at, field_held, field_in, is_at, on_variant}
 use Rattle.core_program.specs.Variants.{or_activated, undefine_if, variant_at, variant_entered}
-use Rattle.core_program.specs.declared.{components.Components.Components, rows.Row.Row, rows.TypeRow.TypeRow, variants.VariantPart.VariantPart}
+use Rattle.core_program.specs.declared.{rows.Row.Row, rows.TypeRow.TypeRow, variants.VariantPart.VariantPart}
+use Rattle.core_program.specs.declared.components.{Components.Components, Extent.Extent, HeldSpec.HeldSpec}
 use Rattle.core_program.specs.declared.scan.Scan.{Scan, TheVariants.Blanks, TheVariants.Digits}
 
 -- the action fails, since a variable was disposed of
@@ -154,9 +158,11 @@ variable_careful : (v : Value) → IsCareful (variable_of v)
 variable_careful (Value.Place addr) = tt
 variable_careful v = tt
 
+referred_careful : (addr : ℕ) → IsCareful (referred addr)
+referred_careful addr = next (read_value addr) variable_of (read_careful addr) variable_careful
+
 pub reference_careful : (levels base place : ℕ) → IsCareful (reference_out levels base place)
-reference_careful levels base place = next (cell_out levels base place) referred (cell_careful levels base place)
-    (λ addr. next (read_value addr) variable_of (read_careful addr) variable_careful)
+reference_careful levels base place = next (cell_out levels base place) referred (cell_careful levels base place) referred_careful
 
 routine_value_careful : (p : ProgramRows) (heading : ℕ) (v : Value) → IsCareful (routine_meant p heading v)
 routine_value_careful p heading (Value.Routine routine frame) = if_careful {A = ℕ × ℕ} (may_stand_for p heading routine) _ _ tt tt
@@ -173,6 +179,45 @@ position_careful least greatest v = tt
 pub component_careful : (a : Components) (addr : ℕ) (v : Value) → IsCareful (component a addr v)
 component_careful a addr v =
     next (position_between a.least a.greatest v) (λ n. Give (moved addr (n * a.size))) (position_careful a.least a.greatest v) (λ _. tt)
+
+-- ---- arrays of conformant parameters
+
+pub located_careful : (levels base place : ℕ)
+    → IsCareful {A = ℕ × ℕ} (frame_out levels base >>= λ frame. referred (moved frame place) >>= λ addr. Give (addr, frame))
+located_careful levels base place = next (frame_out levels base) _ (frame_careful levels base)
+    (λ frame. next (referred (moved frame place)) _ (referred_careful (moved frame place)) (λ addr. tt))
+
+each_careful : (vs : List Value) (addrs : List ℕ) → IsCareful (read_each vs addrs)
+each_careful vs [] = tt
+each_careful vs (addr ∷ addrs) =
+    next (read_value addr) (λ v. read_each (vs ++ v ∷ []) addrs) (read_careful addr) (λ v. each_careful (vs ++ v ∷ []) addrs)
+
+extents_meant : (o : Option (List Extent)) → IsCareful (arrays.or_undefined o)
+extents_meant (Some es) = tt
+extents_meant None = tt
+
+pub extents_careful : (specs : List HeldSpec) (frame : ℕ) → IsCareful (extents_at specs frame)
+extents_careful specs frame = next (read_each [] (bound_cells frame specs)) (λ vs. arrays.or_undefined (extents_held specs vs))
+    (each_careful [] (bound_cells frame specs)) (λ vs. extents_meant (extents_held specs vs))
+
+found_careful : (o : Option Components) (addr : ℕ) (v : Value) → IsCareful (component_or_fault o addr v)
+found_careful (Some c) addr v = component_careful c addr v
+found_careful None addr v = tt
+
+pub bounded_careful : (d : Dimensions) (addr frame : ℕ) (v : Value) → IsCareful (conformant_component_at d addr frame v)
+bounded_careful d addr frame v = next (extents_at d.specs frame) (λ es. component_or_fault (components_over es d.size) addr v)
+    (extents_careful d.specs frame) (λ es. found_careful (components_over es d.size) addr v)
+
+over_careful : (es : List Extent) (size addr : ℕ) → IsCareful (whole_over es size addr)
+over_careful es size addr = next (read_values [] addr (min (cells_over es size) (heap_end + 1))) (λ vs. Give (record { extents = es; cells = vs }))
+    (reads_careful [] addr (min (cells_over es size) (heap_end + 1))) (λ vs. tt)
+
+pub whole_at_careful : (d : Dimensions) (addr frame : ℕ) → IsCareful (whole_at d addr frame)
+whole_at_careful d addr frame = next (extents_at d.specs frame) (λ es. whole_over es d.size addr) (extents_careful d.specs frame)
+    (λ es. over_careful es d.size addr)
+
+pub section_careful : (es : List Extent) (specs : List HeldSpec) → IsCareful (bounds_tested es specs)
+section_careful es specs = if_careful (all_lie_in es specs) _ _ tt tt
 
 -- ---- the heap
 

@@ -9,7 +9,7 @@ use Rattle.core_program.proofs.{Ways.RanFrame, Ways.run_gives, WholeParts.or_lef
 use Rattle.core_program.proofs.ActsLeave.{Leaves, MayEnter, limits_hold, made_append}
 use Rattle.core_program.proofs.RunsLeave.{act_left, call_leaves, ran_leaves, sound_framed, sound_opened}
 use Rattle.core_program.proofs.Ways as ways
-use Rattle.core_program.specs.{Blocks.block_cells, ProgramRows.ProgramRows, Tree.ActTree, Tree.Halt}
+use Rattle.core_program.specs.{Blocks.block_cells, Passed.cells_entered, ProgramRows.ProgramRows, Tree.ActTree, Tree.Halt}
 use Rattle.core_program.specs.Acts.{Act, ActResult, Answer, DropBlock, Fault, GiveByte, HasCell, Limited, MakeBlock, OutOfSteps, ReadCell, Spend, Stops, TakeIf}
 use Rattle.core_program.specs.Acts.{Went, WriteCell, after_touches, drop_block, dropped_block, look_item, made_block, make_block, on_cell, perform, put_asked}
 use Rattle.core_program.specs.Acts.{put_value, read_as, spent, take_item, take_looked, with_steps}
@@ -205,9 +205,9 @@ module _ (p : ProgramRows) where
         let k = (ran_leaves p h s).leaves in
         first_append y.log z.log (ran_first h None (part_careful p part) low_none s e) (λ n. ran_first g None (c out) low_none k.sound (still k n e))
     ran_first (ways.AtLimit q) found c l s e = tt
-    ran_first (ways.CallStopped {cells = cells} {σ = σ} q h w) found c l s e = call_first h s (limits_hold σ cells q) e
-    ran_first (ways.CallEnded {cells = cells} {σ = σ} {y = y} {out = out} {s = z} q h w g) found c l s e =
-        let m = limits_hold σ cells q in
+    ran_first (ways.CallStopped {e = i} {σ = σ} q h w) found c l s e = call_first h s (limits_hold σ (cells_entered i) q) e
+    ran_first (ways.CallEnded {e = i} {σ = σ} {y = y} {out = out} {s = z} q h w g) found c l s e =
+        let m = limits_hold σ (cells_entered i) q in
         let k = (call_leaves p h s m).leaves in
         first_append y.log z.log (call_first h s m e) (λ n. ran_first g None (c out) low_none k.sound (still k n e))
     ran_first (ways.NotBegun {σ = σ} {w = w} q) found c l s e =
@@ -222,7 +222,7 @@ module _ (p : ProgramRows) where
     frame_first (ways.NoRoom t u) s e = tt
     frame_first (ways.NoSteps t u v) s e = tt
     frame_first (ways.Worked {f = f} {args = args} {σ = σ} {q = q} t u v h) s e =
-        ran_first h None (whole_careful p f σ.top q) low_none (sound_framed q.cells args σ s (grind (arith, nat_tests))) e
+        ran_first h None (whole_careful p f σ.top q) low_none (sound_framed q args σ s (grind (arith, nat_tests))) e
 
     call_first : {n f : ℕ} {args : List Value} {σ : State} {r : Result State Call} → RanCall p n f args σ r → IsSound σ → MayEnter σ
         → σ.fresh ≡ stack_end → MadeFirst r.log

@@ -3,14 +3,18 @@ use Rattle.std.proofs.Common.{if◌then◌else◌, ◌&&◌, ◌++◌, ◌==◌,
 use Rattle.std.proofs.Common.{nat_lt, refl, slice_get, subst, true}
 use Rattle.std.{proofs.lemmas.Bool.Decides.nat_tests, specs.Ordering.int_eq}
 use Rattle.cell_value.specs.{Arithmetic.arith_of, declared.faults.OpFault.OpFault, declared.values.Value.Value}
-use Rattle.core_program.specs.{Accesses.with_size, Acts.Answer, Choices.Sought, Layer.layer, Layer.of_body, State.moved, Variants.assign_to, Variants.field_at}
-use Rattle.core_program.specs.{Variants.tag_accessed, declared.components.Components.Components, declared.program.Routine.Routine}
-use Rattle.core_program.specs.Accesses.{access_in, address, eval, eval_cells, is_end, locate, locate_before, locate_field, locate_target, of_access, on_address}
-use Rattle.core_program.specs.Accesses.{on_cells, on_scalar, scalar, type_accessed, until_end, value_at, with_bounds, with_components, with_formal, with_record}
-use Rattle.core_program.specs.Actions.{Action, Fail, Give, NoMeaning, Perform}
-use Rattle.core_program.specs.Cells.{cell_out, component, frame_out, ordinal_at, read_values, reference_out, routine_out, set_at, write, writes}
-use Rattle.core_program.specs.Expressions.{call, call_formal, enter, expression_in, gather, of_actual, of_expression, of_members, on_actual, operation_result}
-use Rattle.core_program.specs.Expressions.{pass_routine, string_in, with_frame_size}
+use Rattle.core_program.specs.{Acts.Answer, Choices.Sought, Conformant.inner_extents, Conformant.whole_at, Layer.layer, Layer.of_body, Passed.Passed}
+use Rattle.core_program.specs.{Passed.and_cells, Passed.and_copy, State.moved, Variants.assign_to, Variants.field_at, Variants.tag_accessed}
+use Rattle.core_program.specs.Accesses.{access_in, address, bounded_before, component_found, eval, eval_cells, is_conformant, is_end, locate, locate_before}
+use Rattle.core_program.specs.Accesses.{locate_field, locate_target, of_access, on_address, on_bounded, on_cells, on_scalar, scalar, type_accessed, until_end}
+use Rattle.core_program.specs.Accesses.{value_at, with_bounds, with_components, with_dimensions, with_formal, with_record, with_size}
+use Rattle.core_program.specs.Actions.{◌>>=◌, Action, Fail, Give, NoMeaning, Perform}
+use Rattle.core_program.specs.Cells.{cell_out, component, frame_out, ordinal_at, read_values, reference_out, referred, routine_out, set_at, write, writes}
+use Rattle.core_program.specs.Conformant.{Dimensions, WholeArray, bound_values, conformant_component_at, dimensions_of, extents_at, fixed_extents}
+use Rattle.core_program.specs.Conformant as arrays
+use Rattle.core_program.specs.Expressions.{access_value, array_copied, array_placed, call, call_formal, enter, expression_in, gather, of_actual, of_expression}
+use Rattle.core_program.specs.Expressions.{of_members, on_actual, on_actuals, operation_result, pass_routine, placed_in, section_bounds, string_in, text_whole}
+use Rattle.core_program.specs.Expressions.{whole_array, whole_in, with_frame_size}
 use Rattle.core_program.specs.Heap.{dispose, made_variable, pointed_at, pointer_at, pointer_result_at, pointers_compared}
 use Rattle.core_program.specs.Input.{at_end, at_line_end, next_char, past_item, scan_on}
 use Rattle.core_program.specs.Output.{Text, char_type, end_line, end_page, scalar_text, written}
@@ -21,12 +25,13 @@ use Rattle.core_program.specs.Statements.{begins, bounds, bounds_tested, choose,
 use Rattle.core_program.specs.Statements.{nothing, of_count, of_records, of_sequence, of_statement, of_turn, on_labelled, on_normal, on_statement, on_value}
 use Rattle.core_program.specs.Statements.{point, statement, statement_in, turn_after, undefine}
 use Rattle.core_program.specs.Transfers.{into, of_printed, of_received, on_scanned, on_text, print, received, with_host}
-use Rattle.core_program.specs.Tree.{ActTree, Address, Body, Cells, Count, Do, Enter, Establish, Eval, Exec, Gather, Halt, Here, Jump, Line, Locate, Meaningless}
-use Rattle.core_program.specs.Tree.{Out, Part, Pass, Print, Receive, RestOfLine, Ret, Scalar, Scanning, Sequence, Sub, Turn, doing}
+use Rattle.core_program.specs.Tree.{ActTree, Actuals, Address, Body, Bounded, Cells, Count, Do, Enter, Establish, Eval, Exec, Gather, Halt, Here, Jump, Line}
+use Rattle.core_program.specs.Tree.{Locate, Meaningless, Out, Part, Pass, Print, Receive, RestOfLine, Ret, Scalar, Scanning, Sequence, Sub, Turn, doing}
 use Rattle.core_program.specs.Values.{comparison, function_of, in_set, is_true, or_fault, sets_compared, sets_of, tested, texts_compared, with_sign_of}
+use Rattle.core_program.specs.declared.{program.Routine.Routine, scan.Scanned.Scanned, scan.Scanned.TheVariants.Further, scan.Scanned.TheVariants.Whole}
+use Rattle.core_program.specs.declared.components.{Components.Components, Extent.Extent, HeldSpec.HeldSpec}
 use Rattle.core_program.specs.declared.rows.{AccessRow.AccessRow, Direction.Direction, ExpressionRow.ExpressionRow, ItemRow.ItemRow, NameRow.NameRow, Row.Row}
 use Rattle.core_program.specs.declared.rows.{StatementRow.StatementRow, TypeRow.TypeRow}
-use Rattle.core_program.specs.declared.scan.Scanned.{Scanned, TheVariants.Further, TheVariants.Whole}
 
 -- ---- trees
 
@@ -65,7 +70,7 @@ JumpTree base (Halt line why) = Unit {0}
 JumpTree base Meaningless = Unit {0}
 JumpTree base (Do line act next) = (x : Answer act) → JumpTree base (next x)
 JumpTree base (Sub part next) = PartAt base part × Outward base next × ((out : Out) → JumpTree base (next out))
-JumpTree base (Enter f cells args next) = Outward base next × ((out : Out) → JumpTree base (next out))
+JumpTree base (Enter e next) = Outward base next × ((out : Out) → JumpTree base (next out))
 JumpTree base (Line line next) = JumpTree base next
 
 after : {A : Type 0} (n line : ℕ) (a : Action A) (go : A → ActTree) → ((x : A) → JumpTree n (go x)) → JumpTree n (doing line a go)
@@ -95,8 +100,19 @@ on_many n go k out = tt
 
 on_variable : (n : ℕ) (go : ℕ → ActTree) → ((addr : ℕ) → JumpTree n (go addr)) → (out : Out) → JumpTree n (on_address go out)
 on_variable n go k (Address addr) = k addr
+on_variable n go k (Bounded addr frame) = k addr
 on_variable n go k (Jump label base) = tt
 on_variable n go k out = tt
+
+on_array : (n : ℕ) (go : ℕ → ℕ → ActTree) → ((addr frame : ℕ) → JumpTree n (go addr frame)) → (out : Out) → JumpTree n (on_bounded go out)
+on_array n go k (Bounded addr frame) = k addr frame
+on_array n go k (Jump label base) = tt
+on_array n go k out = tt
+
+on_passed : (n : ℕ) (go : Passed → ActTree) → ((passed : Passed) → JumpTree n (go passed)) → (out : Out) → JumpTree n (on_actuals go out)
+on_passed n go k (Actuals passed) = k passed
+on_passed n go k (Jump label base) = tt
+on_passed n go k out = tt
 
 normally : (n : ℕ) (t : ActTree) → JumpTree n t → (out : Out) → JumpTree n (on_normal t out)
 normally n t h (Jump label base) = tt
@@ -126,6 +142,10 @@ bounds_jump n t go k = tt
 size_jumps : (n : ℕ) (t : Option TypeRow) (go : ℕ → ActTree) → ((k : ℕ) → JumpTree n (go k)) → JumpTree n (with_size t go)
 size_jumps n None go k = tt
 size_jumps n (Some t) go k = k _
+
+dimensions_jump : (n : ℕ) (o : Option Dimensions) (go : Dimensions → ActTree) → ((d : Dimensions) → JumpTree n (go d)) → JumpTree n (with_dimensions o go)
+dimensions_jump n None go k = tt
+dimensions_jump n (Some d) go k = k d
 
 record_jumps : (n : ℕ) (o : Option ℕ) (go : ℕ → ActTree) → ((addr : ℕ) → JumpTree n (go addr)) → JumpTree n (with_record o go)
 record_jumps n None go k = tt
@@ -163,6 +183,15 @@ module _ (p : ProgramRows) where
   before_jumps row inner target here go k =
       if_tree here.base (nat_lt inner row) _ _ (refl, λ label b. inr (refl, refl), λ out. on_variable here.base go k out) tt
 
+  array_before : (row inner : ℕ) (target : Bool) (here : Here) (go : ℕ → ℕ → ActTree) → ((addr frame : ℕ) → JumpTree here.base (go addr frame))
+      → JumpTree here.base (bounded_before row inner target here go)
+  array_before row inner target here go k =
+      if_tree here.base (nat_lt inner row) _ _ (refl, λ label b. inr (refl, refl), λ out. on_array here.base go k out) tt
+
+  component_there : (n : ℕ) (conformant : Bool) (frame addr : ℕ) → JumpTree n (component_found conformant frame addr)
+  component_there n true frame addr = tt
+  component_there n false frame addr = tt
+
   located : (n : ℕ) (target : Bool) (line addr field : ℕ) → JumpTree n (locate_field p target line addr field)
   located n target line addr field = after n line (field_at p target addr (row_at p field)) address (λ _. tt)
 
@@ -171,6 +200,12 @@ module _ (p : ProgramRows) where
       λ _. after here.base here.line (cell_out levels here.base place) address (λ _. tt)
   access_jumps row target here (AccessRow.Reference place levels of') =
       λ _. after here.base here.line (reference_out levels here.base place) address (λ _. tt)
+  access_jumps row target here (AccessRow.Conformant place levels of') = λ _. after here.base here.line
+      (frame_out levels here.base >>= λ frame. referred (moved frame place) >>= λ addr. Give (addr, frame)) _ (λ _. tt)
+  access_jumps row target here (AccessRow.Component inner index array of') = array_before row inner target here _ (λ addr frame _.
+      eval_jumps index here _ (λ v. dimensions_jump here.base (dimensions_of p array) _ (λ d. after here.base here.line
+      (conformant_component_at d addr frame v) (component_found (is_conformant p of') frame)
+      (λ at. component_there here.base (is_conformant p of') frame at))))
   access_jumps row target here (AccessRow.Index inner index array of') = before_jumps row inner target here _ (λ addr _.
       eval_jumps index here _ (λ v. components_jump here.base (type_at p array) _ (λ a.
       after here.base here.line (component a addr v) address (λ _. tt))))
@@ -195,6 +230,7 @@ module _ (p : ProgramRows) where
       after n line (read_values [] addr cells) (λ vs. Ret (Cells vs)) (λ _. tt)
   value_jumps n line addr (Some (TypeRow.Record packed region cells variants)) =
       after n line (read_values [] addr cells) (λ vs. Ret (Cells vs)) (λ _. tt)
+  value_jumps n line addr (Some (TypeRow.Conformant packed index component place)) = tt
   value_jumps n line addr None = tt
 
   -- ---- calls
@@ -204,21 +240,21 @@ module _ (p : ProgramRows) where
   call_jumps here routine levels actuals go o k = (
     refl,
     λ label b. inr (refl, refl),
-    λ out. on_many here.base _ (λ args. frame_size_jumps here.base (routine_at p routine) _ (λ cells.
+    λ out. on_passed here.base _ (λ passed. frame_size_jumps here.base (routine_at p routine) _ (λ cells.
         after here.base here.line (frame_out levels here.base) _ (λ frame. (o, k)))) out,
   )
 
-  enter_jumps : (n routine frame : ℕ) (args : List Value) (go : Out → ActTree) → Outward n go → ((out : Out) → JumpTree n (go out))
-      → JumpTree n (enter p routine frame args go)
-  enter_jumps n routine frame args go o k = frame_size_jumps n (routine_at p routine) _ (λ cells. (o, k))
+  enter_jumps : (n routine frame : ℕ) (passed : Passed) (go : Out → ActTree) → Outward n go → ((out : Out) → JumpTree n (go out))
+      → JumpTree n (enter p routine frame passed go)
+  enter_jumps n routine frame passed go o k = frame_size_jumps n (routine_at p routine) _ (λ cells. (o, k))
 
   formal_call : (here : Here) (formal levels actuals : ℕ) (go : Out → ActTree) → Outward here.base go → ((out : Out) → JumpTree here.base (go out))
       → JumpTree here.base (call_formal p here formal levels actuals go)
   formal_call here formal levels actuals go o k = (
     refl,
     λ label b. inr (refl, refl),
-    λ out. on_many here.base _ (λ args. formal_jumps here.base (row_at p formal) _ (λ place heading.
-        after here.base here.line (routine_out p heading levels here.base place) _ (λ x. enter_jumps here.base x.0 x.1 args go o k))) out,
+    λ out. on_passed here.base _ (λ passed. formal_jumps here.base (row_at p formal) _ (λ place heading.
+        after here.base here.line (routine_out p heading levels here.base place) _ (λ x. enter_jumps here.base x.0 x.1 passed go o k))) out,
   )
 
   -- ---- expressions
@@ -254,9 +290,22 @@ module _ (p : ProgramRows) where
   expression_jumps here ExpressionRow.Eof = after here.base here.line at_end scalar (λ _. tt)
   expression_jumps here ExpressionRow.Eoln = after here.base here.line at_line_end scalar (λ _. tt)
 
+  whole_array_jumps : (row t : ℕ) (here : Here) (go : Dimensions → WholeArray → ActTree)
+      → ((d : Dimensions) (w : WholeArray) → JumpTree here.base (go d w)) → JumpTree here.base (whole_array p row t here go)
+  whole_array_jumps row t here go k = (
+    refl,
+    λ label b. inr (refl, refl),
+    λ out. on_array here.base _ (λ addr frame. dimensions_jump here.base (dimensions_of p t) _ (λ d.
+        after here.base here.line (whole_at d addr frame) (go d) (λ w. k d w))) out,
+  )
+
+  valued : (row t : ℕ) (here : Here) (conformant : Bool) → JumpTree here.base (access_value p row t here conformant)
+  valued row t here true = whole_array_jumps row t here (λ d w. Ret (Cells w.cells)) (λ d w. tt)
+  valued row t here false = locate_jumps row here _ (λ addr. value_jumps here.base here.line addr (type_at p t))
+
   expression_row : (row : ℕ) (here : Here) (r : Row) → JumpTree here.base (expression_in p row here r)
   expression_row row here (Row.Expression e) = λ _. expression_jumps here e
-  expression_row row here (Row.Access a) = locate_jumps row here _ (λ addr. value_jumps here.base here.line addr (type_at p (type_accessed a)))
+  expression_row row here (Row.Access a) = valued row (type_accessed a) here (is_conformant p (type_accessed a))
   expression_row row here r = tt
 
   actual_jumps : (here : Here) (t : Option TypeRow) (go : List Value → ActTree) → ((vs : List Value) → JumpTree here.base (go vs)) → (out : Out)
@@ -266,17 +315,66 @@ module _ (p : ProgramRows) where
   actual_jumps here t go k (Jump label base) = tt
   actual_jumps here t go k out = tt
 
-  passed_jumps : (here : Here) (nx : ℕ) (passed : List Value) (found : Action (ℕ × ℕ)) → JumpTree here.base (pass_routine here nx passed found)
+  passed_jumps : (here : Here) (nx : ℕ) (passed : Passed) (found : Action (ℕ × ℕ)) → JumpTree here.base (pass_routine here nx passed found)
   passed_jumps here nx passed found = λ _. after here.base here.line found _ (λ x. (refl, λ label b. inr (refl, refl), λ out. tt))
 
-  actual_row : (passed : List Value) (here : Here) (r : Row) → JumpTree here.base (of_actual p passed here r)
+  -- ---- arrays as actuals
+
+  placed_jumps : (access t : ℕ) (specs : List HeldSpec) (here : Here) (conformant : Bool) (go : List Extent → ℕ → ActTree)
+      → ((es : List Extent) (addr : ℕ) → JumpTree here.base (go es addr)) → JumpTree here.base (array_placed p access t specs here conformant go)
+  placed_jumps access t specs here true go k = (
+    refl,
+    λ label b. inr (refl, refl),
+    λ out. on_array here.base _ (λ addr frame. dimensions_jump here.base (dimensions_of p t) _ (λ d. after here.base here.line (extents_at d.specs frame)
+        (λ es. go (es ++ inner_extents p d specs) addr) (λ es. k (es ++ inner_extents p d specs) addr))) out,
+  )
+  placed_jumps access t specs here false go k =
+      locate_jumps access here (λ addr. go (fixed_extents p specs (type_at p t)) addr) (λ addr. k (fixed_extents p specs (type_at p t)) addr)
+
+  copied_jumps : (access t : ℕ) (specs : List HeldSpec) (here : Here) (conformant : Bool) (go : WholeArray → ActTree)
+      → ((w : WholeArray) → JumpTree here.base (go w)) → JumpTree here.base (array_copied p access t specs here conformant go)
+  copied_jumps access t specs here true go k =
+      whole_array_jumps access t here (λ d w. go (record { extents = w.extents ++ inner_extents p d specs; cells = w.cells }))
+      (λ d w. k (record { extents = w.extents ++ inner_extents p d specs; cells = w.cells }))
+  copied_jumps access t specs here false go k = locate_jumps access here _ (λ addr. size_jumps here.base (type_at p t) _ (λ cells.
+      after here.base here.line (read_values [] addr cells) (λ vs. go (record { extents = fixed_extents p specs (type_at p t); cells = vs }))
+      (λ vs. k (record { extents = fixed_extents p specs (type_at p t); cells = vs }))))
+
+  placed_row : (row : ℕ) (specs : List HeldSpec) (here : Here) (r : Row) (go : List Extent → ℕ → ActTree)
+      → ((es : List Extent) (addr : ℕ) → JumpTree here.base (go es addr)) → JumpTree here.base (placed_in p row specs here r go)
+  placed_row row specs here (Row.Access a) go k = placed_jumps row (type_accessed a) specs here (is_conformant p (type_accessed a)) go k
+  placed_row row specs here r go k = tt
+
+  copied_row : (row : ℕ) (specs : List HeldSpec) (here : Here) (r : Row) (go : WholeArray → ActTree) → ((w : WholeArray) → JumpTree here.base (go w))
+      → JumpTree here.base (whole_in p row specs here r go)
+  copied_row row specs here (Row.Access a) go k = copied_jumps row (type_accessed a) specs here (is_conformant p (type_accessed a)) go k
+  copied_row row specs here (Row.Expression e) go k = many_jump row here (λ vs. go (text_whole vs)) (λ vs. k (text_whole vs))
+  copied_row row specs here r go k = tt
+
+  bounded : (here : Here) (first : Bool) (specs : List HeldSpec) (es : List Extent) (passed : Passed) (go : Passed → ActTree)
+      → ((q : Passed) → JumpTree here.base (go q)) → JumpTree here.base (section_bounds here first specs es passed go)
+  bounded here true specs es passed go k = after here.base here.line (arrays.bounds_tested es specs) (λ _. go (and_cells passed (bound_values es)))
+      (λ _. k (and_cells passed (bound_values es)))
+  bounded here false specs es passed go k = k passed
+
+  actual_row : (passed : Passed) (here : Here) (r : Row) → JumpTree here.base (of_actual p passed here r)
   actual_row passed here (Row.Item (ItemRow.Value e of' nx)) = (
     refl,
     λ label b. inr (refl, refl),
-    λ out. actual_jumps here (type_at p of') (λ vs. Sub (Pass nx (passed ++ vs) here) Ret) (λ vs. done here.base (Pass nx (passed ++ vs) here) refl) out,
+    λ out. actual_jumps here (type_at p of') (λ vs. Sub (Pass nx (and_cells passed vs) here) Ret)
+        (λ vs. done here.base (Pass nx (and_cells passed vs) here) refl) out,
   )
   actual_row passed here (Row.Item (ItemRow.Place access nx)) =
-      locate_jumps access here (λ addr. Sub (Pass nx (passed ++ Value.Place addr ∷ []) here) Ret) (λ addr. (refl, λ label b. inr (refl, refl), λ out. tt))
+      locate_jumps access here (λ addr. Sub (Pass nx (and_cells passed (Value.Place addr ∷ [])) here) Ret)
+      (λ addr. done here.base (Pass nx (and_cells passed (Value.Place addr ∷ [])) here) refl)
+  actual_row passed here (Row.Item (ItemRow.ArrayPlace first access of' nx)) = dimensions_jump here.base (dimensions_of p of') _ (λ d.
+      placed_row access d.specs here (row_at p access) _ (λ es addr.
+      bounded here first d.specs es passed (λ q. Sub (Pass nx (and_cells q (Value.Place addr ∷ [])) here) Ret)
+      (λ q. done here.base (Pass nx (and_cells q (Value.Place addr ∷ [])) here) refl)))
+  actual_row passed here (Row.Item (ItemRow.ArrayValue first e of' nx)) = dimensions_jump here.base (dimensions_of p of') _ (λ d.
+      copied_row e d.specs here (row_at p e) _ (λ w.
+      bounded here first d.specs w.extents passed (λ q. Sub (Pass nx (and_copy q w.cells) here) Ret)
+      (λ q. done here.base (Pass nx (and_copy q w.cells) here) refl)))
   actual_row passed here (Row.Item (ItemRow.Routine routine levels nx)) = passed_jumps here nx passed _
   actual_row passed here (Row.Item (ItemRow.RoutineFormal formal levels nx)) =
       formal_jumps here.base (row_at p formal) _ (λ place heading. passed_jumps here nx passed (routine_out p heading levels here.base place))
@@ -515,7 +613,7 @@ module _ (p : ProgramRows) where
   own_jumps : (part : Part) → JumpTree (base_of part) (layer p part)
   own_jumps (Eval row here) = expression_row row here (row_at p row)
   own_jumps (Locate row target here) = access_row row target here (row_at p row)
-  own_jumps (Pass at passed here) = until here.base at (Ret (Cells passed)) _ tt (actual_row passed here (row_at p at))
+  own_jumps (Pass at passed here) = until here.base at (Ret (Actuals passed)) _ tt (actual_row passed here (row_at p at))
   own_jumps (Gather at set here) = until here.base at (scalar set) _ tt (member_row set here (row_at p at))
   own_jumps (Establish at body here) = until here.base at _ _ (done here.base (Exec body here) refl) (records_row here body (row_at p at))
   own_jumps (Exec row here) = statement_row row here (row_at p row)

@@ -1,48 +1,112 @@
 -- What each part of a program does puts no other pointers into cells than those that it got or read, and those to what
 -- it made.
-use Rattle.std.proofs.Common.{if◌then◌else◌, ◌&&◌, ◌++◌, ◌==◌, ◌∷◌, ◌≤◌, [], ℕ, ℤ, Bool, List, None, Option, Result, Some, arith, false, nat_lt, slice_get}
-use Rattle.std.{proofs.Common.true, specs.Ordering.int_eq}
+use Rattle.std.proofs.Common.{if◌then◌else◌, ◌&&◌, ◌++◌, ◌+◌, ◌==◌, ◌∷◌, ◌≤◌, [], ℕ, ℤ, Bool, List, None, Option, Result, Some, arith, false, length, nat_lt}
+use Rattle.std.proofs.Common.{slice_get, slice_set, suc, true, zero}
+use Rattle.std.specs.Ordering.{int_eq}
 use Rattle.cell_value.specs.{Arithmetic.arith_of, declared.faults.OpFault.OpFault, declared.values.Value.Value}
-use Rattle.core_program.specs.{Accesses.with_size, Acts.Answer, Choices.Sought, Expressions.pass_routine, Expressions.string_in, Expressions.with_frame_size}
-use Rattle.core_program.specs.{Layer.layer, Layer.of_body, ProgramRows.ProgramRows, ProgramRows.routine_at, ProgramRows.row_at, ProgramRows.type_at}
-use Rattle.core_program.specs.{State.moved, Statements.statement_in, Statements.turn_after, Statements.undefine, Values.with_sign_of, Variants.assign_to}
-use Rattle.core_program.specs.{Variants.field_at, Variants.tag_accessed, declared.components.Components.Components, declared.program.Routine.Routine}
-use Rattle.core_program.specs.Accesses.{access_in, address, eval, eval_cells, is_end, locate, locate_before, locate_field, locate_target, of_access, on_address}
-use Rattle.core_program.specs.Accesses.{on_cells, on_scalar, scalar, type_accessed, until_end, value_at, with_bounds, with_components, with_formal, with_record}
+use Rattle.core_program.specs.{Acts.Answer, Choices.Sought, Conformant.inner_extents, Conformant.whole_at, Expressions.whole_array, Expressions.whole_in}
+use Rattle.core_program.specs.{Expressions.with_frame_size, Layer.layer, Layer.of_body, State.moved, Statements.statement_in, Statements.turn_after}
+use Rattle.core_program.specs.{Statements.undefine, Values.with_sign_of, Variants.assign_to, Variants.field_at, Variants.tag_accessed}
+use Rattle.core_program.specs.Accesses.{access_in, address, bounded_before, component_found, eval, eval_cells, is_conformant, is_end, locate, locate_before}
+use Rattle.core_program.specs.Accesses.{locate_field, locate_target, of_access, on_address, on_bounded, on_cells, on_scalar, scalar, type_accessed, until_end}
+use Rattle.core_program.specs.Accesses.{value_at, with_bounds, with_components, with_dimensions, with_formal, with_record, with_size}
 use Rattle.core_program.specs.Actions.{Action, Fail, Give, NoMeaning, Perform}
 use Rattle.core_program.specs.Cells.{cell_out, component, frame_out, ordinal_at, read_values, reference_out, routine_out, set_at, write, writes}
-use Rattle.core_program.specs.Expressions.{call, call_formal, enter, expression_in, gather, of_actual, of_expression, of_members, on_actual, operation_result}
+use Rattle.core_program.specs.Conformant.{Dimensions, WholeArray, bound_values, conformant_component_at, dimensions_of, extents_at, fixed_extents}
+use Rattle.core_program.specs.Expressions.{access_value, array_copied, array_placed, call, call_formal, enter, expression_in, gather, of_actual, of_expression}
+use Rattle.core_program.specs.Expressions.{of_members, on_actual, on_actuals, operation_result, pass_routine, placed_in, section_bounds, string_in, text_whole}
 use Rattle.core_program.specs.Heap.{dispose, made_variable, pointed_at, pointer_at, pointer_result_at, pointers_compared}
 use Rattle.core_program.specs.Input.{at_end, at_line_end, next_char, past_item, scan_on}
 use Rattle.core_program.specs.Output.{Text, char_type, end_line, end_page, scalar_text, written}
 use Rattle.core_program.specs.Packing.{copies, first_moved, moves, pack, with_array}
+use Rattle.core_program.specs.Passed.{ArrayCopy, Entering, Passed, and_cells, and_copy, args_at, copied, placed}
+use Rattle.core_program.specs.ProgramRows.{ProgramRows, routine_at, row_at, type_at}
 use Rattle.core_program.specs.Run.{result_of_type, result_read, return_of, type_in_heading, whole}
 use Rattle.core_program.specs.Statements.{begins, bounds, bounds_tested, choose, chosen_by, finally, first_turn, has_turn, jumped, line_of, nothing, of_count}
 use Rattle.core_program.specs.Statements.{of_records, of_sequence, of_statement, of_turn, on_labelled, on_normal, on_statement, on_value, point, statement}
 use Rattle.core_program.specs.Transfers.{into, of_printed, of_received, on_scanned, on_text, print, received, with_host}
-use Rattle.core_program.specs.Tree.{ActTree, Address, Body, Cells, Count, Do, Enter, Establish, Eval, Exec, Gather, Halt, Here, Jump, Line, Locate, Meaningless}
-use Rattle.core_program.specs.Tree.{Out, Part, Pass, Print, Receive, RestOfLine, Ret, Scalar, Scanning, Sequence, Sub, Turn, doing}
+use Rattle.core_program.specs.Tree.{ActTree, Actuals, Address, Body, Bounded, Cells, Count, Do, Enter, Establish, Eval, Exec, Gather, Halt, Here, Jump, Line}
+use Rattle.core_program.specs.Tree.{Locate, Meaningless, Out, Part, Pass, Print, Receive, RestOfLine, Ret, Scalar, Scanning, Sequence, Sub, Turn, doing}
 use Rattle.core_program.specs.Values.{comparison, function_of, in_set, is_true, or_fault, sets_compared, sets_of, string_of, tested, texts_compared}
+use Rattle.core_program.specs.declared.{program.Routine.Routine, scan.Scanned.Scanned, scan.Scanned.TheVariants.Further, scan.Scanned.TheVariants.Whole}
+use Rattle.core_program.specs.declared.components.{Components.Components, Extent.Extent, HeldSpec.HeldSpec}
 use Rattle.core_program.specs.declared.rows.{AccessRow.AccessRow, Direction.Direction, ExpressionRow.ExpressionRow, ItemRow.ItemRow, NameRow.NameRow, Row.Row}
 use Rattle.core_program.specs.declared.rows.{StatementRow.StatementRow, TypeRow.TypeRow}
-use Rattle.core_program.specs.declared.scan.Scanned.{Scanned, TheVariants.Further, TheVariants.Whole}
-use Rattle.run_laws.proofs.ActionsKeep.{ActLed, AllLed, AnswerLed, GivesLed, IsKept, Kept, OkLed, ScannedLed, all_both, all_on, arith_led, assign_kept}
-use Rattle.run_laws.proofs.ActionsKeep.{cell_kept, comparison_led, component_kept, copies_kept, dispose_kept, end_led, end_line_kept, end_page_kept, fault_led}
-use Rattle.run_laws.proofs.ActionsKeep.{field_kept, frame_kept, function_led, in_set_led, led_on, line_end_led, made_led, members_led, moved_kept, next}
-use Rattle.run_laws.proofs.ActionsKeep.{next_char_led, on_led, ordinal_led, past_kept, pointed_kept, pointer_led, pointer_result_led, pointers_led, reads_led}
-use Rattle.run_laws.proofs.ActionsKeep.{reference_kept, result_led, routine_kept, scan_led, set_led, sets_compared_led, sets_led, sign_led, tested_led}
-use Rattle.run_laws.proofs.ActionsKeep.{texts_led, truth_led, write_kept, writes_kept, written_kept}
+use Rattle.run_laws.proofs.ActionsKeep.{ActLed, AllLed, AnswerLed, GivesLed, IsKept, Kept, OkLed, ScannedLed, WholeLed, all_both, all_on, arith_led}
+use Rattle.run_laws.proofs.ActionsKeep.{assign_kept, bounded_kept, cell_kept, comparison_led, component_kept, copies_kept, dispose_kept, end_led, end_line_kept}
+use Rattle.run_laws.proofs.ActionsKeep.{end_page_kept, extents_kept, fault_led, field_kept, frame_kept, function_led, in_set_led, led_on, line_end_led}
+use Rattle.run_laws.proofs.ActionsKeep.{located_kept, made_led, members_led, moved_kept, next, next_char_led, on_led, ordinal_led, past_kept, pointed_kept}
+use Rattle.run_laws.proofs.ActionsKeep.{pointer_led, pointer_result_led, pointers_led, reads_led, reference_kept, result_led, routine_kept, scan_led}
+use Rattle.run_laws.proofs.ActionsKeep.{section_kept, set_led, sets_compared_led, sets_led, sign_led, tested_led, texts_led, truth_led, whole_led, write_kept}
+use Rattle.run_laws.proofs.ActionsKeep.{writes_kept, written_kept}
 use Rattle.run_laws.specs.PointerLaws.{LeadsToMade}
+
+-- ---- what is passed
+
+abbrev pub CopiesLed : ℕ → List ArrayCopy → Type 0
+CopiesLed n [] = Unit {0}
+CopiesLed n (c ∷ cs) = AllLed n c.cells × CopiesLed n cs
+
+abbrev pub PassedLed : ℕ → Passed → Type 0
+PassedLed n q = AllLed n q.cells × CopiesLed n q.copies
+
+copies_on : (n m : ℕ) → n ≤ m → (cs : List ArrayCopy) → CopiesLed n cs → CopiesLed m cs
+copies_on n m l [] h = tt
+copies_on n m l (c ∷ cs) h = (all_on n m l c.cells h.0, copies_on n m l cs h.1)
+
+copies_both : (n : ℕ) (cs ds : List ArrayCopy) → CopiesLed n cs → CopiesLed n ds → CopiesLed n (cs ++ ds)
+copies_both n [] ds h k = k
+copies_both n (c ∷ cs) ds h k = (h.0, copies_both n cs ds h.1 k)
+
+passed_on : (n m : ℕ) → n ≤ m → (q : Passed) → PassedLed n q → PassedLed m q
+passed_on n m l q h = (all_on n m l q.cells h.0, copies_on n m l q.copies h.1)
+
+more_cells : (n : ℕ) (q : Passed) (vs : List Value) → PassedLed n q → AllLed n vs → PassedLed n (and_cells q vs)
+more_cells n q vs h k = (all_both n q.cells vs h.0 k, h.1)
+
+one_copy : (n : ℕ) (q : Passed) (vs : List Value) → PassedLed n q → AllLed n vs → PassedLed n (and_copy q vs)
+one_copy n q vs h k =
+    (all_both n q.cells (Value.Undefined ∷ []) h.0 (tt, tt), copies_both n q.copies (record { at = length q.cells; cells = vs } ∷ []) h.1 (k, tt))
+
+bounds_led : (n : ℕ) (es : List Extent) → AllLed n (bound_values es)
+bounds_led n [] = tt
+bounds_led n (e ∷ es) = (tt, (tt, bounds_led n es))
+
+address_put : (n : ℕ) (vs : List Value) (k address : ℕ) → AllLed n vs → AllLed n (slice_set vs k (Value.Place address))
+address_put n [] k address h = tt
+address_put n (v ∷ vs) zero address h = (tt, h.1)
+address_put n (v ∷ vs) (suc k) address h = (h.0, address_put n vs k address h.1)
+
+placed_led : (n address : ℕ) (cs : List ArrayCopy) (vs : List Value) → AllLed n vs → AllLed n (placed address cs vs)
+placed_led n address [] vs h = h
+placed_led n address (c ∷ cs) vs h =
+    placed_led n (address + length c.cells) cs (slice_set vs c.at (Value.Place address)) (address_put n vs c.at address h)
+
+copied_led : (n : ℕ) (cs : List ArrayCopy) → CopiesLed n cs → AllLed n (copied cs)
+copied_led n [] h = tt
+copied_led n (c ∷ cs) h = all_both n c.cells (copied cs) h.0 (copied_led n cs h.1)
+
+abbrev pub EnteringLed : ℕ → Entering → Type 0
+EnteringLed n e = LeadsToMade n e.link × PassedLed n e.passed
+
+-- the arguments that a call gets of these, wherever its frame begins
+pub args_led : (n : ℕ) (e : Entering) (base : ℕ) → EnteringLed n e → AllLed n (args_at e base)
+args_led n e base h = (
+  h.0,
+  all_both n (placed (base + e.cells) e.passed.copies e.passed.cells) (copied e.passed.copies)
+      (placed_led n (base + e.cells) e.passed.copies e.passed.cells h.1.0) (copied_led n e.passed.copies h.1.1),
+)
 
 -- ---- trees
 
 abbrev pub OutLed : ℕ → Out → Type 0
 OutLed n (Scalar v) = LeadsToMade n v
 OutLed n (Cells vs) = AllLed n vs
+OutLed n (Actuals q) = PassedLed n q
 OutLed n out = Unit {0}
 
 abbrev pub PartLed : ℕ → Part → Type 0
-PartLed n (Pass at passed here) = AllLed n passed
+PartLed n (Pass at passed here) = PassedLed n passed
 PartLed n (Gather at set here) = LeadsToMade n set
 PartLed n part = Unit {0}
 
@@ -52,7 +116,7 @@ KeptTree n (Halt line why) = Unit {0}
 KeptTree n Meaningless = Unit {0}
 KeptTree n (Do line act next) = ActLed n act × ((m : ℕ) → n ≤ m → (x : Answer act) → AnswerLed m act x → KeptTree m (next x))
 KeptTree n (Sub part next) = PartLed n part × ((m : ℕ) → n ≤ m → (out : Out) → OutLed m out → KeptTree m (next out))
-KeptTree n (Enter f cells args next) = AllLed n args × ((m : ℕ) → n ≤ m → (out : Out) → OutLed m out → KeptTree m (next out))
+KeptTree n (Enter e next) = EnteringLed n e × ((m : ℕ) → n ≤ m → (out : Out) → OutLed m out → KeptTree m (next out))
 KeptTree n (Line line next) = KeptTree n next
 
 doing_kept : {A : Type 0} (Q : ℕ → A → Type 0) (n line : ℕ) (a : Action A) (go : A → ActTree) → Kept Q n a
@@ -94,8 +158,20 @@ on_many n go k out o = tt
 
 on_variable : (n : ℕ) (go : ℕ → ActTree) → ((addr : ℕ) → KeptTree n (go addr)) → (out : Out) → KeptTree n (on_address go out)
 on_variable n go k (Address addr) = k addr
+on_variable n go k (Bounded addr frame) = k addr
 on_variable n go k (Jump label base) = tt
 on_variable n go k out = tt
+
+on_array : (n : ℕ) (go : ℕ → ℕ → ActTree) → ((addr frame : ℕ) → KeptTree n (go addr frame)) → (out : Out) → KeptTree n (on_bounded go out)
+on_array n go k (Bounded addr frame) = k addr frame
+on_array n go k (Jump label base) = tt
+on_array n go k out = tt
+
+on_passed : (n : ℕ) (go : Passed → ActTree) → ((q : Passed) → PassedLed n q → KeptTree n (go q)) → (out : Out) → OutLed n out
+    → KeptTree n (on_actuals go out)
+on_passed n go k (Actuals q) o = k q o
+on_passed n go k (Jump label base) o = tt
+on_passed n go k out o = tt
 
 normally : (n : ℕ) (t : ActTree) → KeptTree n t → (out : Out) → KeptTree n (on_normal t out)
 normally n t h (Jump label base) = tt
@@ -123,6 +199,10 @@ bounds_kept n t go k = tt
 size_kept : (n : ℕ) (t : Option TypeRow) (go : ℕ → ActTree) → ((k : ℕ) → KeptTree n (go k)) → KeptTree n (with_size t go)
 size_kept n None go k = tt
 size_kept n (Some t) go k = k _
+
+dimensions_kept : (n : ℕ) (o : Option Dimensions) (go : Dimensions → ActTree) → ((d : Dimensions) → KeptTree n (go d)) → KeptTree n (with_dimensions o go)
+dimensions_kept n None go k = tt
+dimensions_kept n (Some d) go k = k d
 
 record_kept : (n : ℕ) (o : Option ℕ) (go : ℕ → ActTree) → ((addr : ℕ) → KeptTree n (go addr)) → KeptTree n (with_record o go)
 record_kept n None go k = tt
@@ -163,6 +243,15 @@ module _ (p : ProgramRows) where
       → KeptTree n (locate_before row inner target here go)
   before_kept n row inner target here go k = if_tree n (nat_lt inner row) _ _ (tt, λ m l out o. on_variable m go (λ addr. k m addr) out) tt
 
+  array_before : (n row inner : ℕ) (target : Bool) (here : Here) (go : ℕ → ℕ → ActTree) → ((m : ℕ) → (addr frame : ℕ) → KeptTree m (go addr frame))
+      → KeptTree n (bounded_before row inner target here go)
+  array_before n row inner target here go k =
+      if_tree n (nat_lt inner row) _ _ (tt, λ m l out o. on_array m go (λ addr frame. k m addr frame) out) tt
+
+  component_there : (n : ℕ) (conformant : Bool) (frame addr : ℕ) → KeptTree n (component_found conformant frame addr)
+  component_there n true frame addr = tt
+  component_there n false frame addr = tt
+
   located : (n : ℕ) (target : Bool) (line addr field : ℕ) → KeptTree n (locate_field p target line addr field)
   located n target line addr field =
       after n line (field_at p target addr (row_at p field)) address (field_kept p n target addr (row_at p field)) (λ m l _. tt)
@@ -172,6 +261,14 @@ module _ (p : ProgramRows) where
       (tt, λ m l _ _. after m here.line (cell_out levels here.base place) address (cell_kept m levels here.base place) (λ q i _. tt))
   access_kept n row target here (AccessRow.Reference place levels of') =
       (tt, λ m l _ _. after m here.line (reference_out levels here.base place) address (reference_kept m levels here.base place) (λ q i _. tt))
+  access_kept n row target here (AccessRow.Conformant place levels of') =
+      (tt, λ m l _ _. after m here.line _ _ (located_kept m levels here.base place) (λ q i _. tt))
+  access_kept n row target here (AccessRow.Component inner index array of') = array_before n row inner target here _ (λ m addr frame. (
+    tt,
+    λ q i _ _. eval_kept q index here _ (λ r j v o. dimensions_kept r (dimensions_of p array) _ (λ d.
+        after r here.line (conformant_component_at d addr frame v) (component_found (is_conformant p of') frame) (bounded_kept r d addr frame v)
+        (λ s t at. component_there s (is_conformant p of') frame at))),
+  ))
   access_kept n row target here (AccessRow.Index inner index array of') = before_kept n row inner target here _ (λ m addr. (
     tt,
     λ q i _ _. eval_kept q index here _ (λ r j v o. components_kept r (type_at p array) _ (λ a.
@@ -200,6 +297,7 @@ module _ (p : ProgramRows) where
       doing_kept AllLed n line (read_values [] addr cells) (λ vs. Ret (Cells vs)) (reads_led n [] addr cells tt) (λ m l vs o. o)
   value_kept n line addr (Some (TypeRow.Record packed region cells variants)) =
       doing_kept AllLed n line (read_values [] addr cells) (λ vs. Ret (Cells vs)) (reads_led n [] addr cells tt) (λ m l vs o. o)
+  value_kept n line addr (Some (TypeRow.Conformant packed index component place)) = tt
   value_kept n line addr None = tt
 
   -- ---- calls
@@ -207,23 +305,23 @@ module _ (p : ProgramRows) where
   call_kept : (n : ℕ) (here : Here) (routine levels actuals : ℕ) (go : Out → ActTree) → ((m : ℕ) (out : Out) → OutLed m out → KeptTree m (go out))
       → KeptTree n (call p here routine levels actuals go)
   call_kept n here routine levels actuals go k = (
-    tt,
-    λ m l out o. on_many m _ (λ args h. frame_size_kept m (routine_at p routine) _ (λ cells.
+    (tt, tt),
+    λ m l out o. on_passed m _ (λ passed h. frame_size_kept m (routine_at p routine) _ (λ cells.
         after m here.line (frame_out levels here.base) _ (frame_kept m levels here.base)
-        (λ q i frame. ((tt, all_on m q i args h), λ r j out o. k r out o)))) out o,
+        (λ q i frame. ((tt, passed_on m q i passed h), λ r j out o. k r out o)))) out o,
   )
 
-  enter_kept : (n routine frame : ℕ) (args : List Value) (go : Out → ActTree) → AllLed n args
-      → ((m : ℕ) (out : Out) → OutLed m out → KeptTree m (go out)) → KeptTree n (enter p routine frame args go)
-  enter_kept n routine frame args go h k = frame_size_kept n (routine_at p routine) _ (λ cells. ((tt, h), λ m l out o. k m out o))
+  enter_kept : (n routine frame : ℕ) (passed : Passed) (go : Out → ActTree) → PassedLed n passed
+      → ((m : ℕ) (out : Out) → OutLed m out → KeptTree m (go out)) → KeptTree n (enter p routine frame passed go)
+  enter_kept n routine frame passed go h k = frame_size_kept n (routine_at p routine) _ (λ cells. ((tt, h), λ m l out o. k m out o))
 
   formal_call : (n : ℕ) (here : Here) (formal levels actuals : ℕ) (go : Out → ActTree) → ((m : ℕ) (out : Out) → OutLed m out → KeptTree m (go out))
       → KeptTree n (call_formal p here formal levels actuals go)
   formal_call n here formal levels actuals go k = (
-    tt,
-    λ m l out o. on_many m _ (λ args h. formal_kept m (row_at p formal) _ (λ place heading.
+    (tt, tt),
+    λ m l out o. on_passed m _ (λ passed h. formal_kept m (row_at p formal) _ (λ place heading.
         after m here.line (routine_out p heading levels here.base place) _ (routine_kept m p heading levels here.base place)
-        (λ q i x. enter_kept q x.0 x.1 args go (all_on m q i args h) k))) out o,
+        (λ q i x. enter_kept q x.0 x.1 passed go (passed_on m q i passed h) k))) out o,
   )
 
   -- ---- expressions
@@ -265,9 +363,21 @@ module _ (p : ProgramRows) where
   expression_kept n here ExpressionRow.Eof = after_led n here.line at_end scalar (end_led n) (λ m l v o. o)
   expression_kept n here ExpressionRow.Eoln = after_led n here.line at_line_end scalar (line_end_led n) (λ m l v o. o)
 
+  whole_array_kept : (n row t : ℕ) (here : Here) (go : Dimensions → WholeArray → ActTree)
+      → ((m : ℕ) → n ≤ m → (d : Dimensions) (w : WholeArray) → AllLed m w.cells → KeptTree m (go d w)) → KeptTree n (whole_array p row t here go)
+  whole_array_kept n row t here go k = (
+    tt,
+    λ m l out o. on_array m _ (λ addr frame. dimensions_kept m (dimensions_of p t) _ (λ d. doing_kept WholeLed m here.line (whole_at d addr frame) (go d)
+        (whole_led m d addr frame) (λ q i w h. k q (omega (arith, l, i)) d w h))) out,
+  )
+
+  valued : (n row t : ℕ) (here : Here) (conformant : Bool) → KeptTree n (access_value p row t here conformant)
+  valued n row t here true = whole_array_kept n row t here (λ d w. Ret (Cells w.cells)) (λ m l d w h. h)
+  valued n row t here false = locate_kept n row here _ (λ m l addr. value_kept m here.line addr (type_at p t))
+
   expression_row : (n row : ℕ) (here : Here) (r : Row) → KeptTree n (expression_in p row here r)
   expression_row n row here (Row.Expression e) = (tt, λ m l _ _. expression_kept m here e)
-  expression_row n row here (Row.Access a) = locate_kept n row here _ (λ m l addr. value_kept m here.line addr (type_at p (type_accessed a)))
+  expression_row n row here (Row.Access a) = valued n row (type_accessed a) here (is_conformant p (type_accessed a))
   expression_row n row here r = tt
 
   actual_kept : (n : ℕ) (here : Here) (t : Option TypeRow) (go : List Value → ActTree)
@@ -278,22 +388,71 @@ module _ (p : ProgramRows) where
   actual_kept n here t go k (Jump label base) o = tt
   actual_kept n here t go k out o = tt
 
-  passed_kept : (n : ℕ) (here : Here) (nx : ℕ) (passed : List Value) (found : Action (ℕ × ℕ)) → AllLed n passed
+  passed_kept : (n : ℕ) (here : Here) (nx : ℕ) (passed : Passed) (found : Action (ℕ × ℕ)) → PassedLed n passed
       → ((m : ℕ) → IsKept m found) → KeptTree n (pass_routine here nx passed found)
   passed_kept n here nx passed found h k = (
     tt,
     λ m l _ _. after m here.line found _ (k m) (λ q i x.
-        (all_both q passed _ (all_on n q (omega (arith, l, i)) passed h) (tt, tt), λ r j out o. o)),
+        (more_cells q passed (Value.Routine x.0 x.1 ∷ []) (passed_on n q (omega (arith, l, i)) passed h) (tt, tt), λ r j out o. o)),
   )
 
-  actual_row : (n : ℕ) (passed : List Value) (here : Here) (r : Row) → AllLed n passed → KeptTree n (of_actual p passed here r)
+  -- ---- arrays as actuals
+
+  placed_kept : (n access t : ℕ) (specs : List HeldSpec) (here : Here) (conformant : Bool) (go : List Extent → ℕ → ActTree)
+      → ((m : ℕ) → n ≤ m → (es : List Extent) (addr : ℕ) → KeptTree m (go es addr)) → KeptTree n (array_placed p access t specs here conformant go)
+  placed_kept n access t specs here true go k = (
+    tt,
+    λ m l out o. on_array m _ (λ addr frame. dimensions_kept m (dimensions_of p t) _ (λ d. after m here.line (extents_at d.specs frame)
+        (λ es. go (es ++ inner_extents p d specs) addr) (extents_kept m d.specs frame)
+        (λ q i es. k q (omega (arith, l, i)) (es ++ inner_extents p d specs) addr))) out,
+  )
+  placed_kept n access t specs here false go k =
+      locate_kept n access here (λ addr. go (fixed_extents p specs (type_at p t)) addr) (λ m l addr. k m l (fixed_extents p specs (type_at p t)) addr)
+
+  copied_kept : (n access t : ℕ) (specs : List HeldSpec) (here : Here) (conformant : Bool) (go : WholeArray → ActTree)
+      → ((m : ℕ) → n ≤ m → (w : WholeArray) → AllLed m w.cells → KeptTree m (go w)) → KeptTree n (array_copied p access t specs here conformant go)
+  copied_kept n access t specs here true go k =
+      whole_array_kept n access t here (λ d w. go (record { extents = w.extents ++ inner_extents p d specs; cells = w.cells }))
+      (λ m l d w h. k m l (record { extents = w.extents ++ inner_extents p d specs; cells = w.cells }) h)
+  copied_kept n access t specs here false go k = locate_kept n access here _ (λ m l addr. size_kept m (type_at p t) _ (λ cells.
+      doing_kept AllLed m here.line (read_values [] addr cells) (λ vs. go (record { extents = fixed_extents p specs (type_at p t); cells = vs }))
+      (reads_led m [] addr cells tt) (λ q i vs h. k q (omega (arith, l, i)) (record { extents = fixed_extents p specs (type_at p t); cells = vs }) h)))
+
+  placed_row : (n row : ℕ) (specs : List HeldSpec) (here : Here) (r : Row) (go : List Extent → ℕ → ActTree)
+      → ((m : ℕ) → n ≤ m → (es : List Extent) (addr : ℕ) → KeptTree m (go es addr)) → KeptTree n (placed_in p row specs here r go)
+  placed_row n row specs here (Row.Access a) go k = placed_kept n row (type_accessed a) specs here (is_conformant p (type_accessed a)) go k
+  placed_row n row specs here r go k = tt
+
+  copied_row : (n row : ℕ) (specs : List HeldSpec) (here : Here) (r : Row) (go : WholeArray → ActTree)
+      → ((m : ℕ) → n ≤ m → (w : WholeArray) → AllLed m w.cells → KeptTree m (go w)) → KeptTree n (whole_in p row specs here r go)
+  copied_row n row specs here (Row.Access a) go k = copied_kept n row (type_accessed a) specs here (is_conformant p (type_accessed a)) go k
+  copied_row n row specs here (Row.Expression e) go k =
+      (tt, λ m l out o. on_many m (λ vs. go (text_whole vs)) (λ vs h. k m l (text_whole vs) h) out o)
+  copied_row n row specs here r go k = tt
+
+  bounded : (n : ℕ) (here : Here) (first : Bool) (specs : List HeldSpec) (es : List Extent) (passed : Passed) (go : Passed → ActTree) → PassedLed n passed
+      → ((m : ℕ) → n ≤ m → (q : Passed) → PassedLed m q → KeptTree m (go q)) → KeptTree n (section_bounds here first specs es passed go)
+  bounded n here true specs es passed go h k = after n here.line _ (λ _. go (and_cells passed (bound_values es))) (section_kept n es specs)
+      (λ m l _. k m l (and_cells passed (bound_values es)) (more_cells m passed (bound_values es) (passed_on n m l passed h) (bounds_led m es)))
+  bounded n here false specs es passed go h k = k n (omega arith) passed h
+
+  actual_row : (n : ℕ) (passed : Passed) (here : Here) (r : Row) → PassedLed n passed → KeptTree n (of_actual p passed here r)
   actual_row n passed here (Row.Item (ItemRow.Value e of' nx)) h = (
     tt,
-    λ m l out o. actual_kept m here (type_at p of') (λ vs. Sub (Pass nx (passed ++ vs) here) Ret) (λ q i vs k.
-        (all_both q passed vs (all_on n q (omega (arith, l, i)) passed h) k, λ r j out o. o)) out o,
+    λ m l out o. actual_kept m here (type_at p of') (λ vs. Sub (Pass nx (and_cells passed vs) here) Ret) (λ q i vs k.
+        (more_cells q passed vs (passed_on n q (omega (arith, l, i)) passed h) k, λ r j out o. o)) out o,
   )
-  actual_row n passed here (Row.Item (ItemRow.Place access nx)) h = locate_kept n access here (λ addr. Sub (Pass nx (passed ++ Value.Place addr ∷ []) here) Ret)
-      (λ m l addr. (all_both m passed (Value.Place addr ∷ []) (all_on n m l passed h) (tt, tt), λ q i out o. o))
+  actual_row n passed here (Row.Item (ItemRow.Place access nx)) h =
+      locate_kept n access here (λ addr. Sub (Pass nx (and_cells passed (Value.Place addr ∷ [])) here) Ret)
+      (λ m l addr. (more_cells m passed (Value.Place addr ∷ []) (passed_on n m l passed h) (tt, tt), λ q i out o. o))
+  actual_row n passed here (Row.Item (ItemRow.ArrayPlace first access of' nx)) h = dimensions_kept n (dimensions_of p of') _ (λ d.
+      placed_row n access d.specs here (row_at p access) _ (λ m l es addr.
+      bounded m here first d.specs es passed (λ q. Sub (Pass nx (and_cells q (Value.Place addr ∷ [])) here) Ret) (passed_on n m l passed h)
+      (λ i j q k. (more_cells i q (Value.Place addr ∷ []) k (tt, tt), λ r s out o. o))))
+  actual_row n passed here (Row.Item (ItemRow.ArrayValue first e of' nx)) h = dimensions_kept n (dimensions_of p of') _ (λ d.
+      copied_row n e d.specs here (row_at p e) _ (λ m l w o.
+      bounded m here first d.specs w.extents passed (λ q. Sub (Pass nx (and_copy q w.cells) here) Ret) (passed_on n m l passed h)
+      (λ i j q k. (one_copy i q w.cells k (all_on m i j w.cells o), λ r s out o. o))))
   actual_row n passed here (Row.Item (ItemRow.Routine routine levels nx)) h = passed_kept n here nx passed _ h
       (λ m. next m (frame_out levels here.base) _ (frame_kept m levels here.base) (λ q i _. tt))
   actual_row n passed here (Row.Item (ItemRow.RoutineFormal formal levels nx)) h = formal_kept n (row_at p formal) _ (λ place heading.
@@ -373,15 +532,15 @@ module _ (p : ProgramRows) where
   array_kept n (Row.Access a) go k = components_kept n (type_at p (type_accessed a)) _ (λ c. k _ c)
   array_kept n r go k = tt
 
-  copied : (n : ℕ) (here : Here) (packing : Bool) (from to cells : ℕ)
+  copies_made : (n : ℕ) (here : Here) (packing : Bool) (from to cells : ℕ)
       → KeptTree n (finally here (if packing then copies from to cells else copies to from cells))
-  copied n here true from to cells = ended n here (copies from to cells) (copies_kept n from to cells)
-  copied n here false from to cells = ended n here (copies to from cells) (copies_kept n to from cells)
+  copies_made n here true from to cells = ended n here (copies from to cells) (copies_kept n from to cells)
+  copies_made n here false from to cells = ended n here (copies to from cells) (copies_kept n to from cells)
 
   moves_kept : (n : ℕ) (here : Here) (packing : Bool) (unpacked packed a z : ℕ) (v : Value)
       → KeptTree n (moves p here packing unpacked packed a z v (finally here))
   moves_kept n here packing unpacked packed a z v = array_kept n (row_at p unpacked) _ (λ _ wide. array_kept n (row_at p packed) _ (λ cells close.
-      after n here.line (first_moved wide close a v) _ (moved_kept n wide close a v) (λ m l at. copied m here packing at z cells)))
+      after n here.line (first_moved wide close a v) _ (moved_kept n wide close a v) (λ m l at. copies_made m here packing at z cells)))
 
   pack_kept : (n : ℕ) (here : Here) (packing : Bool) (unpacked index packed : ℕ) → KeptTree n (pack p here packing unpacked index packed (finally here))
   pack_kept n here true unpacked index packed = locate_kept n unpacked here _ (λ m l a. locate_kept m packed here _ (λ q i z. eval_kept q index here _
@@ -523,7 +682,7 @@ module _ (p : ProgramRows) where
   pub part_kept : (n : ℕ) (part : Part) → PartLed n part → KeptTree n (layer p part)
   part_kept n (Eval row here) h = expression_row n row here (row_at p row)
   part_kept n (Locate row target here) h = access_row n row target here (row_at p row)
-  part_kept n (Pass at passed here) h = until n at (Ret (Cells passed)) _ h (actual_row n passed here (row_at p at) h)
+  part_kept n (Pass at passed here) h = until n at (Ret (Actuals passed)) _ h (actual_row n passed here (row_at p at) h)
   part_kept n (Gather at set here) h = until n at (scalar set) _ h (member_row n set here (row_at p at))
   part_kept n (Establish at body here) h = until n at _ _ (done n (Exec body here) tt) (records_row n here body (row_at p at))
   part_kept n (Exec row here) h = statement_row n row here (row_at p row)

@@ -4,35 +4,40 @@ use Rattle.std.proofs.Common.{if◌then◌else◌, ◌&&◌, ◌++◌, ◌==◌,
 use Rattle.std.specs.Ordering.{int_eq}
 use Rattle.cell_value.specs.{Arithmetic.arith_of, declared.faults.OpFault.OpFault, declared.values.Value.Value, declared.ways_out.Kind.Kind}
 use Rattle.core_program.proofs.OutcomesCompose.{none_some}
-use Rattle.core_program.specs.{Accesses.with_size, Choices.Sought, Expressions.pass_routine, Expressions.string_in, Expressions.with_frame_size, Layer.layer}
-use Rattle.core_program.specs.{Layer.of_body, State.moved, Statements.statement_in, Statements.turn_after, Statements.undefine, Variants.assign_to}
-use Rattle.core_program.specs.{Variants.field_at, Variants.tag_accessed, declared.components.Components.Components, declared.program.Routine.Routine}
-use Rattle.core_program.specs.Accesses.{access_in, address, eval, eval_cells, is_end, locate, locate_before, locate_field, locate_target, of_access, on_address}
-use Rattle.core_program.specs.Accesses.{on_cells, on_scalar, scalar, type_accessed, until_end, value_at, with_bounds, with_components, with_formal, with_record}
+use Rattle.core_program.specs.{Choices.Sought, Conformant.inner_extents, Conformant.whole_at, Expressions.whole_array, Expressions.whole_in}
+use Rattle.core_program.specs.{Expressions.with_frame_size, Layer.layer, Layer.of_body, Passed.Passed, Passed.and_cells, Passed.and_copy}
+use Rattle.core_program.specs.{ProgramRows.ProgramRows, ProgramRows.routine_at, ProgramRows.row_at, ProgramRows.type_at, State.moved, Statements.statement_in}
+use Rattle.core_program.specs.{Statements.turn_after, Statements.undefine, Variants.assign_to, Variants.field_at, Variants.tag_accessed}
+use Rattle.core_program.specs.Accesses.{access_in, address, bounded_before, component_found, eval, eval_cells, is_conformant, is_end, locate, locate_before}
+use Rattle.core_program.specs.Accesses.{locate_field, locate_target, of_access, on_address, on_bounded, on_cells, on_scalar, scalar, type_accessed, until_end}
+use Rattle.core_program.specs.Accesses.{value_at, with_bounds, with_components, with_dimensions, with_formal, with_record, with_size}
 use Rattle.core_program.specs.Actions.{Action, Fail, Give, NoMeaning, Perform}
 use Rattle.core_program.specs.Acts.{Act, Answer, DropBlock, Fault, GiveByte, HasCell, MakeBlock, ReadCell, Spend, TakeIf, WriteCell}
 use Rattle.core_program.specs.Cells.{cell_out, component, frame_out, ordinal_at, read_values, reference_out, routine_out, set_at, write, writes}
-use Rattle.core_program.specs.Expressions.{call, call_formal, enter, expression_in, gather, of_actual, of_expression, of_members, on_actual, operation_result}
+use Rattle.core_program.specs.Conformant.{Dimensions, WholeArray, bound_values, conformant_component_at, dimensions_of, extents_at, fixed_extents}
+use Rattle.core_program.specs.Expressions.{access_value, array_copied, array_placed, call, call_formal, enter, expression_in, gather, of_actual, of_expression}
+use Rattle.core_program.specs.Expressions.{of_members, on_actual, on_actuals, operation_result, pass_routine, placed_in, section_bounds, string_in, text_whole}
 use Rattle.core_program.specs.Heap.{dispose, made_variable, pointed_at, pointer_at, pointer_result_at, pointers_compared}
 use Rattle.core_program.specs.Input.{at_end, at_line_end, next_char, past_item, scan_on}
 use Rattle.core_program.specs.Output.{Text, char_type, end_line, end_page, scalar_text, written}
 use Rattle.core_program.specs.Packing.{copies, first_moved, moves, pack, with_array}
-use Rattle.core_program.specs.ProgramRows.{ProgramRows, routine_at, row_at, type_at}
 use Rattle.core_program.specs.Run.{result_of_type, result_read, return_of, type_in_heading, whole}
 use Rattle.core_program.specs.Statements.{begins, bounds, bounds_tested, choose, chosen_by, finally, first_turn, has_turn, jumped, line_of, nothing, of_count}
 use Rattle.core_program.specs.Statements.{of_records, of_sequence, of_statement, of_turn, on_labelled, on_normal, on_statement, on_value, point, statement}
 use Rattle.core_program.specs.Transfers.{into, of_printed, of_received, on_scanned, on_text, print, received, with_host}
-use Rattle.core_program.specs.Tree.{ActTree, Address, Body, Cells, Count, Do, Enter, Establish, Eval, Exec, Gather, Halt, Here, Jump, Line, Locate, Meaningless}
-use Rattle.core_program.specs.Tree.{Out, Part, Pass, Print, Receive, RestOfLine, Ret, Scalar, Scanning, Sequence, Sub, Turn, doing}
+use Rattle.core_program.specs.Tree.{ActTree, Actuals, Address, Body, Bounded, Cells, Count, Do, Enter, Establish, Eval, Exec, Gather, Halt, Here, Jump, Line}
+use Rattle.core_program.specs.Tree.{Locate, Meaningless, Out, Part, Pass, Print, Receive, RestOfLine, Ret, Scalar, Scanning, Sequence, Sub, Turn, doing}
 use Rattle.core_program.specs.Values.{comparison, function_of, in_set, is_true, or_fault, sets_compared, sets_of, tested, texts_compared, with_sign_of}
+use Rattle.core_program.specs.declared.{program.Routine.Routine, scan.Scanned.Scanned, scan.Scanned.TheVariants.Further, scan.Scanned.TheVariants.Whole}
+use Rattle.core_program.specs.declared.components.{Components.Components, Extent.Extent, HeldSpec.HeldSpec}
 use Rattle.core_program.specs.declared.rows.{AccessRow.AccessRow, Direction.Direction, ExpressionRow.ExpressionRow, ItemRow.ItemRow, NameRow.NameRow, Row.Row}
 use Rattle.core_program.specs.declared.rows.{StatementRow.StatementRow, TypeRow.TypeRow}
-use Rattle.core_program.specs.declared.scan.Scanned.{Scanned, TheVariants.Further, TheVariants.Whole}
-use Rattle.run_laws.proofs.ActionsMiss.{Careful, Heeds, IsCareful, Quits, assign_careful, cell_careful, component_careful, copies_careful, dispose_careful}
-use Rattle.run_laws.proofs.ActionsMiss.{end_careful, end_line_careful, end_page_careful, fault_careful, field_careful, found_by, frame_careful}
-use Rattle.run_laws.proofs.ActionsMiss.{line_end_careful, made_careful, moved_careful, next, next_char_careful, ordinal_careful, past_careful, pointed_careful}
-use Rattle.run_laws.proofs.ActionsMiss.{pointer_careful, pointer_result_careful, reads_careful, reference_careful, result_careful, routine_careful}
-use Rattle.run_laws.proofs.ActionsMiss.{scan_careful, set_careful, tested_careful, write_careful, writes_careful, written_careful}
+use Rattle.run_laws.proofs.ActionsMiss.{Careful, Heeds, IsCareful, Quits, assign_careful, bounded_careful, cell_careful, component_careful, copies_careful}
+use Rattle.run_laws.proofs.ActionsMiss.{dispose_careful, end_careful, end_line_careful, end_page_careful, extents_careful, fault_careful, field_careful}
+use Rattle.run_laws.proofs.ActionsMiss.{found_by, frame_careful, line_end_careful, located_careful, made_careful, moved_careful, next, next_char_careful}
+use Rattle.run_laws.proofs.ActionsMiss.{ordinal_careful, past_careful, pointed_careful, pointer_careful, pointer_result_careful, reads_careful}
+use Rattle.run_laws.proofs.ActionsMiss.{reference_careful, result_careful, routine_careful, scan_careful, section_careful, set_careful, tested_careful}
+use Rattle.run_laws.proofs.ActionsMiss.{whole_at_careful, write_careful, writes_careful, written_careful}
 
 -- the run stops, since a variable was disposed of
 abbrev pub IsStop : ActTree → Type 0
@@ -54,7 +59,7 @@ CarefulTree found (Halt line why) = Unit {0}
 CarefulTree found Meaningless = Unit {0}
 CarefulTree found (Do line act next) = TreeHeeds found act next × ((x : Answer act) → CarefulTree (found_by act x) (next x))
 CarefulTree found (Sub part next) = (out : Out) → CarefulTree None (next out)
-CarefulTree found (Enter f cells args next) = (out : Out) → CarefulTree None (next out)
+CarefulTree found (Enter e next) = (out : Out) → CarefulTree None (next out)
 CarefulTree found (Line line next) = CarefulTree None next
 
 abbrev pub IsCarefulTree : ActTree → Type 0
@@ -76,7 +81,7 @@ tree_still found (Halt line why) h = tt
 tree_still found Meaningless h = tt
 tree_still found (Do line act next) h = (tree_heeds_still found act next h.0, h.1)
 tree_still found (Sub part next) h = h
-tree_still found (Enter f cells args next) h = h
+tree_still found (Enter e next) h = h
 tree_still found (Line line next) h = h
 
 quits_doing : {A : Type 0} (line : ℕ) (a : Action A) (go : A → ActTree) → Quits a → IsStop (doing line a go)
@@ -123,8 +128,19 @@ on_many go k out = tt
 
 on_variable : (go : ℕ → ActTree) → ((addr : ℕ) → IsCarefulTree (go addr)) → (out : Out) → IsCarefulTree (on_address go out)
 on_variable go k (Address addr) = k addr
+on_variable go k (Bounded addr frame) = k addr
 on_variable go k (Jump label base) = tt
 on_variable go k out = tt
+
+on_array : (go : ℕ → ℕ → ActTree) → ((addr frame : ℕ) → IsCarefulTree (go addr frame)) → (out : Out) → IsCarefulTree (on_bounded go out)
+on_array go k (Bounded addr frame) = k addr frame
+on_array go k (Jump label base) = tt
+on_array go k out = tt
+
+on_passed : (go : Passed → ActTree) → ((passed : Passed) → IsCarefulTree (go passed)) → (out : Out) → IsCarefulTree (on_actuals go out)
+on_passed go k (Actuals passed) = k passed
+on_passed go k (Jump label base) = tt
+on_passed go k out = tt
 
 normally : (t : ActTree) → IsCarefulTree t → (out : Out) → IsCarefulTree (on_normal t out)
 normally t h (Jump label base) = tt
@@ -150,6 +166,10 @@ bounds_careful t go k = tt
 size_careful : (t : Option TypeRow) (go : ℕ → ActTree) → ((n : ℕ) → IsCarefulTree (go n)) → IsCarefulTree (with_size t go)
 size_careful None go k = tt
 size_careful (Some t) go k = k _
+
+dimensions_careful : (o : Option Dimensions) (go : Dimensions → ActTree) → ((d : Dimensions) → IsCarefulTree (go d)) → IsCarefulTree (with_dimensions o go)
+dimensions_careful None go k = tt
+dimensions_careful (Some d) go k = k d
 
 record_careful : (o : Option ℕ) (go : ℕ → ActTree) → ((addr : ℕ) → IsCarefulTree (go addr)) → IsCarefulTree (with_record o go)
 record_careful None go k = tt
@@ -186,6 +206,14 @@ module _ (p : ProgramRows) where
       → IsCarefulTree (locate_before row inner target here go)
   before_careful row inner target here go k = if_tree (nat_lt inner row) _ _ (λ out. on_variable go k out) tt
 
+  array_before : (row inner : ℕ) (target : Bool) (here : Here) (go : ℕ → ℕ → ActTree) → ((addr frame : ℕ) → IsCarefulTree (go addr frame))
+      → IsCarefulTree (bounded_before row inner target here go)
+  array_before row inner target here go k = if_tree (nat_lt inner row) _ _ (λ out. on_array go k out) tt
+
+  component_there : (conformant : Bool) (frame addr : ℕ) → IsCarefulTree (component_found conformant frame addr)
+  component_there true frame addr = tt
+  component_there false frame addr = tt
+
   located : (target : Bool) (line addr field : ℕ) → IsCarefulTree (locate_field p target line addr field)
   located target line addr field = after line (field_at p target addr (row_at p field)) address (field_careful p target addr (row_at p field)) (λ _. tt)
 
@@ -194,6 +222,14 @@ module _ (p : ProgramRows) where
       (tt, λ _. after here.line (cell_out levels here.base place) address (cell_careful levels here.base place) (λ _. tt))
   access_careful row target here (AccessRow.Reference place levels of') =
       (tt, λ _. after here.line (reference_out levels here.base place) address (reference_careful levels here.base place) (λ _. tt))
+  access_careful row target here (AccessRow.Conformant place levels of') =
+      (tt, λ _. after here.line _ _ (located_careful levels here.base place) (λ _. tt))
+  access_careful row target here (AccessRow.Component inner index array of') = array_before row inner target here _ (λ addr frame. (
+    tt,
+    λ _. eval_careful index here _ (λ v. dimensions_careful (dimensions_of p array) _ (λ d.
+        after here.line (conformant_component_at d addr frame v) (component_found (is_conformant p of') frame) (bounded_careful d addr frame v)
+        (λ at. component_there (is_conformant p of') frame at))),
+  ))
   access_careful row target here (AccessRow.Index inner index array of') = before_careful row inner target here _ (λ addr. (
     tt,
     λ _. eval_careful index here _ (λ v. components_careful (type_at p array) _ (λ a.
@@ -222,24 +258,25 @@ module _ (p : ProgramRows) where
       after line (read_values [] addr cells) _ (reads_careful [] addr cells) (λ _. tt)
   value_careful line addr (Some (TypeRow.Record packed region cells variants)) =
       after line (read_values [] addr cells) _ (reads_careful [] addr cells) (λ _. tt)
+  value_careful line addr (Some (TypeRow.Conformant packed index component place)) = tt
   value_careful line addr None = tt
 
   -- ---- calls
 
   call_careful : (here : Here) (routine levels actuals : ℕ) (go : Out → ActTree) → ((out : Out) → IsCarefulTree (go out))
       → IsCarefulTree (call p here routine levels actuals go)
-  call_careful here routine levels actuals go k = λ out. on_many _ (λ args. frame_size_careful (routine_at p routine) _ (λ cells.
+  call_careful here routine levels actuals go k = λ out. on_passed _ (λ passed. frame_size_careful (routine_at p routine) _ (λ cells.
       after here.line (frame_out levels here.base) _ (frame_careful levels here.base) (λ frame. k))) out
 
-  enter_careful : (routine frame : ℕ) (args : List Value) (go : Out → ActTree) → ((out : Out) → IsCarefulTree (go out))
-      → IsCarefulTree (enter p routine frame args go)
-  enter_careful routine frame args go k = frame_size_careful (routine_at p routine) _ (λ cells. k)
+  enter_careful : (routine frame : ℕ) (passed : Passed) (go : Out → ActTree) → ((out : Out) → IsCarefulTree (go out))
+      → IsCarefulTree (enter p routine frame passed go)
+  enter_careful routine frame passed go k = frame_size_careful (routine_at p routine) _ (λ cells. k)
 
   formal_call : (here : Here) (formal levels actuals : ℕ) (go : Out → ActTree) → ((out : Out) → IsCarefulTree (go out))
       → IsCarefulTree (call_formal p here formal levels actuals go)
-  formal_call here formal levels actuals go k = λ out. on_many _ (λ args. formal_careful (row_at p formal) _ (λ place heading.
+  formal_call here formal levels actuals go k = λ out. on_passed _ (λ passed. formal_careful (row_at p formal) _ (λ place heading.
       after here.line (routine_out p heading levels here.base place) _ (routine_careful p heading levels here.base place)
-      (λ x. enter_careful x.0 x.1 args go k))) out
+      (λ x. enter_careful x.0 x.1 passed go k))) out
 
   -- ---- expressions
 
@@ -273,9 +310,18 @@ module _ (p : ProgramRows) where
   expression_careful here ExpressionRow.Eof = after here.line at_end scalar end_careful (λ _. tt)
   expression_careful here ExpressionRow.Eoln = after here.line at_line_end scalar line_end_careful (λ _. tt)
 
+  whole_array_careful : (row t : ℕ) (here : Here) (go : Dimensions → WholeArray → ActTree)
+      → ((d : Dimensions) (w : WholeArray) → IsCarefulTree (go d w)) → IsCarefulTree (whole_array p row t here go)
+  whole_array_careful row t here go k = λ out. on_array _ (λ addr frame. dimensions_careful (dimensions_of p t) _ (λ d.
+      after here.line (whole_at d addr frame) (go d) (whole_at_careful d addr frame) (λ w. k d w))) out
+
+  valued : (row t : ℕ) (here : Here) (conformant : Bool) → IsCarefulTree (access_value p row t here conformant)
+  valued row t here true = whole_array_careful row t here (λ d w. Ret (Cells w.cells)) (λ d w. tt)
+  valued row t here false = locate_careful row here _ (λ addr. value_careful here.line addr (type_at p t))
+
   expression_row : (row : ℕ) (here : Here) (r : Row) → IsCarefulTree (expression_in p row here r)
   expression_row row here (Row.Expression e) = (tt, λ _. expression_careful here e)
-  expression_row row here (Row.Access a) = locate_careful row here _ (λ addr. value_careful here.line addr (type_at p (type_accessed a)))
+  expression_row row here (Row.Access a) = valued row (type_accessed a) here (is_conformant p (type_accessed a))
   expression_row row here r = tt
 
   actual_careful : (here : Here) (t : Option TypeRow) (go : List Value → ActTree) → ((vs : List Value) → IsCarefulTree (go vs)) → (out : Out)
@@ -285,14 +331,56 @@ module _ (p : ProgramRows) where
   actual_careful here t go k (Jump label base) = tt
   actual_careful here t go k out = tt
 
-  passed_careful : (here : Here) (nx : ℕ) (passed : List Value) (found : Action (ℕ × ℕ)) → IsCareful found
+  passed_careful : (here : Here) (nx : ℕ) (passed : Passed) (found : Action (ℕ × ℕ)) → IsCareful found
       → IsCarefulTree (pass_routine here nx passed found)
   passed_careful here nx passed found h = (tt, λ _. after here.line found _ h (λ x out. tt))
 
-  actual_row : (passed : List Value) (here : Here) (r : Row) → IsCarefulTree (of_actual p passed here r)
-  actual_row passed here (Row.Item (ItemRow.Value e of' nx)) = λ out. actual_careful here (type_at p of') (λ vs. Sub (Pass nx (passed ++ vs) here) Ret)
+  -- ---- arrays as actuals
+
+  placed_careful : (access t : ℕ) (specs : List HeldSpec) (here : Here) (conformant : Bool) (go : List Extent → ℕ → ActTree)
+      → ((es : List Extent) (addr : ℕ) → IsCarefulTree (go es addr)) → IsCarefulTree (array_placed p access t specs here conformant go)
+  placed_careful access t specs here true go k = λ out. on_array _ (λ addr frame. dimensions_careful (dimensions_of p t) _ (λ d.
+      after here.line (extents_at d.specs frame) (λ es. go (es ++ inner_extents p d specs) addr) (extents_careful d.specs frame)
+      (λ es. k (es ++ inner_extents p d specs) addr))) out
+  placed_careful access t specs here false go k =
+      locate_careful access here (λ addr. go (fixed_extents p specs (type_at p t)) addr) (λ addr. k (fixed_extents p specs (type_at p t)) addr)
+
+  copied_careful : (access t : ℕ) (specs : List HeldSpec) (here : Here) (conformant : Bool) (go : WholeArray → ActTree)
+      → ((w : WholeArray) → IsCarefulTree (go w)) → IsCarefulTree (array_copied p access t specs here conformant go)
+  copied_careful access t specs here true go k =
+      whole_array_careful access t here (λ d w. go (record { extents = w.extents ++ inner_extents p d specs; cells = w.cells }))
+      (λ d w. k (record { extents = w.extents ++ inner_extents p d specs; cells = w.cells }))
+  copied_careful access t specs here false go k = locate_careful access here _ (λ addr. size_careful (type_at p t) _ (λ cells.
+      after here.line (read_values [] addr cells) (λ vs. go (record { extents = fixed_extents p specs (type_at p t); cells = vs }))
+      (reads_careful [] addr cells) (λ vs. k (record { extents = fixed_extents p specs (type_at p t); cells = vs }))))
+
+  placed_row : (row : ℕ) (specs : List HeldSpec) (here : Here) (r : Row) (go : List Extent → ℕ → ActTree)
+      → ((es : List Extent) (addr : ℕ) → IsCarefulTree (go es addr)) → IsCarefulTree (placed_in p row specs here r go)
+  placed_row row specs here (Row.Access a) go k = placed_careful row (type_accessed a) specs here (is_conformant p (type_accessed a)) go k
+  placed_row row specs here r go k = tt
+
+  copied_row : (row : ℕ) (specs : List HeldSpec) (here : Here) (r : Row) (go : WholeArray → ActTree) → ((w : WholeArray) → IsCarefulTree (go w))
+      → IsCarefulTree (whole_in p row specs here r go)
+  copied_row row specs here (Row.Access a) go k = copied_careful row (type_accessed a) specs here (is_conformant p (type_accessed a)) go k
+  copied_row row specs here (Row.Expression e) go k = many_careful row here (λ vs. go (text_whole vs)) (λ vs. k (text_whole vs))
+  copied_row row specs here r go k = tt
+
+  bounded : (here : Here) (first : Bool) (specs : List HeldSpec) (es : List Extent) (passed : Passed) (go : Passed → ActTree)
+      → ((q : Passed) → IsCarefulTree (go q)) → IsCarefulTree (section_bounds here first specs es passed go)
+  bounded here true specs es passed go k =
+      after here.line _ (λ _. go (and_cells passed (bound_values es))) (section_careful es specs) (λ _. k (and_cells passed (bound_values es)))
+  bounded here false specs es passed go k = k passed
+
+  actual_row : (passed : Passed) (here : Here) (r : Row) → IsCarefulTree (of_actual p passed here r)
+  actual_row passed here (Row.Item (ItemRow.Value e of' nx)) = λ out. actual_careful here (type_at p of') (λ vs. Sub (Pass nx (and_cells passed vs) here) Ret)
       (λ vs out. tt) out
   actual_row passed here (Row.Item (ItemRow.Place access nx)) = locate_careful access here _ (λ addr out. tt)
+  actual_row passed here (Row.Item (ItemRow.ArrayPlace first access of' nx)) = dimensions_careful (dimensions_of p of') _ (λ d.
+      placed_row access d.specs here (row_at p access) _ (λ es addr.
+      bounded here first d.specs es passed (λ q. Sub (Pass nx (and_cells q (Value.Place addr ∷ [])) here) Ret) (λ q out. tt)))
+  actual_row passed here (Row.Item (ItemRow.ArrayValue first e of' nx)) = dimensions_careful (dimensions_of p of') _ (λ d.
+      copied_row e d.specs here (row_at p e) _ (λ w.
+      bounded here first d.specs w.extents passed (λ q. Sub (Pass nx (and_copy q w.cells) here) Ret) (λ q out. tt)))
   actual_row passed here (Row.Item (ItemRow.Routine routine levels nx)) = passed_careful here nx passed _
       (next (frame_out levels here.base) _ (frame_careful levels here.base) (λ _. tt))
   actual_row passed here (Row.Item (ItemRow.RoutineFormal formal levels nx)) = formal_careful (row_at p formal) _ (λ place heading.
@@ -508,7 +596,7 @@ module _ (p : ProgramRows) where
   pub part_careful : (part : Part) → IsCarefulTree (layer p part)
   part_careful (Eval row here) = expression_row row here (row_at p row)
   part_careful (Locate row target here) = access_row row target here (row_at p row)
-  part_careful (Pass at passed here) = until at (Ret (Cells passed)) _ tt (actual_row passed here (row_at p at))
+  part_careful (Pass at passed here) = until at (Ret (Actuals passed)) _ tt (actual_row passed here (row_at p at))
   part_careful (Gather at set here) = until at (scalar set) _ tt (member_row set here (row_at p at))
   part_careful (Establish at body here) = until at _ _ (λ out. tt) (records_row here body (row_at p at))
   part_careful (Exec row here) = statement_row row here (row_at p row)

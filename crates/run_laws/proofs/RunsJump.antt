@@ -6,7 +6,7 @@ use Rattle.core_program.proofs.{ActsLeave.MayEnter, ActsLeave.limits_hold, Event
 use Rattle.core_program.proofs.RunsLeave.{IsProper, act_left, call_leaves, ran_leaves, sound_framed, sound_opened}
 use Rattle.core_program.proofs.Ways.{Ran, RanCall, RanFrame, front, of_call}
 use Rattle.core_program.proofs.Ways as ways
-use Rattle.core_program.specs.{Acts.Spend, ProgramRows.ProgramRows, RunLaws.calls_in, State.IsSound, State.State}
+use Rattle.core_program.specs.{Acts.Spend, Passed.args_at, Passed.cells_entered, ProgramRows.ProgramRows, RunLaws.calls_in, State.IsSound, State.State}
 use Rattle.core_program.specs.Run.{Call, End, Ended, Halted, Marked, Result, run, way_out}
 use Rattle.core_program.specs.Tree.{ActTree, Jump, Nothing, Out, Ret}
 use Rattle.run_laws.proofs.PartsJump.{IsJump, JumpTree, Outward, part_jumps, whole_jumps}
@@ -154,19 +154,19 @@ module _ (p : ProgramRows) where
         (go_further base σ.depth y.end z.end (unmarked y.events) (relayed base next y.end out c.1 e k) a.led)
         (same_depth base l.depth (ran_outs k l.sound base (c.2 out)))
     ran_outs (ways.AtLimit q) s base c = record { deep = tt; led = tt }
-    ran_outs (ways.CallStopped {f = f} {cells = cells} {args = args} {σ = σ} {y = y} {way = way} q g e) s base c =
-        let m = limits_hold σ cells q in
+    ran_outs (ways.CallStopped {e = e} {σ = σ} {y = y} {way = way} q g d) s base c =
+        let m = limits_hold σ (cells_entered e) q in
         let a = call_outs g s m in
         record {
-          deep = call_deep f args σ y a;
-          led = call_goes base f args σ y y.end (call_leaves p g s m).proper (stopped_none base y.end way e) a;
+          deep = call_deep e.routine (args_at e σ.top) σ y a;
+          led = call_goes base e.routine (args_at e σ.top) σ y y.end (call_leaves p g s m).proper (stopped_none base y.end way d) a;
         }
-    ran_outs (ways.CallEnded {f = f} {cells = cells} {args = args} {next = next} {σ = σ} {y = y} {out = out} {s = z} q g e k) s base c =
-        let m = limits_hold σ cells q in
+    ran_outs (ways.CallEnded {e = e} {next = next} {σ = σ} {y = y} {out = out} {s = z} q g d k) s base c =
+        let m = limits_hold σ (cells_entered e) q in
         let l = call_leaves p g s m in
         let a = call_outs g s m in
-        outs_front base σ.depth y.log (of_call f args σ y).events z (call_deep f args σ y a)
-        (call_goes base f args σ y z.end l.proper (relayed base next y.end out c.0 e k) a)
+        outs_front base σ.depth y.log (of_call e.routine (args_at e σ.top) σ y).events z (call_deep e.routine (args_at e σ.top) σ y a)
+        (call_goes base e.routine (args_at e σ.top) σ y z.end l.proper (relayed base next y.end out c.0 d k) a)
         (same_depth base l.leaves.depth (ran_outs k l.leaves.sound base (c.1 out)))
     ran_outs (ways.NotBegun q) s base c = record { deep = tt; led = tt }
     ran_outs (ways.Began {σ = σ} {w = w} {r = r} q g) s base c =
@@ -177,7 +177,7 @@ module _ (p : ProgramRows) where
     frame_outs (ways.NoRoom e t) s = record { deep = tt; led = tt }
     frame_outs (ways.NoSteps e t u) s = record { deep = tt; led = tt }
     frame_outs (ways.Worked {f = f} {args = args} {σ = σ} {q = q} e t u g) s =
-        let a = ran_outs g (sound_framed q.cells args σ s (grind (arith, nat_tests))) σ.top (whole_jumps p f σ.top q) in
+        let a = ran_outs g (sound_framed q args σ s (grind (arith, nat_tests))) σ.top (whole_jumps p f σ.top q) in
         record { deep = a.deep; led = a.led }
 
     call_outs : {n f : ℕ} {args : List Value} {σ : State} {r : Result State Call} → RanCall p n f args σ r → IsSound σ → MayEnter σ

@@ -1,5 +1,5 @@
 -- In each run all pointers lead to what it made.
-use Rattle.std.proofs.Common.{if◌then◌else◌, ◌++◌, ◌+◌, ◌-◌, ◌<◌, ◌∙◌, ◌∷◌, ◌≡◌, ◌≤◌, [], ℕ, All, Bool, List, None, Option, Some, arith, false, inl, inr}
+use Rattle.std.proofs.Common.{if◌then◌else◌, ◌++◌, ◌+◌, ◌-◌, ◌<◌, ◌∙◌, ◌∷◌, ◌≡◌, ◌≤◌, [], ℕ, All, Bool, List, None, Option, Some, arith, drop, false, inl, inr}
 use Rattle.std.proofs.Common.{is_some, max, nat_lt, refl, replicate, slice_get, subst, suc, sym, take, true, zero}
 use Rattle.std.proofs.lemmas.{Bool.Decides.eqb_tells, Bool.Decides.nat_tests, List.Elements.All-cons, List.Elements.All-nil}
 use Rattle.std.specs.FinMap.{FinMap, get, get-empty, insert, remove}
@@ -12,14 +12,15 @@ use Rattle.core_program.proofs.Cells.{got_other, got_same, removed_other, remove
 use Rattle.core_program.proofs.RunsLeave.{act_left, call_leaves, ran_leaves, sound_framed, sound_opened}
 use Rattle.core_program.proofs.Ways.{Ran, RanCall, RanFrame, front, of_call, run_gives}
 use Rattle.core_program.proofs.Ways as ways
-use Rattle.core_program.specs.{Blocks.block_cells, Blocks.cleared, Blocks.filled, Blocks.lies_in_heap, ProgramRows.ProgramRows, RunLaws.calls_in, State.IsSound}
-use Rattle.core_program.specs.{State.State, State.is_in_reach, State.stack_end, Tree.ActTree, Tree.Out, Tree.Scalar}
+use Rattle.core_program.specs.{Passed.args_at, Passed.cells_entered, ProgramRows.ProgramRows, RunLaws.calls_in, State.IsSound, State.State, State.is_in_reach}
+use Rattle.core_program.specs.{State.stack_end, Tree.ActTree, Tree.Out, Tree.Scalar, declared.program.Routine.Routine}
 use Rattle.core_program.specs.Acts.{Act, ActResult, DropBlock, Fault, GiveByte, HasCell, Limited, MakeBlock, OutOfSteps, ReadCell, Spend, Stops, TakeIf, Went}
 use Rattle.core_program.specs.Acts.{WriteCell, after_touches, drop_block, dropped_block, look_item, made_block, make_block, on_cell, perform, put_asked, put_if}
 use Rattle.core_program.specs.Acts.{put_value, read_as, spent, take_item, take_looked, with_steps}
-use Rattle.core_program.specs.Run.{Call, End, Ended, Halted, Marked, Result, block, depth_enough, frame_cells, result_in, run, start}
+use Rattle.core_program.specs.Blocks.{block_cells, cleared, filled, lies_in_heap}
+use Rattle.core_program.specs.Run.{Call, End, Ended, Halted, Marked, Result, block, depth_enough, frame_cells, frame_size, result_in, run, start}
 use Rattle.run_laws.proofs.ActionsKeep.{ActLed, AllLed, AnswerLed, all_both, all_undefined, led_on}
-use Rattle.run_laws.proofs.PartsKeep.{KeptTree, OutLed, part_kept, whole_kept}
+use Rattle.run_laws.proofs.PartsKeep.{KeptTree, OutLed, args_led, part_kept, whole_kept}
 use Rattle.run_laws.specs.PointerLaws.{KeepsPointers, LeadsToMade}
 
 -- ---- cells
@@ -58,8 +59,16 @@ taken n zero vs h = tt
 taken n (suc k) [] h = tt
 taken n (suc k) (v ∷ vs) h = (h.0, taken n k vs h.1)
 
-frame_led : (n k : ℕ) (args : List Value) → AllLed n args → AllLed n (frame_cells k args)
-frame_led n k args h = taken n k (args ++ replicate k Value.Undefined) (all_both n args (replicate k Value.Undefined) h (all_undefined n k))
+left : (n k : ℕ) (vs : List Value) → AllLed n vs → AllLed n (drop k vs)
+left n zero vs h = h
+left n (suc k) [] h = tt
+left n (suc k) (v ∷ vs) h = left n k vs h.1
+
+frame_led : (n : ℕ) (q : Routine) (args : List Value) → AllLed n args → AllLed n (frame_cells q args)
+frame_led n q args h = all_both n (take q.cells (take q.parameters args ++ replicate q.cells Value.Undefined)) (drop q.parameters args)
+    (taken n q.cells (take q.parameters args ++ replicate q.cells Value.Undefined)
+    (all_both n (take q.parameters args) (replicate q.cells Value.Undefined) (taken n q.parameters args h) (all_undefined n q.cells)))
+    (left n q.parameters args h)
 
 -- ---- acts
 
@@ -238,15 +247,17 @@ module _ (p : ProgramRows) where
         let a = ran_keeps g s h (part_kept p σ.fresh part c.0) in
         keeps_front y.log y.events z a.calls (ran_keeps k l.sound a.cells (c.1 y.after.fresh (grown l) out (end_led y.after.fresh y.end out e a.end)))
     ran_keeps (ways.AtLimit q) s h c = record { cells = h; end = tt; calls = tt }
-    ran_keeps (ways.CallStopped {f = f} {cells = cells} {args = args} {σ = σ} {y = y} q g e) s h c =
-        let a = call_keeps g s (limits_hold σ cells q) h c.0 in
-        record { cells = a.cells; end = a.end; calls = keeps_call f args σ y h c.0 a }
-    ran_keeps (ways.CallEnded {f = f} {cells = cells} {args = args} {σ = σ} {y = y} {out = out} {s = z} q g e k) s h c =
-        let m = limits_hold σ cells q in
+    ran_keeps (ways.CallStopped {e = e} {σ = σ} {y = y} q g d) s h c =
+        let i = args_led σ.fresh e σ.top c.0 in
+        let a = call_keeps g s (limits_hold σ (cells_entered e) q) h i in
+        record { cells = a.cells; end = a.end; calls = keeps_call e.routine (args_at e σ.top) σ y h i a }
+    ran_keeps (ways.CallEnded {e = e} {σ = σ} {y = y} {out = out} {s = z} q g d k) s h c =
+        let m = limits_hold σ (cells_entered e) q in
         let l = (call_leaves p g s m).leaves in
-        let a = call_keeps g s m h c.0 in
-        keeps_front y.log (of_call f args σ y).events z (keeps_call f args σ y h c.0 a)
-        (ran_keeps k l.sound a.cells (c.1 y.after.fresh (grown l) out (end_led y.after.fresh y.end out e a.end)))
+        let i = args_led σ.fresh e σ.top c.0 in
+        let a = call_keeps g s m h i in
+        keeps_front y.log (of_call e.routine (args_at e σ.top) σ y).events z (keeps_call e.routine (args_at e σ.top) σ y h i a)
+        (ran_keeps k l.sound a.cells (c.1 y.after.fresh (grown l) out (end_led y.after.fresh y.end out d a.end)))
     ran_keeps (ways.NotBegun {σ = σ} q) s h c =
         record { cells = subst (DoneKept (λ n x. AnswerLed n (Spend 1) x)) q (act_kept (Spend 1) σ s h tt); end = tt; calls = tt }
     ran_keeps (ways.Began {next = next} {σ = σ} {w = w} {τ = τ} {r = r} q g) s h c =
@@ -260,9 +271,9 @@ module _ (p : ProgramRows) where
     frame_keeps (ways.NoRoom e t) s h l = record { cells = h; end = tt; calls = tt }
     frame_keeps (ways.NoSteps e t u) s h l = record { cells = h; end = tt; calls = tt }
     frame_keeps (ways.Worked {f = f} {args = args} {σ = σ} {q = q} {y = y} e t u g) s h l =
-        let a = ran_keeps g (sound_framed q.cells args σ s (grind (arith, nat_tests)))
-        (filled_all σ.fresh σ.top (frame_cells q.cells args) σ.cells h (frame_led σ.fresh q.cells args l)) (whole_kept p σ.fresh f σ.top q) in
-        record { cells = cleared_all y.after.fresh σ.top q.cells y.after.cells a.cells; end = a.end; calls = a.calls }
+        let a = ran_keeps g (sound_framed q args σ s (grind (arith, nat_tests)))
+        (filled_all σ.fresh σ.top (frame_cells q args) σ.cells h (frame_led σ.fresh q args l)) (whole_kept p σ.fresh f σ.top q) in
+        record { cells = cleared_all y.after.fresh σ.top (frame_size q args) y.after.cells a.cells; end = a.end; calls = a.calls }
 
     call_keeps : {n f : ℕ} {args : List Value} {σ : State} {r : Result State Call} → RanCall p n f args σ r → IsSound σ → MayEnter σ → AllCells σ.fresh σ.cells
         → AllLed σ.fresh args → Keeps r
@@ -282,4 +293,4 @@ pub pointers_kept : (p : ProgramRows) (input : List ℕ) (budget : ℕ) (r : Res
     → slice_get (calls_in r) number ≡ Some c → KeepsPointers c
 pointers_kept p input budget r e number c h = each_at (calls_in r) number c
     (ran_keeps p (run_gives p (depth_enough p budget) block (start input budget) r e) (begins_sound input budget) (no_cells stack_end)
-    ((tt, tt), λ m l out o. o)).calls h
+    ((tt, (tt, tt)), λ m l out o. o)).calls h

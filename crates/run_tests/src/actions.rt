@@ -4,8 +4,8 @@ ghost use Rattle.eval_ops.specs.Machines.{IsReady};
 
 use crate::runs::{ADD, INPUT, program_of};
 use cell_value::{Cells, Items, Kind, Memory, Value, WayOut};
-use core_program::rows::{INTEGER, PartRow, Row};
-use core_program::{Program, Scan, Scanned, VariantPart};
+use core_program::rows::{INTEGER, LIST_END, PartRow, Row};
+use core_program::{Program, Routine, Scan, Scanned, VariantPart};
 use edge_ports::Bytes;
 use effect_log::Log;
 use eval_ops::{
@@ -92,7 +92,18 @@ fn furnish(alloc: Global, machine: &mut Machine, cells: u32) -> Result<(), Halt>
 {
     let mut link = Cells::new(alloc);
     link.push(Value::Nil)?;
-    make_frame(alloc, machine, &link, cells)
+    let block = Routine {
+        name: 0,
+        heading: 0,
+        level: 0,
+        cells,
+        parameters: 1,
+        result: None,
+        statements: LIST_END,
+        line: 1,
+    };
+    make_frame(alloc, machine, &link, block)?;
+    Ok(())
 }
 
 /// Whether a value goes into a cell, and from there into another one.

@@ -1,11 +1,11 @@
 -- The test of rows says what rows have to be.
-use Rattle.std.proofs.Common.{◌&&◌, ◌<◌, ◌||◌, ◌∙◌, ◌≡◌, ◌⊎◌, ℕ, Bool, None, Option, Some, ap, arith, false, inl, inr, length, not, refl, subst, suc, sym, true}
-use Rattle.std.proofs.{Common.zero, lemmas.Bool.cases_lt}
+use Rattle.std.proofs.Common.{◌&&◌, ◌<◌, ◌||◌, ◌∙◌, ◌≡◌, ◌⊎◌, ℕ, Bool, None, Option, Some, ap, arith, false, inl, inr, length, nat_lt, not, refl, subst, suc}
+use Rattle.std.proofs.{Common.sym, Common.true, Common.zero, lemmas.Bool.cases_lt}
 use Rattle.core_program.proofs.{ActionsMeant.no, WholeActions.below_length, WholeParts.and_both}
-use Rattle.core_program.specs.ProgramRows.{ProgramRows, row_at, type_at}
+use Rattle.core_program.specs.{ProgramRows.ProgramRows, ProgramRows.row_at, ProgramRows.type_at, WholeTables.is_written_item}
 use Rattle.core_program.specs.WholeTables.{AccessFits, ExpressionFits, Goes, ItemFits, NameFits, PartFits, RowFits, StatementFits, TypeFits, WrittenFits}
-use Rattle.core_program.specs.WholeTables.{is_actual_item, is_cells, is_choice_of, is_element_of, is_list, is_member_item, is_read_access, is_record_access}
-use Rattle.core_program.specs.WholeTables.{is_result_type, is_scalar, is_section_item, is_statement, is_variant, is_variants_row, is_written_item}
+use Rattle.core_program.specs.WholeTables.{is_actual_item, is_cells, is_choice_of, is_conformant, is_element_of, is_list, is_member_item, is_read_access}
+use Rattle.core_program.specs.WholeTables.{is_record_access, is_result_type, is_scalar, is_section_item, is_statement, is_type, is_variant, is_variants_row}
 use Rattle.core_program.specs.declared.rows.{AccessRow.AccessRow, ExpressionRow.ExpressionRow, ItemRow.ItemRow, NameRow.NameRow, PartRow.PartRow, Row.Row}
 use Rattle.core_program.specs.declared.rows.{StatementRow.StatementRow, TypeRow.TypeRow}
 use Rattle.whole_tables.specs.Fits.{access_fits, all_below, choices_go, elements_go, expression_fits, for_some, goes, item_fits, name_fits, part_fits, row_fits}
@@ -58,12 +58,14 @@ module _ (p : ProgramRows) (at : ℕ) where
   choices_mean : (fits : ℕ → Bool) (x next : ℕ) → choices_go fits p at x next ≡ true → fits x ≡ true → Goes (is_choice_of fits) p at next
   choices_mean fits x next h k = goes_on (is_choice_of fits) next (onward (fits x) _ h k)
 
-  type_means : (t : TypeRow) → type_fits p t ≡ true → TypeFits p t
+  type_means : (t : TypeRow) → type_fits p at t ≡ true → TypeFits p at t
   type_means (TypeRow.Ordinal least greatest) h = tt
   type_means (TypeRow.Subrange host least greatest) h = h
   type_means (TypeRow.Set packed base) h = h
   type_means (TypeRow.Pointer domain) h = h
   type_means (TypeRow.Array packed index component cells) h = both _ _ h
+  type_means (TypeRow.Conformant packed index component place) h =
+      let b = three _ (is_type p component) (not (is_conformant p component) || nat_lt at component) h in (b.0, b.1, onward (is_conformant p component) _ b.2)
   type_means (TypeRow.Record packed region cells variants) h = some_holds variants (λ v. is_variants_row (row_at p v)) h
 
   name_means : (n : NameRow) → name_fits p n ≡ true → NameFits p n
@@ -71,6 +73,7 @@ module _ (p : ProgramRows) (at : ℕ) where
   name_means (NameRow.Text token) h = h
   name_means (NameRow.TypeName of') h = h
   name_means (NameRow.Variable mode of' place level) h = h
+  name_means (NameRow.Bound of' place level) h = h
   name_means (NameRow.RoutineFormal place level heading) h = h
   name_means (NameRow.Field of' offset holder) h = both _ _ h
   name_means (NameRow.Tag of' offset holder variants) h = three _ _ _ h
@@ -135,6 +138,8 @@ module _ (p : ProgramRows) (at : ℕ) where
   access_means : (a : AccessRow) → access_fits p at a ≡ true → AccessFits p at a
   access_means (AccessRow.Variable place levels of') h = h
   access_means (AccessRow.Reference place levels of') h = h
+  access_means (AccessRow.Conformant place levels of') h = h
+  access_means (AccessRow.Component inner index array of') h = five _ _ _ _ _ h
   access_means (AccessRow.Within record' field of') h = both _ _ h
   access_means (AccessRow.Index inner index array of') h = five _ _ _ _ _ h
   access_means (AccessRow.Field inner field of') h = four _ _ _ _ h
@@ -153,6 +158,10 @@ module _ (p : ProgramRows) (at : ℕ) where
       )
   item_means (ItemRow.Value v of' next) h = let b = both _ (goes is_actual_item p at next) h in (b.0, goes_on is_actual_item next b.1)
   item_means (ItemRow.Place a next) h = let b = both _ (goes is_actual_item p at next) h in (b.0, goes_on is_actual_item next b.1)
+  item_means (ItemRow.ArrayPlace first a of' next) h =
+      let b = three _ _ (goes is_actual_item p at next) h in (b.0, b.1, goes_on is_actual_item next b.2)
+  item_means (ItemRow.ArrayValue first v of' next) h =
+      let b = three _ _ (goes is_actual_item p at next) h in (b.0, b.1, goes_on is_actual_item next b.2)
   item_means (ItemRow.Routine routine levels next) h = let b = both _ (goes is_actual_item p at next) h in (b.0, goes_on is_actual_item next b.1)
   item_means (ItemRow.RoutineFormal formal levels next) h = let b = both _ (goes is_actual_item p at next) h in (b.0, goes_on is_actual_item next b.1)
   item_means (ItemRow.Written v of' next) h =

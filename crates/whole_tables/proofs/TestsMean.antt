@@ -20,6 +20,7 @@ integer_means (Some (TypeRow.Subrange host least greatest)) h = no h
 integer_means (Some (TypeRow.Set packed base)) h = no h
 integer_means (Some (TypeRow.Pointer domain)) h = no h
 integer_means (Some (TypeRow.Array packed index component cells)) h = no h
+integer_means (Some (TypeRow.Conformant packed index component place)) h = no h
 integer_means (Some (TypeRow.Record packed region cells variants)) h = no h
 integer_means None h = no h
 

@@ -2,14 +2,15 @@
 use Rattle.std.specs.Prelude.{if◌then◌else◌, ◌&&◌, ◌||◌, ℕ, Bool, None, Option, Some, false, is_some, length, nat_eq}
 use Rattle.std.specs.Prelude.{nat_lt, negsuc, not, pos, suc, true, zero}
 use Rattle.std.specs.Ordering.{int_eq}
-use Rattle.core_program.specs.{Headings.heading_in, Headings.signature_at, WholeTables.signature_of}
+use Rattle.core_program.specs.Headings.{heading_in, signature_at}
 use Rattle.core_program.specs.ProgramRows.{ProgramRows, routine_at, row_at, type_at}
-use Rattle.core_program.specs.WholeTables.{has_result, is_access, is_actual_item, is_array_access, is_array_type}
-use Rattle.core_program.specs.WholeTables.{is_cells, is_choice_of, is_element_of, is_end, is_field_row, is_formal}
-use Rattle.core_program.specs.WholeTables.{is_function, is_holder_row, is_host_type, is_list, is_member_item}
-use Rattle.core_program.specs.WholeTables.{is_ordinal, is_read_access, is_record_access, is_result_type, is_routine}
-use Rattle.core_program.specs.WholeTables.{is_scalar, is_section_item, is_statement, is_text, is_turns_row, is_type}
-use Rattle.core_program.specs.WholeTables.{is_value_for, is_variable_row, is_variant, is_variants_row, is_written_item}
+use Rattle.core_program.specs.WholeTables.{has_result, is_access, is_actual_item, is_array_access, is_array_actual}
+use Rattle.core_program.specs.WholeTables.{is_array_type, is_bounded, is_cells, is_choice_of, is_conformant}
+use Rattle.core_program.specs.WholeTables.{is_element_of, is_end, is_field_row, is_formal, is_function, is_holder_row}
+use Rattle.core_program.specs.WholeTables.{is_host_type, is_list, is_member_item, is_ordinal, is_read_access}
+use Rattle.core_program.specs.WholeTables.{is_record_access, is_result_type, is_routine, is_scalar, is_section_item}
+use Rattle.core_program.specs.WholeTables.{is_statement, is_text, is_turns_row, is_type, is_value_for, is_variable_row}
+use Rattle.core_program.specs.WholeTables.{is_variant, is_variants_row, is_whole_array, is_written_item, signature_of}
 use Rattle.core_program.specs.declared.{program.Routine.Routine, rows.ExpressionRow.ExpressionRow}
 use Rattle.core_program.specs.declared.rows.{AccessRow.AccessRow, ItemRow.ItemRow, NameRow.NameRow, PartRow.PartRow}
 use Rattle.core_program.specs.declared.rows.{Row.Row, StatementRow.StatementRow, TypeRow.TypeRow}
@@ -25,19 +26,22 @@ abbrev pub for_some : Option ℕ → (ℕ → Bool) → Bool
 for_some None test = true
 for_some (Some n) test = test n
 
-abbrev pub type_fits : ProgramRows → TypeRow → Bool
-type_fits p (kind.Ordinal least greatest) = true
-type_fits p (kind.Subrange host least greatest) = is_host_type (type_at p host)
-type_fits p (kind.Set packed base) = is_ordinal p base
-type_fits p (kind.Pointer domain) = is_type p domain
-type_fits p (kind.Array packed index component cells) = is_ordinal p index && is_type p component
-type_fits p (kind.Record packed region cells variants) = for_some variants (λ v. is_variants_row (row_at p v))
+abbrev pub type_fits : ProgramRows → (at : ℕ) → TypeRow → Bool
+type_fits p at (kind.Ordinal least greatest) = true
+type_fits p at (kind.Subrange host least greatest) = is_host_type (type_at p host)
+type_fits p at (kind.Set packed base) = is_ordinal p base
+type_fits p at (kind.Pointer domain) = is_type p domain
+type_fits p at (kind.Array packed index component cells) = is_ordinal p index && is_type p component
+type_fits p at (kind.Conformant packed index component place) =
+    is_ordinal p index && is_type p component && (not (is_conformant p component) || nat_lt at component)
+type_fits p at (kind.Record packed region cells variants) = for_some variants (λ v. is_variants_row (row_at p v))
 
 abbrev pub name_fits : ProgramRows → NameRow → Bool
 name_fits p (NameRow.Constant of' value) = is_ordinal p of'
 name_fits p (NameRow.Text token) = is_text p token
 name_fits p (NameRow.TypeName of') = is_type p of'
 name_fits p (NameRow.Variable mode of' place level) = is_type p of'
+name_fits p (NameRow.Bound of' place level) = is_ordinal p of'
 name_fits p (NameRow.RoutineFormal place level heading) = is_some (signature_at p heading)
 name_fits p (NameRow.Field of' offset holder) = is_type p of' && is_holder_row (row_at p holder)
 name_fits p (NameRow.Tag of' offset holder variants) =
@@ -122,6 +126,9 @@ expression_fits p e = true
 abbrev pub access_fits : ProgramRows → (at : ℕ) → AccessRow → Bool
 access_fits p at (AccessRow.Variable place levels of') = is_type p of'
 access_fits p at (AccessRow.Reference place levels of') = is_type p of'
+access_fits p at (AccessRow.Conformant place levels of') = is_conformant p of'
+access_fits p at (AccessRow.Component inner index array of') = is_bounded p inner && nat_lt inner at
+    && is_scalar p index && is_conformant p array && is_type p of'
 access_fits p at (AccessRow.Within record' field of') = is_field_row (row_at p field) && is_type p of'
 access_fits p at (AccessRow.Index inner index array of') = is_access p inner && nat_lt inner at && is_scalar p index
     && is_array_type (type_at p array) && is_type p of'
@@ -142,6 +149,10 @@ choices_go fits p at x next = not (fits x) || goes (is_choice_of fits) p at next
 abbrev pub actual_fits : ProgramRows → (at : ℕ) → ItemRow → Bool
 actual_fits p at (item.Value v of' next) = is_value_for p (type_at p of') v && goes is_actual_item p at next
 actual_fits p at (item.Place a next) = is_access p a && goes is_actual_item p at next
+actual_fits p at (item.ArrayPlace first a of' next) =
+    is_array_actual p a && is_conformant p of' && goes is_actual_item p at next
+actual_fits p at (item.ArrayValue first v of' next) =
+    is_whole_array p v && is_conformant p of' && goes is_actual_item p at next
 actual_fits p at (item.Routine routine levels next) = is_routine p routine && goes is_actual_item p at next
 actual_fits p at (item.RoutineFormal formal levels next) = is_formal p formal && goes is_actual_item p at next
 actual_fits p at i = true
@@ -164,7 +175,7 @@ item_fits p at i = actual_fits p at i
 
 abbrev pub row_fits : ProgramRows → (at : ℕ) → Row → Bool
 row_fits p at Row.Nothing = true
-row_fits p at (Row.Type t) = type_fits p t
+row_fits p at (Row.Type t) = type_fits p at t
 row_fits p at (Row.Name n) = name_fits p n
 row_fits p at (Row.Part q) = part_fits p at q
 row_fits p at (Row.Statement s) = statement_fits p at s

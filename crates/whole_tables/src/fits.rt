@@ -4,6 +4,7 @@ ghost use Rattle.std.specs.Prelude.{◌&&◌, ◌≡◌};
 ghost use Rattle.core_program.specs.WholeTables as whole;
 ghost use Rattle.whole_tables.specs.Fits as fits;
 
+use crate::arrays::{is_array_actual, is_bounded, is_conformant, is_whole_array};
 use crate::kinds::{
     has_result, is_access, is_array_access, is_array_type, is_cells, is_field_row, is_formal,
     is_function, is_function_formal, is_heading, is_holder_row, is_host_type, is_ordinal,
@@ -20,8 +21,8 @@ use core_program::rows::{
 };
 use core_program::{ProgramTables, Routine};
 
-fn type_fits(program: &ProgramTables, row: TypeRow) -> bool
-    ensures { result ≡ fits.type_fits program.now row }
+fn type_fits(program: &ProgramTables, at: u32, row: TypeRow) -> bool
+    ensures { result ≡ fits.type_fits program.now at row }
 {
     match row {
         TypeRow::Ordinal { .. } => true,
@@ -33,6 +34,15 @@ fn type_fits(program: &ProgramTables, row: TypeRow) -> bool
             component,
             ..
         } => is_ordinal(program, index) && is_type(program, component),
+        TypeRow::Conformant {
+            index,
+            component,
+            ..
+        } => {
+            is_ordinal(program, index)
+                && is_type(program, component)
+                && (!is_conformant(program, component) || at < component)
+        }
         TypeRow::Record { variants, .. } => match variants {
             None => true,
             Some(variants) => is_variants_row(program.row(variants)),
@@ -48,6 +58,7 @@ fn name_fits(program: &ProgramTables, row: NameRow) -> bool
         NameRow::Text { token } => program.has_text(token),
         NameRow::TypeName { of } => is_type(program, of),
         NameRow::Variable { of, .. } => is_type(program, of),
+        NameRow::Bound { of, .. } => is_ordinal(program, of),
         NameRow::RoutineFormal { heading, .. } => is_heading(program, heading),
         NameRow::Field { of, holder, .. } => {
             is_type(program, of) && is_holder_row(program.row(holder))
@@ -247,6 +258,19 @@ fn access_fits(program: &ProgramTables, at: u32, row: AccessRow) -> bool
     match row {
         AccessRow::Variable { of, .. } => is_type(program, of),
         AccessRow::Reference { of, .. } => is_type(program, of),
+        AccessRow::Conformant { of, .. } => is_conformant(program, of),
+        AccessRow::Component {
+            access,
+            index,
+            array,
+            of,
+        } => {
+            is_bounded(program, access)
+                && access < at
+                && is_scalar(program, index)
+                && is_conformant(program, array)
+                && is_type(program, of)
+        }
         AccessRow::Within { field, of, .. } => {
             is_field_row(program.row(field)) && is_type(program, of)
         }
@@ -290,6 +314,26 @@ fn actual_fits(program: &ProgramTables, at: u32, row: ItemRow) -> bool
         }
         ItemRow::Place { access, next } => {
             is_access(program, access) && actuals_go(program, at, next)
+        }
+        ItemRow::ArrayPlace {
+            access,
+            of,
+            next,
+            ..
+        } => {
+            is_array_actual(program, access)
+                && is_conformant(program, of)
+                && actuals_go(program, at, next)
+        }
+        ItemRow::ArrayValue {
+            value,
+            of,
+            next,
+            ..
+        } => {
+            is_whole_array(program, value)
+                && is_conformant(program, of)
+                && actuals_go(program, at, next)
         }
         ItemRow::Routine { routine, next, .. } => {
             is_routine(program, routine) && actuals_go(program, at, next)
@@ -342,7 +386,7 @@ pub(crate) fn row_fits(program: &ProgramTables, at: u32, row: Row) -> bool
 {
     match row {
         Row::Nothing => true,
-        Row::Type(row) => type_fits(program, row),
+        Row::Type(row) => type_fits(program, at, row),
         Row::Name(row) => name_fits(program, row),
         Row::Part(row) => part_fits(program, at, row),
         Row::Statement(row) => statement_fits(program, at, row),

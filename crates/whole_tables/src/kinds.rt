@@ -5,6 +5,7 @@ ghost use Rattle.core_program.specs.Headings.{heading_in, signature_at};
 ghost use Rattle.core_program.specs.ProgramRows.{row_at, type_at};
 ghost use Rattle.core_program.specs.WholeTables as whole;
 
+use crate::arrays::{is_bounded_row, is_conformant_type};
 use core_program::rows::{AccessRow, ExpressionRow, NameRow, PartRow, Row, StatementRow, TypeRow};
 use core_program::{ProgramTables, Routine};
 
@@ -244,6 +245,8 @@ fn type_accessed(access: AccessRow) -> u32
     match access {
         AccessRow::Variable { of, .. } => of,
         AccessRow::Reference { of, .. } => of,
+        AccessRow::Conformant { of, .. } => of,
+        AccessRow::Component { of, .. } => of,
         AccessRow::Within { of, .. } => of,
         AccessRow::Index { of, .. } => of,
         AccessRow::Field { of, .. } => of,
@@ -319,7 +322,10 @@ pub(crate) fn is_cells(program: &ProgramTables, number: u32) -> bool
 {
     match program.row(number) {
         Row::Expression(ExpressionRow::Text { .. }) => true,
-        Row::Access(access) => is_structured_type(program.type_row(type_accessed(access))),
+        Row::Access(access) => {
+            is_structured_type(program.type_row(type_accessed(access)))
+                || is_bounded_row(program, program.row(number))
+        }
         _ => false,
     }
 }
@@ -330,5 +336,5 @@ pub(crate) fn is_value_for(program: &ProgramTables, of: u32, number: u32) -> boo
 {
     let row = program.type_row(of);
     (is_simple_type(row) && is_scalar(program, number))
-        || (is_structured_type(row) && is_cells(program, number))
+        || ((is_structured_type(row) || is_conformant_type(row)) && is_cells(program, number))
 }

@@ -2,6 +2,7 @@
 //! takes, lists end where they say, no two constructs share a number, and the program block is there.
 #![tactic(auto)]
 
+mod arrays;
 mod fits;
 mod kinds;
 mod lists;

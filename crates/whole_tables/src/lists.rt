@@ -15,6 +15,8 @@ fn is_actual_item(row: Row) -> bool
     match row {
         Row::Item(ItemRow::Value { .. }) => true,
         Row::Item(ItemRow::Place { .. }) => true,
+        Row::Item(ItemRow::ArrayPlace { .. }) => true,
+        Row::Item(ItemRow::ArrayValue { .. }) => true,
         Row::Item(ItemRow::Routine { .. }) => true,
         Row::Item(ItemRow::RoutineFormal { .. }) => true,
         _ => false,

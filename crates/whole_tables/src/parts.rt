@@ -104,6 +104,7 @@ fn access_parts(row: AccessRow) -> Parts
 {
     match row {
         AccessRow::Index { access, index, .. } => Parts::Two(access, index),
+        AccessRow::Component { access, index, .. } => Parts::Two(access, index),
         AccessRow::Field { access, .. } => Parts::One(access),
         AccessRow::Dereference { access, .. } => Parts::One(access),
         _ => Parts::Nothing,
@@ -117,6 +118,8 @@ fn item_parts(row: ItemRow) -> Parts
         ItemRow::Element { item, next } => Parts::Two(item, next),
         ItemRow::Value { value, next, .. } => Parts::Two(value, next),
         ItemRow::Place { access, next } => Parts::Two(access, next),
+        ItemRow::ArrayPlace { access, next, .. } => Parts::Two(access, next),
+        ItemRow::ArrayValue { value, next, .. } => Parts::Two(value, next),
         ItemRow::Routine { next, .. } => Parts::One(next),
         ItemRow::RoutineFormal { next, .. } => Parts::One(next),
         ItemRow::Written { value, next, .. } => Parts::Two(value, next),

@@ -6,9 +6,10 @@ use Rattle.cell_names.specs.{NamedBy.after_part, Names.SceneLists, Names.scene_i
 
 pub returns-in-Some-then_whose : goal.returns-in-Some-then_whose
 returns-in-Some-then_whose c =
-    let known = subst (λ (v : SceneLists). routine_at v.program c.args.routine ≡ Some c.in-Some.row) c.scene.view_is
+    let known = subst (λ (v : SceneLists). routine_at v.program c.args.frame.routine ≡ Some c.in-Some.row) c.scene.view_is
     (sym c.routine.ensures ∙ c.in-Some.is) in
-    let is = subst (λ (v : SceneLists). after_part (whose_text v.program c.args.call c.args.routine) c.args.name.now ≡ Some c.in-Some-then_whose.left.now)
+    let is = subst (λ (v : SceneLists). after_part (whose_text v.program c.args.frame.call c.args.frame.routine) c.args.name.now
+    ≡ Some c.in-Some-then_whose.left.now)
     c.scene.view_is (sym c.then_whose.ensures ∙ ap option_copied c.in-Some-then_whose.is) in
-    variables_passed (scene_in c.args.scene.now) c.args.call c.args.routine c.args.place c.in-Some.row c.args.name.now c.in-Some-then_whose.left.now
+    variables_passed (scene_in c.args.scene.now) c.args.frame c.args.place c.in-Some.row c.args.name.now c.in-Some-then_whose.left.now
     c.args.first c.passed_locals.result known is c.requires c.passed_locals.ensures

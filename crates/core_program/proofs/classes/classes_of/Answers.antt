@@ -6,5 +6,5 @@ use Rattle.core_program.specs.Classes.{Classed, same_form}
 pub returns : goal.returns
 returns c =
     let e : c.lists.at ≡ 0 = omega (arith, c.lists-test.false) in
-    all_classed c.args.tables.now c.requires.whole (get same_form c.lists.known) c.lists.classes.items
-    (subst (λ at. Classed c.args.tables.now (get same_form c.lists.known) at c.lists.classes.items) e c.lists.invariant.classed)
+    all_classed c.args.tables.now c.requires.whole c.in_ok-types.types.items c.in_ok-types.ensures (get same_form c.lists.known) c.lists.classes.items
+    (subst (λ at. Classed c.args.tables.now c.in_ok-types.types.items (get same_form c.lists.known) at c.lists.classes.items) e c.lists.invariant.classed)

@@ -5,7 +5,7 @@ use Rattle.core_program.specs.Classes.{Classed, same_form}
 abbrev pub invariant-lists : goal.invariant-lists
 invariant-lists l = record {
   within : l.at ≤ length l.tables.rows;
-  classed : Classed l.tables (get same_form l.known) l.at l.classes.items;
+  classed : Classed l.tables l.types.items (get same_form l.known) l.at l.classes.items;
 }
 
 abbrev pub decreases-lists : goal.decreases-lists

@@ -3,7 +3,7 @@ use Rattle.core_program.specs.{ProgramRows.type_at, Tree.Address, Tree.bind, Tre
 use Rattle.core_program.specs.Accesses.{address, eval, locate_field, value_at, with_components}
 use Rattle.core_program.specs.Cells as action
 use Rattle.eval_ops.specs.Machines.{moment_of}
-use Rattle.evaluator.proofs.Moves.{comes_same, comes_then}
+use Rattle.evaluator.proofs.{ConformantTrees.wanted_at, Moves.comes_same, Moves.comes_then}
 use Rattle.evaluator.proofs.Turning.{moves_after, moves_after_by, moves_by, moves_on, spent, spent_less}
 use Rattle.evaluator.proofs.accesses.continue_access.Goals as goal
 use Rattle.evaluator.specs.{Weight.task_weight, declared.tasks.Task.Task}
@@ -12,8 +12,10 @@ use Rattle.evaluator.specs.Rest.{here, lists_of, resume, tasks_of, values_of, wa
 pub returns-in-Value-clause-moves : goal.returns-in-Value-clause-moves
 returns-in-Value-clause-moves c =
     moves_on c.variable_value.ensures.moves (ap (λ t. resume c.args.program.now c.args.body.now.home (Task.Located t ∷ tasks_of c.args.body.now) (values_of
-    c.args.body.now) (lists_of c.args.body.now) (Address c.args.addr)) c.in-Value.is ∙ ap (λ t. bind (value_at c.args.program.now c.in-Value.line c.args.addr t)
-    (waiting c.args.program.now c.args.body.now)) (sym c.type_row.ensures)) (omega (arith, ap (λ t. task_weight (Task.Located t)) c.in-Value.is))
+    c.args.body.now) (lists_of c.args.body.now) (Address c.args.addr)) c.in-Value.is
+    ∙ ap (λ x. bind x (waiting c.args.program.now c.args.body.now)) (wanted_at c.args.program.now c.in-Value.line c.in-Value.of c.args.addr)
+    ∙ ap (λ t. bind (value_at c.args.program.now c.in-Value.line c.args.addr t) (waiting c.args.program.now c.args.body.now)) (sym c.type_row.ensures))
+    (omega (arith, ap (λ t. task_weight (Task.Located t)) c.in-Value.is))
 
 pub returns-in-Passed-clause-moves : goal.returns-in-Passed-clause-moves
 returns-in-Passed-clause-moves c = moves_by c.add_cell.ensures.turns c.add_cell.ensures.falls c.add_cell.ensures.home (rw c.in-Passed.is)

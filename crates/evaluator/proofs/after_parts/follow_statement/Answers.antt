@@ -27,7 +27,7 @@ returns-in-Counted-clause-moves c =
     (lists_of c.take_value-last.new.self)) c.take_value-last.ensures.home ∙ ap (λ ts. resume p c.args.body.now.home (reverse ts) (below_top (values_of
     c.take_value-last.new.self)) (lists_of c.take_value-last.new.self)) c.take_value-last.ensures.tasks ∙ ap (λ vs. resume p c.args.body.now.home (tasks_of
     c.args.body.now) (below_top vs) (lists_of c.take_value-last.new.self)) c.take_value-last.ensures.values ∙ ap (λ ls. resume p c.args.body.now.home (tasks_of
-    c.args.body.now) (below_top (below_top (values_of c.args.body.now))) (reverse ls)) c.take_value-last.ensures.lists in
+    c.args.body.now) (below_top (below_top (values_of c.args.body.now))) ls) c.take_value-last.ensures.lists in
     let x = c.take_value-value.ensures.result ∙ ap top c.take_value-last.ensures.values in
     moves_from c.turn_ended.ensures.moves (ap (λ t. from_under p c.args.body.now (Came Way.Nothing) (Task.Next t)) c.in-Counted.is ∙ ap (λ k. bind (with_numbers
     (top (below_top (values_of c.args.body.now))) (top (values_of c.args.body.now)) (λ i last. after_turn c.args.body.now.home c.in-Counted.row

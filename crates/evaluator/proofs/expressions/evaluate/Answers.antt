@@ -1,8 +1,8 @@
 use Rattle.std.proofs.Common.{◌∙◌, ◌≡◌, ap, arith, sym}
-use Rattle.core_program.specs.{Accesses.locate, Accesses.value_at, ProgramRows.row_at, ProgramRows.type_at, Tree.Eval, declared.rows.Row.Row}
-use Rattle.core_program.specs.Expressions.{expression_in, of_expression}
+use Rattle.core_program.specs.{Accesses.is_conformant, ProgramRows.row_at, Tree.Eval, declared.rows.Row.Row}
+use Rattle.core_program.specs.Expressions.{access_value, expression_in, of_expression}
 use Rattle.eval_ops.specs.Machines.{moment_of}
-use Rattle.evaluator.proofs.Moves.{comes_then}
+use Rattle.evaluator.proofs.{ConformantTrees.access_wanted, Moves.comes_then}
 use Rattle.evaluator.proofs.Turning.{fails_after, moves_after, moves_after_by, moves_failed, not_spent, part_comes, spent, spent_less}
 use Rattle.evaluator.proofs.expressions.evaluate.Goals as goal
 use Rattle.evaluator.specs.Rest.{here, waiting}
@@ -35,5 +35,5 @@ returns-in-Access-clause-moves c =
     let h = here c.args.body.now.home c.args.line in
     let e : row_at p c.args.row ≡ Row.Access c.in-Access.access = cc in
     moves_after_by (c.wait.ensures.turns p) c.wait.ensures.falls c.wait.ensures.home (part_comes p (Eval c.args.row h) (waiting p c.args.body.now) (moment_of
-    c.args.machine.now) _ (ap (expression_in p c.args.row h) e ∙ ap (λ of. locate c.args.row h (λ addr. value_at p c.args.line addr (type_at p of))) (sym
-    c.type_accessed.ensures))) (omega arith)
+    c.args.machine.now) _ (ap (expression_in p c.args.row h) e ∙ ap (λ of. access_value p c.args.row of h (is_conformant p of)) (sym
+    c.type_accessed.ensures) ∙ access_wanted p c.args.row c.type_accessed.result h (is_conformant p c.type_accessed.result))) (omega arith)

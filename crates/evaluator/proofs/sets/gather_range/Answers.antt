@@ -12,8 +12,7 @@ returns-clause-turns c p m u same =
     let K = resume p a.home (tasks_of a) (below_top (below_top (values_of a))) (lists_of a) in
     let f = c.take_value-first.ensures in
     let s = c.take_value-set.ensures in
-    let rest : waiting p c.take_value-set.new.self ≡ K = s.waits p ∙ (λ i. resume p (f.home i) (reverse (f.tasks i)) (below_top (f.values i)) (reverse (f.lists
-    i))) in
+    let rest : waiting p c.take_value-set.new.self ≡ K = s.waits p ∙ (λ i. resume p (f.home i) (reverse (f.tasks i)) (below_top (f.values i)) (f.lists i)) in
     c.gathered.ensures.turns p m u (same ∙ ap (λ x. bind (gather h n (members_added (top (below_top (values_of a))) x v)) K) (sym f.result) ∙ ap (λ x. bind
     (gather h n (members_added x c.take_value-first.result v)) K) (ap top (sym f.values) ∙ sym s.result) ∙ ap (λ r. bind (gather h n r) K) (sym
     c.add_members.ensures) ∙ sym (λ i. bind (gather (here ((s.home ∙ f.home) i) c.args.line) n c.add_members.result) (rest i)))

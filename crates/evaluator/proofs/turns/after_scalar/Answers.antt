@@ -33,3 +33,8 @@ pub returns-in-PackIndex-clause-moves : goal.returns-in-PackIndex-clause-moves
 returns-in-PackIndex-clause-moves c =
     moves_on c.move_arrays.ensures.moves (ap (from_under c.args.program.now c.args.body.now (Came (Way.Scalar c.args.value))) c.in-PackIndex.is)
     (omega (arith, ap task_weight c.in-PackIndex.is))
+
+pub returns-in-BoundedComponent-clause-moves : goal.returns-in-BoundedComponent-clause-moves
+returns-in-BoundedComponent-clause-moves c =
+    moves_on c.bounded_component.ensures.moves (ap (from_under c.args.program.now c.args.body.now (Came (Way.Scalar c.args.value))) c.in-BoundedComponent.is)
+    (omega (arith, ap task_weight c.in-BoundedComponent.is))

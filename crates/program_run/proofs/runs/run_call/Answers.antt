@@ -11,7 +11,7 @@ enter-requires-clause-calls c =
     let σ = machine_state c.args.machine in
     let v : View = record { opens = map (open_in p) (reverse c.new-2.result.items); moment = moment_of c.args.machine; recording = c.new.result } in (
       first_call c.args.routine c.args.args σ,
-      starts p c.args.routine c.args.args σ v c.requires.free (record {
+      starts p c.args.routine c.args.args σ v (record {
         state = refl;
         log = c.requires.log;
         opens = ap (λ os. map (open_in p) (reverse os)) c.new-2.ensures.items;
@@ -26,7 +26,7 @@ go-requires-clause-rests c =
     let v : View = record { opens = map (open_in p) (reverse c.new-2.result.items); moment = moment_of c.args.machine; recording = c.new.result } in (
       first_call c.args.routine c.args.args σ,
       c.in_ok-enter.ensures.rests (first_call c.args.routine c.args.args σ)
-          (starts p c.args.routine c.args.args σ v c.requires.free (record {
+          (starts p c.args.routine c.args.args σ v (record {
             state = refl;
             log = c.requires.log;
             opens = ap (λ os. map (open_in p) (reverse os)) c.new-2.ensures.items;
@@ -41,7 +41,7 @@ returns c =
     let v : View = record { opens = map (open_in p) (reverse c.new-2.result.items); moment = moment_of c.args.machine; recording = c.new.result } in
     record {
       over = c.in_ok-go.ensures.over (first_call c.args.routine c.args.args σ) (c.in_ok-enter.ensures.rests (first_call c.args.routine c.args.args σ)
-          (starts p c.args.routine c.args.args σ v c.requires.free (record {
+          (starts p c.args.routine c.args.args σ v (record {
             state = refl;
             log = c.requires.log;
             opens = ap (λ os. map (open_in p) (reverse os)) c.new-2.ensures.items;

@@ -1,14 +1,8 @@
 use Rattle.std.proofs.Common.{◌∙◌, ap, subst}
-use Rattle.core_program.specs.Acts.{limit_passed}
 use Rattle.eval_ops.specs.Machines.{moment_of}
-use Rattle.program_run.proofs.CallsFromStates.{called_log, called_output, called_rows, no_limit}
+use Rattle.program_run.proofs.CallsFromStates.{called_log, called_output, called_rows}
 use Rattle.program_run.proofs.runs.run_from.Goals as goal
 use Rattle.program_run.specs.{CalledFrom.state_from, Tower.IsOver, Tower.first_call}
-
-pub run_call-requires-clause-free : goal.run_call-requires-clause-free
-run_call-requires-clause-free c =
-    ap (λ σ. limit_passed σ 0) (c.machine_from-machine.ensures.state ∙ ap (state_from c.args.entry c.args.depth) c.in_ok-items.ensures.same)
-    ∙ no_limit c.requires.able
 
 pub returns-clause-calls : goal.returns-clause-calls
 returns-clause-calls c =
@@ -17,7 +11,7 @@ returns-clause-calls c =
     let σ = state_from c.args.entry c.args.depth c.args.input.now in
     let state = c.machine_from-machine.ensures.state ∙ ap (state_from c.args.entry c.args.depth) c.in_ok-items.ensures.same in
     c.history_of.ensures.calls
-    ∙ called_rows p c.is_whole.ensures.whole c.args.routine c.args.args.now σ (no_limit c.requires.able) (moment_of r.machine) r.calls
+    ∙ called_rows p c.is_whole.ensures.whole c.args.routine c.args.args.now σ (moment_of r.machine) r.calls
     (subst (λ first. IsOver p first (moment_of r.machine) r.calls) (λ i. first_call c.args.routine (c.in_ok-values.ensures i) (state i))
     c.in_ok-runner.ensures.over)
 
@@ -28,7 +22,7 @@ returns-clause-log c =
     let σ = state_from c.args.entry c.args.depth c.args.input.now in
     let state = c.machine_from-machine.ensures.state ∙ ap (state_from c.args.entry c.args.depth) c.in_ok-items.ensures.same in
     c.history_of.ensures.log
-    ∙ called_log p c.is_whole.ensures.whole c.args.routine c.args.args.now σ (no_limit c.requires.able) (moment_of r.machine) r.calls
+    ∙ called_log p c.is_whole.ensures.whole c.args.routine c.args.args.now σ (moment_of r.machine) r.calls
     (subst (λ first. IsOver p first (moment_of r.machine) r.calls) (λ i. first_call c.args.routine (c.in_ok-values.ensures i) (state i))
     c.in_ok-runner.ensures.over)
 
@@ -39,7 +33,7 @@ returns-clause-output c =
     let σ = state_from c.args.entry c.args.depth c.args.input.now in
     let state = c.machine_from-machine.ensures.state ∙ ap (state_from c.args.entry c.args.depth) c.in_ok-items.ensures.same in
     c.history_of.ensures.output
-    ∙ called_output p c.is_whole.ensures.whole c.args.routine c.args.args.now σ (no_limit c.requires.able) (moment_of r.machine) r.calls
+    ∙ called_output p c.is_whole.ensures.whole c.args.routine c.args.args.now σ (moment_of r.machine) r.calls
     (subst (λ first. IsOver p first (moment_of r.machine) r.calls) (λ i. first_call c.args.routine (c.in_ok-values.ensures i) (state i))
     c.in_ok-runner.ensures.over)
 

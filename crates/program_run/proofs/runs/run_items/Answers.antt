@@ -1,12 +1,8 @@
 use Rattle.std.proofs.Common.{◌++◌, ◌∙◌, ◌∷◌, [], IfOk, ap, subst}
 use Rattle.cell_value.specs.declared.values.Value.TheVariants.{Nil}
-use Rattle.core_program.specs.Acts.{limit_passed}
 use Rattle.eval_ops.specs.Machines.{moment_of}
 use Rattle.program_run.proofs.runs.run_items.Goals as goal
 use Rattle.program_run.specs.Tower.{IsOver, first_call}
-
-pub run_call-requires-clause-free : goal.run_call-requires-clause-free
-run_call-requires-clause-free c = ap (λ σ. limit_passed σ 0) c.first_machine-machine.ensures.state
 
 pub returns : goal.returns
 returns c = record {

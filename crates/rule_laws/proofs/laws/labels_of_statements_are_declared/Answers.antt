@@ -1,4 +1,4 @@
-use Rattle.rule_laws.proofs.TextLabels.{text_declared_law}
+use Rattle.rule_laws.proofs.TextChains.{text_declared_law}
 use Rattle.rule_laws.proofs.laws.labels_of_statements_are_declared.Goals as goal
 
 pub returns : goal.returns

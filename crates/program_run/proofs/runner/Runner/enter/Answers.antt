@@ -29,84 +29,85 @@ halt-requires c =
     let found : routine_at p c.args.routine ≡ Some row = sym c.routine.ensures ∙ c.unwrap-row.ensures in
     record {
       well = record {
-        ready = c.in_ok-halted.ensures.ready;
-        few = few_begun p (invocation c.args.routine row c.args.args) c.in_ok-halted.halted (moment_of c.args.self.now.machine) (moment_of c.begin.new.machine)
-            (c.in_ok-halted.ensures.begins p c.args.routine row found refl) c.requires.well.few;
-        counted = counted_entered c.args.self.now.calls c.enter.new.self c.args.self.now.opens.items c.push-in-Some.new.self.items _ c.args.routine c.args.args
-            c.in_ok-entry.entry c.in_ok-enter.ensures.entered c.in_ok-push-in-Some.ensures.items c.requires.well.counted;
+        ready = c.in_ok-begun.ensures.ready;
+        few = few_begun p (invocation c.args.routine row c.args.args) c.in_ok-begun.begun (moment_of c.args.self.now.machine) (moment_of c.begin.new.machine)
+            (c.in_ok-begun.ensures.begins p c.args.routine found) c.requires.well.few;
+        counted = counted_entered c.args.self.now.calls c.enter.new.self c.args.self.now.opens.items c.push-in-Ended.new.self.items _ c.args.routine c.args.args
+            c.in_ok-entry.entry c.in_ok-enter.ensures.entered c.in_ok-push-in-Ended.ensures.items c.requires.well.counted;
       };
     }
 
-pub returns-in_ok-push-in-None-clause-well : goal.returns-in_ok-push-in-None-clause-well
-returns-in_ok-push-in-None-clause-well c =
+pub returns-in_ok-push-in-Framed-clause-well : goal.returns-in_ok-push-in-Framed-clause-well
+returns-in_ok-push-in-Framed-clause-well c =
     let p = c.args.program.now in
     let row = c.unwrap-row.result in
     let found : routine_at p c.args.routine ≡ Some row = sym c.routine.ensures ∙ c.unwrap-row.ensures in
     record {
-      ready = c.in_ok-halted.ensures.ready;
-      few = few_begun p (invocation c.args.routine row c.args.args) c.in_ok-halted.halted (moment_of c.args.self.now.machine) (moment_of c.begin.new.machine)
-          (c.in_ok-halted.ensures.begins p c.args.routine row found refl) c.requires.well.few;
+      ready = c.in_ok-begun.ensures.ready;
+      few = few_begun p (invocation c.args.routine row c.args.args) c.in_ok-begun.begun (moment_of c.args.self.now.machine) (moment_of c.begin.new.machine)
+          (c.in_ok-begun.ensures.begins p c.args.routine found) c.requires.well.few;
       counted = counted_entered c.args.self.now.calls c.enter.new.self c.args.self.now.opens.items c.push.new.self.items _ c.args.routine c.args.args
-          c.in_ok-entry.entry c.in_ok-enter.ensures.entered c.in_ok-push-in-None.ensures.items c.requires.well.counted;
+          c.in_ok-entry.entry c.in_ok-enter.ensures.entered c.in_ok-push-in-Framed.ensures.items c.requires.well.counted;
     }
 
-pub returns-in_ok-push-in-None-clause-rests : goal.returns-in_ok-push-in-None-clause-rests
-returns-in_ok-push-in-None-clause-rests c first t =
+pub returns-in_ok-push-in-Framed-clause-rests : goal.returns-in_ok-push-in-Framed-clause-rests
+returns-in_ok-push-in-Framed-clause-rests c first t =
     let p = c.args.program.now in
     let row = c.unwrap-row.result in
     let old = view_of p c.args.self.now in
     let found : routine_at p c.args.routine ≡ Some row = sym c.routine.ensures ∙ c.unwrap-row.ensures in
-    let begun = subst (λ h. CallBegun p (invocation c.args.routine row c.args.args) h old.moment (moment_of c.begin.new.machine)) c.in-None.is
-    (c.in_ok-halted.ensures.begins p c.args.routine row found refl) in
+    let begun = subst (λ h. CallBegun p (invocation c.args.routine row c.args.args) h old.moment (moment_of c.begin.new.machine)) c.in-Framed.is
+    (c.in_ok-begun.ensures.begins p c.args.routine found) in
     let new : View = record {
       opens = map (open_in p) (reverse c.push.new.self.items);
       moment = moment_of c.begin.new.machine;
       recording = c.enter.new.self;
     } in
     subst (λ tree. TowerAt p first (Rests tree) new) (sym (c.new.ensures.begins p row found))
-    (entered_stands (activation c.args.routine c.args.args row.cells (Rests (whole p c.args.routine c.args.self.now.machine.top row))) (rest_in p c.args.caller)
+    (entered_stands (activation c.args.routine c.args.args c.in-Framed.cells (Rests (whole p c.args.routine c.args.self.now.machine.top row)))
+    (rest_in p c.args.caller)
     old new (record {
       begins = begun;
       recording = c.in_ok-enter.ensures.entered ∙ ap (entered c.args.self.now.calls c.args.routine c.args.args) c.in_ok-entry.ensures;
-      opens = pushed p c.args.self.now.opens.items c.push.new.self.items _ c.in_ok-push-in-None.ensures.items;
+      opens = pushed p c.args.self.now.opens.items c.push.new.self.items _ c.in_ok-push-in-Framed.ensures.items;
     }) t)
 
-pub returns-in_ok-push-in-Some-clause-rests : goal.returns-in_ok-push-in-Some-clause-rests
-returns-in_ok-push-in-Some-clause-rests c first t =
+pub returns-in_ok-push-in-Ended-clause-rests : goal.returns-in_ok-push-in-Ended-clause-rests
+returns-in_ok-push-in-Ended-clause-rests c first t =
     let p = c.args.program.now in
     let row = c.unwrap-row.result in
     let old = view_of p c.args.self.now in
     let found : routine_at p c.args.routine ≡ Some row = sym c.routine.ensures ∙ c.unwrap-row.ensures in
-    let begun = subst (λ h. CallBegun p (invocation c.args.routine row c.args.args) h old.moment (moment_of c.begin.new.machine)) c.in-Some.is
-    (c.in_ok-halted.ensures.begins p c.args.routine row found refl) in
+    let begun = subst (λ h. CallBegun p (invocation c.args.routine row c.args.args) h old.moment (moment_of c.begin.new.machine)) c.in-Ended.is
+    (c.in_ok-begun.ensures.begins p c.args.routine found) in
     c.halt.ensures.over p first
     (entered_stands (activation c.args.routine c.args.args 0 (Ends (Halted _))) (rest_in p c.args.caller) old _ (record {
       begins = begun;
       recording = c.in_ok-enter.ensures.entered ∙ ap (entered c.args.self.now.calls c.args.routine c.args.args) c.in_ok-entry.ensures;
-      opens = pushed p c.args.self.now.opens.items c.push-in-Some.new.self.items _ c.in_ok-push-in-Some.ensures.items;
+      opens = pushed p c.args.self.now.opens.items c.push-in-Ended.new.self.items _ c.in_ok-push-in-Ended.ensures.items;
     }) t)
 
-pub returns-in_ok-push-in-None-clause-less : goal.returns-in_ok-push-in-None-clause-less
-returns-in_ok-push-in-None-clause-less c =
+pub returns-in_ok-push-in-Framed-clause-less : goal.returns-in_ok-push-in-Framed-clause-less
+returns-in_ok-push-in-Framed-clause-less c =
     let p = c.args.program.now in
     let row = c.unwrap-row.result in
     let found : routine_at p c.args.routine ≡ Some row = sym c.routine.ensures ∙ c.unwrap-row.ensures in
-    let calls : c.begin.new.machine.calls ≡ c.args.self.now.machine.calls + 1 = begun_calls p (invocation c.args.routine row c.args.args) c.in_ok-halted.halted
-    (moment_of c.args.self.now.machine) (moment_of c.begin.new.machine) (c.in_ok-halted.ensures.begins p c.args.routine row found refl) in
-    let spent = c.in_ok-halted.ensures.spent in
+    let calls : c.begin.new.machine.calls ≡ c.args.self.now.machine.calls + 1 = begun_calls p (invocation c.args.routine row c.args.args) c.in_ok-begun.begun
+    (moment_of c.args.self.now.machine) (moment_of c.begin.new.machine) (c.in_ok-begun.ensures.begins p c.args.routine found) in
+    let spent = c.in_ok-begun.ensures.spent in
     let room = c.requires.room.calls in
-    let items = ap length c.in_ok-push-in-None.ensures.items ∙ length-append c.args.self.now.opens.items _ in
+    let items = ap length c.in_ok-push-in-Framed.ensures.items ∙ length-append c.args.self.now.opens.items _ in
     omega (arith, calls, spent, room, items)
 
-pub returns-in_ok-push-in-Some-clause-less : goal.returns-in_ok-push-in-Some-clause-less
-returns-in_ok-push-in-Some-clause-less c =
+pub returns-in_ok-push-in-Ended-clause-less : goal.returns-in_ok-push-in-Ended-clause-less
+returns-in_ok-push-in-Ended-clause-less c =
     let p = c.args.program.now in
     let row = c.unwrap-row.result in
     let found : routine_at p c.args.routine ≡ Some row = sym c.routine.ensures ∙ c.unwrap-row.ensures in
-    let calls : c.begin.new.machine.calls ≡ c.args.self.now.machine.calls + 1 = begun_calls p (invocation c.args.routine row c.args.args) c.in_ok-halted.halted
-    (moment_of c.args.self.now.machine) (moment_of c.begin.new.machine) (c.in_ok-halted.ensures.begins p c.args.routine row found refl) in
-    let spent = c.in_ok-halted.ensures.spent in
+    let calls : c.begin.new.machine.calls ≡ c.args.self.now.machine.calls + 1 = begun_calls p (invocation c.args.routine row c.args.args) c.in_ok-begun.begun
+    (moment_of c.args.self.now.machine) (moment_of c.begin.new.machine) (c.in_ok-begun.ensures.begins p c.args.routine found) in
+    let spent = c.in_ok-begun.ensures.spent in
     let room = c.requires.room.calls in
-    let mid : Runner = record { machine = c.begin.new.machine; calls = c.enter.new.self; opens = c.push-in-Some.new.self; body = c.args.self.now.body } in
+    let mid : Runner = record { machine = c.begin.new.machine; calls = c.enter.new.self; opens = c.push-in-Ended.new.self; body = c.args.self.now.body } in
     on_ok c.halt.result (work_left c.halt.new.self + length mid.opens.items ≤ work_left mid) (work_left c.halt.new.self + 1 ≤ work_left c.args.self.now)
     (λ h. omega (arith, h, calls, spent, room)) c.halt.ensures.less

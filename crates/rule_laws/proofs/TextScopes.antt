@@ -1,0 +1,736 @@
+-- Where the labels of a text are declared, and which are found from the frames of its procedures and functions.
+use Rattle.std.proofs.Common.{◌++◌, ◌+◌, ◌<◌, ◌∙◌, ◌∷◌, ◌≡◌, ◌≤◌, ◌⊎◌, [], ℕ, Bool, List, None, Option, Some, ap, arith, false, inl, inr, length, nat_eq}
+use Rattle.std.proofs.Common.{nat_le, refl, replicate, slice_get, subst, suc, sym, true, unwrap_or, zero}
+use Rattle.std.{proofs.lemmas.Option.none-some, specs.Map.lookup}
+use Rattle.pas_lexer.specs.Lexed.{Lexed}
+use Rattle.pas_tree.specs.{HeadingPlaces.heading_name, HeadingTrees.HeadingTree, StatementPlaces.compound_word, declared.blocks.NextLabel.NextLabel}
+use Rattle.pas_tree.specs.BlockTrees.{BlockTree, BodyTree, LabelPartTree, ProgramTree, RoutineTree, RoutineTrees, routine_body, routine_heading}
+use Rattle.pas_tree.specs.BlockTrees as tree
+use Rattle.core_program.specs.declared.rows.{NameRow.NameRow, PartRow.PartRow, Row.Row, TypeRow.TypeRow}
+use Rattle.check_steps.specs.{Known.with_routine, Known.with_row, Regions.RegionRows, Regions.declared_in, Regions.fresh_region, Regions.region_at}
+use Rattle.check_steps.specs.{Required.open_outermost, Words.known_at_start, Words.required_names, declared.regions.Frame.Frame}
+use Rattle.check_steps.specs.Known.{Known, and_choice, and_definition, and_frame, and_label, and_region, and_routine, frame_at, label_at, name_at, row_at}
+use Rattle.check_steps.specs.Steps.{◌>>=◌, Step, change, extend, give, look}
+use Rattle.denoter_checker.specs.{Formals.is_function, Headings.signature}
+use Rattle.denoter_checker.specs.RoutineParts.{block_in, completion_of, define_routines, routine_at, routine_if_any, routine_name}
+use Rattle.decl_checker.specs.{Labels.define_label, Labels.define_labels, Labels.define_next_label, Scopes.routine_region, declared.routines.Entered.Entered}
+use Rattle.decl_checker.specs.Blocks.{define_block, define_constants, define_types, define_variables}
+use Rattle.decl_checker.specs.Programs.{define_program, main_row, open_program, program_step}
+use Rattle.decl_checker.specs.Routines.{add_heading, block, body_in, define_body, define_completion, define_inside, enter_at, enter_heading, first_heading}
+use Rattle.decl_checker.specs.Routines.{first_name, heading_row, one_deeper, open_routine, own_frame, routine, routines_in}
+use Rattle.rule_laws.proofs.{Breaks.Each, Faces.row_either, LastsFormals.define_formals_at-lasts, LastsHeadings.signature-lasts}
+use Rattle.rule_laws.proofs.{LastsParameters.program_parameters-lasts, LastsPrograms.define_program-lasts, LastsPrograms.open_program-lasts}
+use Rattle.rule_laws.proofs.{LastsRequired.all_names-lasts, LastsRequired.ordinal_types-lasts, LastsRoutineParts.define_routines-lasts}
+use Rattle.rule_laws.proofs.{LastsRoutines.after_completion, LastsRoutines.block_each, LastsRoutines.enter_heading-lasts, LastsStatements.compound_uses-lasts}
+use Rattle.rule_laws.proofs.{Listed.Listed, Listed.each_at, Listed.each_listed, Regions.label_either, Regions.label_frame, Regions.last_region, TextFields.Any}
+use Rattle.rule_laws.proofs.{TextFields.any_each, TextNames.start_sound, TextTables.OfOther, TextTables.each_next, TextTables.outer_frame, Touches.Longer}
+use Rattle.rule_laws.proofs.Chains.{AndPlain, Below, Chain, IsLevel, IsPlain, Names, Scope, Site, Sites, SitesBody, SitesPart, SitesRoutine, Ways}
+use Rattle.rule_laws.proofs.Keeping.{Keeps, ask-keeps, bind-keeps, give-keeps, look-keeps, put-keeps}
+use Rattle.rule_laws.proofs.Lasting.{Lasting, declare_in-keeps, each_of-lasts, is_quiet, with_completion}
+use Rattle.rule_laws.proofs.LastsBlocks.{define_constants-lasts, define_types-lasts, define_variables-lasts, parts-lasts, put_body-lasts}
+use Rattle.rule_laws.proofs.Laters.{Held, Kept, Later, Way, got_below, held_here, held_on, held_up, kept_definition, kept_frame, kept_label, kept_less}
+use Rattle.rule_laws.proofs.Laters.{kept_program, kept_region, longer_length, way_later, way_map, way_new}
+use Rattle.rule_laws.proofs.Standing.{Stands, got_still, no_frame, opened, stands_at}
+use Rattle.rule_laws.proofs.TextHeadings.{IsOfText, Sound, sound_all, sound_lasts}
+use Rattle.rule_laws.specs.{ForwardHeadings.routines_in as listed, NameLaws.block_labels, RegionNames.labels_of, TextLaws.IsNeverForward}
+use Rattle.rule_laws.specs.{TextLaws.labels_in_body, TextParts.OfBody, TextParts.OfEach, TextParts.OfRoutine, TextParts.OfRoutines}
+
+-- ---- the tables of a text
+
+abbrev pub Never : ℕ → Type 0
+Never d = ⊥
+
+-- a frame of a level
+pub record IsAt (g n : ℕ) (j : Known) : Type 0 where
+  pub frame : Frame
+  pub there : slice_get j.frames g ≡ Some frame
+  pub level : frame.level ≡ n
+
+-- From the outermost frame no label is found.
+pub record First (i : Known) : Type 0 where
+  pub inside : 0 < length i.regions
+  pub home : (region_at i.regions 0).frame ≡ 0
+  pub way : Way Never 0 i
+
+-- a region of a procedure or function whose name stands at a token
+pub record Head (c : Chain) (x region : ℕ) (i : Known) : Type 0 where
+  pub inside : region < length i.regions
+  pub there : (region_at i.regions region).frame < length i.frames
+  pub scope : Names c x i (region_at i.regions region).frame
+
+-- the text; the levels of some frames, and the frames from which labels are found that are not further in
+pub record Walk : Type 1 where
+  pub c : Chain
+  pub S : ℕ → ℕ → Type 0
+  pub T : ℕ → ℕ → Type 0
+
+-- Regions below a number don't change.
+pub record View (p : Walk) (b : ℕ) (j : Known) : Type 0 where
+  pub rows : (d : ℕ) (marked : Bool) (v l ways : ℕ) → row_at j d ≡ Row.Name (NameRow.Label marked v l ways) → IsLevel p.c d l
+  pub heads : (x : ℕ) (assigned : Bool) (n region : ℕ) → row_at j x ≡ Row.Name (NameRow.Routine assigned n region) → Held b (Head p.c x region) j
+  pub first : Held b First j
+  pub levels : (g n : ℕ) → p.S g n → IsAt g n j
+  pub paths : (g n : ℕ) → p.T g n → Held b (Way (λ d. Below p.c (suc n) d) g) j
+  pub many : b ≤ length j.regions
+
+at_longer : (g n : ℕ) (i j : Known) → Longer i.frames j.frames → IsAt g n i → IsAt g n j
+at_longer g n i j l s = record {
+  frame = s.frame;
+  there = ap (λ (fs : List Frame). slice_get fs g) l.is ∙ got_still i.frames l.more g s.frame s.there;
+  level = s.level;
+}
+
+view_on : (p : Walk) (b : ℕ) (i j : Known) → Kept b i j
+    → ((d : ℕ) (marked : Bool) (v l ways : ℕ) → row_at j d ≡ Row.Name (NameRow.Label marked v l ways) → IsLevel p.c d l)
+    → ((x : ℕ) (assigned : Bool) (n region : ℕ) → row_at j x ≡ Row.Name (NameRow.Routine assigned n region) → Held b (Head p.c x region) i)
+    → View p b i → View p b j
+view_on p b i j kept rows heads s = record {
+  rows = rows;
+  heads = λ x assigned n region e. held_on b i j kept (heads x assigned n region e);
+  first = held_on b i j kept s.first;
+  levels = λ g n h. at_longer g n i j kept.frames (s.levels g n h);
+  paths = λ g n h. held_on b i j kept (s.paths g n h);
+  many = (let few = s.many in let more = kept.many in omega (arith, few, more));
+}
+
+-- the same rows
+view_same : (p : Walk) (b : ℕ) (i j : Known) → Later i j → ((x : ℕ) → row_at j x ≡ row_at i x) → View p b i → View p b j
+view_same p b i j later same s = view_on p b i j (kept_less b (length i.regions) i j s.many later)
+    (λ d marked v l ways e. s.rows d marked v l ways (sym (same d) ∙ e)) (λ x assigned n region e. s.heads x assigned n region (sym (same x) ∙ e)) s
+
+view_row : (p : Walk) (b : ℕ) (j : Known) (m : ℕ) (r : Row)
+    → ((marked : Bool) (v l ways : ℕ) → r ≡ Row.Name (NameRow.Label marked v l ways) → IsLevel p.c m l)
+    → ((assigned : Bool) (n region : ℕ) → r ≡ Row.Name (NameRow.Routine assigned n region) → Held b (Head p.c m region) j)
+    → View p b j → View p b (with_row j m r)
+view_row p b j m r label head s = view_on p b j (with_row j m r) (kept_program b j (with_row j m r) refl refl)
+    (λ d marked v l ways e. elim (row_either j m d r) [
+      | inl old ↦ s.rows d marked v l ways (sym old ∙ e)
+      | inr new ↦ subst (λ x. IsLevel p.c x l) (sym new.0) (label marked v l ways (sym new.1 ∙ e))
+    ])
+    (λ x assigned n region e. elim (row_either j m x r) [
+      | inl old ↦ s.heads x assigned n region (sym old ∙ e)
+      | inr new ↦ subst (λ y. Held b (Head p.c y region) j) (sym new.0) (head assigned n region (sym new.1 ∙ e))
+    ]) s
+
+no_label : (r : Row) (marked : Bool) (v l ways : ℕ) → is_quiet r ≡ true → r ≡ Row.Name (NameRow.Label marked v l ways) → ⊥
+no_label r marked v l ways quiet e = let never : false ≡ true = sym (ap is_quiet e) ∙ quiet in cc
+
+no_head : (r : Row) (assigned : Bool) (n region : ℕ) → is_quiet r ≡ true → r ≡ Row.Name (NameRow.Routine assigned n region) → ⊥
+no_head r assigned n region quiet e = let never : false ≡ true = sym (ap is_quiet e) ∙ quiet in cc
+
+no_part : {r : PartRow} {n : NameRow} → Row.Part r ≡ Row.Name n → ⊥
+no_part e = cc
+
+no_type : {t : TypeRow} {n : NameRow} → Row.Type t ≡ Row.Name n → ⊥
+no_type e = cc
+
+view_part : (p : Walk) (b : ℕ) (j : Known) (m : ℕ) (r : PartRow) → View p b j → View p b (with_row j m (Row.Part r))
+view_part p b j m r s =
+    view_row p b j m (Row.Part r) (λ marked v l ways e. absurd (no_part e)) (λ assigned n region e. absurd (no_part e)) s
+
+view_lasts : {G : RoutineTree → Type 0} (p : Walk) (b : ℕ) → Lasting G (View p b)
+view_lasts p b = record {
+  puts = λ j m r quiet s. view_row p b j m r (λ marked v l ways e. absurd (no_label r marked v l ways quiet e))
+      (λ assigned n region e. absurd (no_head r assigned n region quiet e)) s;
+  stays = λ j m s. view_row p b j m (row_at j m) (λ marked v l ways e. s.rows m marked v l ways e)
+      (λ assigned n region e. s.heads m assigned n region e) s;
+  bodies = λ j n r same s. view_same p b j (with_routine j n r) (kept_program (length j.regions) j (with_routine j n r) refl refl) (λ x. refl) s;
+  routines = λ j r s. view_same p b j (and_routine j r) (kept_program (length j.regions) j (and_routine j r) refl refl) (λ x. refl) s;
+  frames = λ j f s. view_same p b j (and_frame j f) (kept_frame j f) (λ x. refl) s;
+  regions = λ j token f s. view_same p b j (and_region j token f) (kept_region j token f) (λ x. refl) s;
+  defines = λ j region d s. view_same p b j (and_definition j region (name_at j d.token) d) (kept_definition j region (name_at j d.token) d) (λ x. refl) s;
+  requires = λ j name d behind s. view_same p b j (and_definition j 0 name d) (kept_definition j 0 name d) (λ x. refl) s;
+  chooses = λ j list v s. view_same p b j (and_choice j list v) (kept_program (length j.regions) j (and_choice j list v) refl refl) (λ x. refl) s;
+  records = λ j word packed region cells variants fresh s. view_row p b j word (Row.Type (TypeRow.Record packed region cells variants))
+      (λ marked v l ways e. absurd (no_type e)) (λ assigned n at e. absurd (no_type e)) s;
+  waits = λ j r g none s. view_part p b j (routine_name r) (PartRow.Forward (is_function (routine_heading r)) None) s;
+  completes = λ j region first position r g e s.
+      let row = PartRow.Forward (is_function (routine_heading r)) (Some position) in
+      view_part p b (with_row j first (Row.Part row)) (routine_name r) (PartRow.Completing first) (view_part p b j first row s);
+}
+
+-- ---- a block whose names are defined
+
+-- A frame of a block stands, and its region, which is new, declares some labels.
+record Opening (p : Walk) (b n : ℕ) (f : Frame) (Q : ℕ → Type 0) (j : Known) : Type 0 where
+  view : View p b j
+  stands : Stands n f j
+  own : (region_at j.regions f.region).frame ≡ n
+  beyond : b ≤ f.region
+  mine : (v d : ℕ) → declared_in j.regions f.region v ≡ Some d → Q d
+
+opening_on : (p : Walk) (b n : ℕ) (f : Frame) (Q : ℕ → Type 0) (i j : Known) → Later i j → View p b j → Opening p b n f Q i → Opening p b n f Q j
+opening_on p b n f Q i j later view s = record {
+  view = view;
+  stands = record {
+    there = ap (λ (fs : List Frame). slice_get fs n) later.frames.is ∙ got_still i.frames later.frames.more n f s.stands.there;
+    below = (let below = s.stands.below in let more = later.many in omega (arith, below, more));
+  };
+  own = later.own f.region s.stands.below ∙ s.own;
+  beyond = s.beyond;
+  mine = λ v d e. s.mine v d (sym (later.labels f.region v s.stands.below) ∙ e);
+}
+
+-- nothing but the program changes
+opening_in : (p : Walk) (b n : ℕ) (f : Frame) (Q : ℕ → Type 0) (i j : Known) → j.regions ≡ i.regions → j.frames ≡ i.frames → View p b j
+    → Opening p b n f Q i → Opening p b n f Q j
+opening_in p b n f Q i j regions frames view s = opening_on p b n f Q i j (kept_program (length i.regions) i j regions frames) view s
+
+opening_lasts : {G : RoutineTree → Type 0} (p : Walk) (b n : ℕ) (f : Frame) (Q : ℕ → Type 0) → Lasting G (Opening p b n f Q)
+opening_lasts {G = G} p b n f Q =
+    let c : Lasting G (View p b) = view_lasts p b in
+    record {
+      puts = λ j m r quiet s. opening_in p b n f Q j (with_row j m r) refl refl (c.puts j m r quiet s.view) s;
+      stays = λ j m s. opening_in p b n f Q j (with_row j m (row_at j m)) refl refl (c.stays j m s.view) s;
+      bodies = λ j m r same s. opening_in p b n f Q j (with_routine j m r) refl refl (c.bodies j m r same s.view) s;
+      routines = λ j r s. opening_in p b n f Q j (and_routine j r) refl refl (c.routines j r s.view) s;
+      frames = λ j g s. opening_on p b n f Q j (and_frame j g) (kept_frame j g) (c.frames j g s.view) s;
+      regions = λ j token g s. opening_on p b n f Q j (and_region j token g) (kept_region j token g) (c.regions j token g s.view) s;
+      defines = λ j region d s. opening_on p b n f Q j (and_definition j region (name_at j d.token) d)
+          (kept_definition j region (name_at j d.token) d) (c.defines j region d s.view) s;
+      requires = λ j name d behind s. opening_on p b n f Q j (and_definition j 0 name d) (kept_definition j 0 name d) (c.requires j name d behind s.view) s;
+      chooses = λ j list v s. opening_in p b n f Q j (and_choice j list v) refl refl (c.chooses j list v s.view) s;
+      records = λ j word packed region cells variants fresh s.
+          opening_in p b n f Q j (with_row j word (Row.Type (TypeRow.Record packed region cells variants))) refl refl
+          (view_row p b j word (Row.Type (TypeRow.Record packed region cells variants)) (λ marked v l ways e. absurd (no_type e))
+          (λ assigned m at e. absurd (no_type e)) s.view) s;
+      waits = λ j r g none s. opening_in p b n f Q j (with_row j (routine_name r) (Row.Part (PartRow.Forward (is_function (routine_heading r)) None))) refl refl
+          (c.waits j r g none s.view) s;
+      completes = λ j region first position r g e s.
+          opening_in p b n f Q j (with_completion j first position (is_function (routine_heading r)) (routine_name r)) refl refl
+          (c.completes j region first position r g e s.view) s;
+    }
+
+-- a label of the block
+label_opening : (p : Walk) (b n : ℕ) (f : Frame) (Q : ℕ → Type 0) (j : Known) (value token : ℕ) → Q token → Opening p b n f Q j
+    → Opening p b n f Q (and_label j f.region value token)
+label_opening p b n f Q j value token ok s =
+    let i = and_label j f.region value token in
+    let kept = kept_label b j f.region value token s.beyond in
+    record {
+      view = view_on p b j i kept s.view.rows s.view.heads s.view;
+      stands = record { there = s.stands.there; below = (let below = s.stands.below in let more = kept.many in omega (arith, below, more)) };
+      own = label_frame j f.region value token f.region ∙ s.own;
+      beyond = s.beyond;
+      mine = λ v d e. elim (label_either j f.region value token f.region v d e) [
+        | inl old ↦ s.mine v d old
+        | inr new ↦ subst Q new.1 ok
+      ];
+    }
+
+label_row_opening : (p : Walk) (b n : ℕ) (f : Frame) (Q : ℕ → Type 0) (j : Known) (token value : ℕ) → IsLevel p.c token f.level → Opening p b n f Q j
+    → Opening p b n f Q (with_row j token (Row.Name (NameRow.Label false value f.level 0)))
+label_row_opening p b n f Q j token value ok s =
+    let r = Row.Name (NameRow.Label false value f.level 0) in
+    opening_in p b n f Q j (with_row j token r) refl refl
+    (view_row p b j token r (λ marked v l ways e. subst (λ x. IsLevel p.c token x) (same_level e) ok) (λ assigned m region e. absurd (no_routine e)) s.view) s
+  where
+    same_level : {a m : Bool} {v x l y w z : ℕ} → Row.Name (NameRow.Label a v l w) ≡ Row.Name (NameRow.Label m x y z) → l ≡ y
+    same_level e = cc
+
+    no_routine : {marked assigned : Bool} {v l ways number region : ℕ}
+        → Row.Name (NameRow.Label marked v l ways) ≡ Row.Name (NameRow.Routine assigned number region) → ⊥
+    no_routine e = cc
+
+-- a label at its level
+abbrev AtLevel : Walk → Frame → (ℕ → Type 0) → ℕ → Type 0
+AtLevel p f Q d = IsLevel p.c d f.level × Q d
+
+define_label-opening : (p : Walk) (b n : ℕ) (f : Frame) (Q : ℕ → Type 0) (token : ℕ) → AtLevel p f Q token
+    → Keeps (Opening p b n f Q) (define_label f token)
+unfolding define_label
+define_label-opening p b n f Q token ok = bind-keeps (look-keeps (λ k. label_at k token)) (λ value.
+    bind-keeps (ask-keeps _ token (nat_le value 9999)) (λ _.
+    bind-keeps (declare_in-keeps f.region value token (λ k i. label_opening p b n f Q k value token ok.1 i))
+    (λ _. put-keeps token (Row.Name (NameRow.Label false value f.level 0)) (λ k i. label_row_opening p b n f Q k token value ok.0 i))))
+
+define_next_label-opening : (p : Walk) (b n : ℕ) (f : Frame) (Q : ℕ → Type 0) (u : Unit {0}) (l : NextLabel) → AtLevel p f Q l.number
+    → Keeps (Opening p b n f Q) (define_next_label f u l)
+unfolding define_next_label
+define_next_label-opening p b n f Q u l ok = define_label-opening p b n f Q l.number ok
+
+define_labels-opening : (p : Walk) (b n : ℕ) (f : Frame) (Q : ℕ → Type 0) (part : Option LabelPartTree) → Each (λ d. AtLevel p f Q d) (labels_of part)
+    → Keeps (Opening p b n f Q) (define_labels f part)
+define_labels-opening p b n f Q None all = give-keeps tt
+define_labels-opening p b n f Q (Some part) all = bind-keeps (define_label-opening p b n f Q part.first all.0)
+    (λ _. each_of-lasts (λ (l : NextLabel). AtLevel p f Q l.number) (define_next_label f) (λ a x ok. define_next_label-opening p b n f Q a x ok) tt part.others
+    (each_next (λ d. AtLevel p f Q d) part.others all.1))
+
+define_block-opening : (p : Walk) (b n : ℕ) (f : Frame) (Q : ℕ → Type 0) (t : BlockTree) → Each (λ d. AtLevel p f Q d) (block_labels t)
+    → Keeps (Opening p b n f Q) (define_block n t)
+unfolding look ◌>>=◌
+define_block-opening p b n f Q (tree.a_block labels consts kinds variable_part routines body) all = record {
+  of = λ j s.
+      let c : Lasting Any (Opening p b n f Q) = opening_lasts p b n f Q in
+      subst (λ (here : Frame). Opening p b n f Q ((define_labels here labels >>= λ _. define_constants here.region consts >>= λ _.
+      define_types here.region kinds >>= λ _. define_variables here.region variable_part >>= λ _. define_routines here.region routines) j).known)
+      (sym (stands_at n f j s.stands))
+      ((bind-keeps (define_labels-opening p b n f Q labels all) (λ _. bind-keeps (define_constants-lasts c f.region consts) (λ _.
+      bind-keeps (define_types-lasts c f.region kinds) (λ _. bind-keeps (define_variables-lasts c f.region variable_part) (λ _.
+      define_routines-lasts c f.region routines (any_each (listed routines))))))).of j s);
+}
+
+define_body-opening : (p : Walk) (b n : ℕ) (f : Frame) (Q : ℕ → Type 0) (body : BodyTree) → Each (λ d. AtLevel p f Q d) (labels_in_body body)
+    → Keeps (Opening p b n f Q) (define_body n body)
+define_body-opening p b n f Q (tree.a_directive directive) all = give-keeps tt
+define_body-opening p b n f Q (tree.a_block_body t) all = define_block-opening p b n f Q t all
+
+-- the labels of a procedure or function
+abbrev Labels : (ℕ → Type 0) → RoutineTree → Type 0
+Labels L r = Each L (labels_in_body (routine_body r))
+
+define_completion-opening : (p : Walk) (b n : ℕ) (f : Frame) (Q : ℕ → Type 0) (o : Option RoutineTree) → OfOther (Labels (λ d. AtLevel p f Q d)) o
+    → Keeps (Opening p b n f Q) (define_completion n o)
+define_completion-opening p b n f Q None all = give-keeps tt
+define_completion-opening p b n f Q (Some r) all = define_body-opening p b n f Q (routine_body r) all
+
+define_inside-opening : (p : Walk) (b n : ℕ) (f : Frame) (Q : ℕ → Type 0) (h : HeadingTree) (body : BodyTree) (o : Option RoutineTree)
+    → Each (λ d. AtLevel p f Q d) (labels_in_body body) → OfOther (Labels (λ d. AtLevel p f Q d)) o → Keeps (Opening p b n f Q) (define_inside n h body o)
+unfolding define_inside
+define_inside-opening p b n f Q h body o body-in o-in = bind-keeps (define_formals_at-lasts (opening_lasts {G = Any} p b n f Q) n h) (λ _.
+    bind-keeps (define_body-opening p b n f Q body body-in) (λ _. define_completion-opening p b n f Q o o-in))
+
+opening_start : (p : Walk) (b : ℕ) (Q : ℕ → Type 0) (j : Known) (token : ℕ) (f : Frame) → f.region ≡ length j.regions → View p b j
+    → Opening p b (length j.frames) f Q (and_region j token f)
+opening_start p b Q j token f fresh s =
+    let x = fresh_region token (length j.frames) in
+    let c : Lasting Any (View p b) = view_lasts p b in
+    record {
+      view = c.regions j token f s;
+      stands = opened j token f fresh;
+      own = ap (λ r. (region_at (j.regions ++ x ∷ []) r).frame) fresh ∙ ap (λ (r : RegionRows). r.frame) (last_region j.regions x);
+      beyond = (let many = s.many in omega (arith, fresh, many));
+      mine = λ v d e. absurd (none-some d (sym (ap (λ r. declared_in (j.regions ++ x ∷ []) r v) fresh
+          ∙ ap (λ (r : RegionRows). lookup (nat_eq v) r.labels) (last_region j.regions x)) ∙ e));
+    }
+
+-- ---- a block whose names are known
+
+-- one frame more of a level
+abbrev AndAt : (ℕ → ℕ → Type 0) → (g n x m : ℕ) → Type 0
+AndAt S g n x m = S x m ⊎ ((x ≡ g) × (m ≡ n))
+
+abbrev AndOn : (ℕ → ℕ → Type 0) → Type 0 → (g n x m : ℕ) → Type 0
+AndOn T On g n x m = T x m ⊎ ((x ≡ g) × (m ≡ n) × On)
+
+abbrev inner : Walk → Type 0 → (g n : ℕ) → Walk
+inner p On g n = record { c = p.c; S = λ x m. AndAt p.S g n x m; T = λ x m. AndOn p.T On g n x m }
+
+closed : (p : Walk) (b n : ℕ) (f : Frame) (Q : ℕ → Type 0) (j : Known) (On : Type 0) (m : ℕ) → f.level ≡ m
+    → (On → Way (λ d. Below p.c (suc m) d) n j) → Opening p b n f Q j → View (inner p On n m) (length j.regions) j
+closed p b n f Q j On m same way s = record {
+  rows = s.view.rows;
+  heads = λ x assigned i region e. held_up b (length j.regions) j s.view.many (s.view.heads x assigned i region e);
+  first = held_up b (length j.regions) j s.view.many s.view.first;
+  levels = λ x k h. elim h [
+    | inl old ↦ s.view.levels x k old
+    | inr new ↦ record {
+      frame = f;
+      there = subst (λ y. slice_get j.frames y ≡ Some f) (sym new.0) s.stands.there;
+      level = same ∙ sym new.1;
+    }
+  ];
+  paths = λ x k h. elim h [
+    | inl old ↦ held_up b (length j.regions) j s.view.many (s.view.paths x k old)
+    | inr new ↦ subst (λ y. Held (length j.regions) (Way (λ d. Below p.c (suc k) d) y) j) (sym new.0)
+        (subst (λ y. Held (length j.regions) (Way (λ d. Below p.c (suc y) d) n) j) (sym new.1) (held_here j (way new.2)))
+  ];
+  many = omega arith;
+}
+
+-- which labels are found from the frame of a block on the chain
+site_scope : (p : Walk) (b n : ℕ) (f : Frame) (On : Type 0) (r : RoutineTree) (j : Known) (around a : ℕ) → On → Site p.c On a r
+    → f.level ≡ one_deeper a → f.outer ≡ Some around → around < n → p.T around a
+    → Opening p b n f (λ d. On → Listed (labels_in_body (routine_body r)) d) j → Scope p.c (one_deeper a) r j n
+site_scope p b n f On r j around a on site same outer less around-in s =
+    let h = s.view.paths around a around-in in
+    let w = way_later (λ d. Below p.c (suc a) d) around h.before j h.later h.is in
+    let new = way_new (λ d. Below p.c (suc a) d) (λ d. On → Listed (labels_in_body (routine_body r)) d) j n around f s.stands.there s.stands.below
+    outer less w s.mine in
+    record {
+      level = ap (λ (g : Frame). g.level) (stands_at n f j s.stands) ∙ same;
+      way = way_map (λ d. (On → Listed (labels_in_body (routine_body r)) d) ⊎ Below p.c (suc a) d)
+          (λ d. Listed (labels_in_body (routine_body r)) d ⊎ Below p.c (one_deeper a) d) n j
+          (λ d x. elim x [
+            | inl own ↦ inl (own on)
+            | inr far ↦ inr (further d far)
+          ]) new;
+    }
+  where
+    further : (d : ℕ) → Below p.c (suc a) d → Below p.c (one_deeper a) d
+    further d far l level = let one = far l level in let up = site.deeper on in omega (arith, one, up)
+
+scope_path : (c : Chain) (n : ℕ) (r : RoutineTree) (j : Known) (g : ℕ) → ((d l : ℕ) → Listed (labels_in_body (routine_body r)) d → IsLevel c d l → l ≡ n)
+    → Scope c n r j g → Way (λ d. Below c (suc n) d) g j
+scope_path c n r j g fixed s = way_map (λ d. Listed (labels_in_body (routine_body r)) d ⊎ Below c n d) (λ d. Below c (suc n) d) g j (λ d x. elim x [
+  | inl own ↦ at d own
+  | inr far ↦ less d far
+]) s.way
+  where
+    at : (d : ℕ) → Listed (labels_in_body (routine_body r)) d → Below c (suc n) d
+    at d own l level = let same = fixed d l own level in omega (arith, same)
+
+    less : (d : ℕ) → Below c n d → Below c (suc n) d
+    less d far l level = let one = far l level in omega (arith, one)
+
+-- ---- a procedure or function is entered
+
+-- what is so inside of it
+record Enter (p : Walk) (On : Type 0) (body : BodyTree) (g : ℕ) (j : Known) : Type 0 where
+  level : ℕ
+  bound : ℕ
+  view : View (inner p On g level) bound j
+  sites : SitesBody p.c On level body
+
+others_too : (p : Walk) (f : Frame) (Q : ℕ → Type 0) (n : ℕ) (o : Option RoutineTree) → f.level ≡ n → ((d : ℕ) (s : RoutineTree) → o ≡ Some s → Q d)
+    → OfOther (Labels (λ d. IsLevel p.c d n)) o → OfOther (Labels (λ d. AtLevel p f Q d)) o
+others_too p f Q n None same all h = tt
+others_too p f Q n (Some s) same all h = each_listed (λ d. AtLevel p f Q d) (labels_in_body (routine_body s)) (λ d i. (
+  subst (λ l. IsLevel p.c d l) (sym same) (each_at (λ d. IsLevel p.c d n) (labels_in_body (routine_body s)) h d i),
+  all d s refl,
+))
+
+opened_view : (p : Walk) (On : Type 0) (b around a : ℕ) (r : RoutineTree) (o : Option RoutineTree) (j : Known) → p.S around a → (On → p.T around a)
+    → Site p.c On a r → SitesBody p.c On (one_deeper a) (routine_body r) → OfOther (Labels (λ d. IsLevel p.c d (one_deeper a))) o → (On → o ≡ None)
+    → View p b j → let d = after_completion around r o j in Enter p On (routine_body r) d.value.frame d.known
+unfolding open_routine add_heading look extend change give ◌>>=◌
+opened_view p On b around a r o j around-in path-in site sites others alone s =
+    let at = s.levels around a around-in in
+    let less = got_below j.frames around at.frame at.there in
+    let f : Frame = record { region = length j.regions; outer = Some around; level = one_deeper (frame_at j around).level; withs = 0 } in
+    let same : f.level ≡ one_deeper a = ap one_deeper (ap (λ (o : Option Frame). (unwrap_or o no_frame).level) at.there ∙ at.level) in
+    let n = length j.frames in
+    let h = routine_heading r in
+    let m = one_deeper a in
+    let names = labels_in_body (routine_body r) in
+    let Q : ℕ → Type 0 = λ d. On → Listed names d in
+    let own : Each (λ d. AtLevel p f Q d) names = each_listed (λ d. AtLevel p f Q d) names
+    (λ d i. (subst (λ l. IsLevel p.c d l) (sym same) (each_at (λ d. IsLevel p.c d m) names site.leveled d i), λ on. i)) in
+    let far = others_too p f Q m o same (λ d x e on. absurd (none-some x (sym (alone on) ∙ e))) others in
+    let c : Lasting Any (Opening p b n f Q) = opening_lasts p b n f Q in
+    let i = and_region j (routine_name r) f in
+    let inside = define_inside n h (routine_body r) o i in
+    let end = signature around n h inside.known in
+    let one = (define_inside-opening p b n f Q h (routine_body r) o own far).of i (opening_start p b Q j (routine_name r) f refl s) in
+    let two = (signature-lasts c around n h).of inside.known one in
+    let here = frame_at end.known n in
+    let row = heading_row h here.level end.value in
+    let e = and_routine end.known row in
+    let three = c.routines end.known row two in
+    let scope : On → Scope p.c m r e n = λ on. site_scope p b n f On r e around a on site same refl less (path-in on) three in
+    let view = closed p b n f Q e On m same (λ on. scope_path p.c m r e n (site.fixed on) (scope on)) three in
+    let head : Head p.c (heading_name h) f.region e = record {
+      inside = three.stands.below;
+      there = subst (λ g. g < length e.frames) (sym three.own) (got_below e.frames n f three.stands.there);
+      scope = subst (λ g. Names p.c (routine_name r) e g) (sym three.own) (site.named e n scope);
+    } in
+    let region : f.region ≡ here.region = ap (λ (g : Frame). g.region) (sym (stands_at n f end.known two.stands)) in
+    record {
+      level = m;
+      bound = length e.regions;
+      view = view_row (inner p On n m) (length e.regions) e (heading_name h)
+          (Row.Name (NameRow.Routine false (length end.known.program.routines) here.region))
+          (λ marked v l ways x. absurd (no_marked x))
+          (λ assigned number at x. subst (λ y. Held (length e.regions) (Head p.c (heading_name h) y) e) (region ∙ same_region x) (held_here e head)) view;
+      sites = sites;
+    }
+  where
+    same_region : {x y : Bool} {m i u w : ℕ} → Row.Name (NameRow.Routine x m u) ≡ Row.Name (NameRow.Routine y i w) → u ≡ w
+    same_region e = cc
+
+    no_marked : {marked assigned : Bool} {v l ways number region : ℕ}
+        → Row.Name (NameRow.Routine assigned number region) ≡ Row.Name (NameRow.Label marked v l ways) → ⊥
+    no_marked e = cc
+
+first_there : (p : Walk) (b : ℕ) (j : Known) → View p b j → (region_at j.regions 0).frame < length j.frames
+first_there p b j s =
+    let h = s.first in
+    let there = h.is.way.there in
+    let more = longer_length h.before.frames j.frames h.later.frames in
+    subst (λ g. g < length j.frames) (sym (h.later.own 0 h.is.inside ∙ h.is.home)) (omega (arith, there, more))
+
+-- the frame of a routine's region, by its name
+own_there : (p : Walk) (b : ℕ) (j : Known) (x : ℕ) (r : Row) → row_at j x ≡ r → View p b j
+    → (region_at j.regions (routine_region r)).frame < length j.frames
+own_there p b j x (Row.Name (NameRow.Routine assigned n region)) e s =
+    let h = s.heads x assigned n region e in
+    let there = h.is.there in
+    let more = longer_length h.before.frames j.frames h.later.frames in
+    subst (λ g. g < length j.frames) (sym (h.later.own region h.is.inside)) (omega (arith, there, more))
+own_there p b j x (Row.Name r) e s = first_there p b j s
+own_there p b j x r e s = first_there p b j s
+
+record Got (fs : List Frame) (n : ℕ) : Type 0 where
+  frame : Frame
+  is : slice_get fs n ≡ Some frame
+
+got_at : (fs : List Frame) (n : ℕ) → n < length fs → Got fs n
+got_at [] n below = absurd (omega (arith, below))
+got_at (y ∷ ys) zero below = record { frame = y; is = refl }
+got_at (y ∷ ys) (suc n) below = let g = got_at ys n (omega (arith, below)) in record { frame = g.frame; is = g.is }
+
+-- a heading that completes another has the name of a forward heading
+completes_some : (k : Known) (t : BlockTree) (j : Known) (x first : ℕ) (r : Row) → Sound k t j → row_at j x ≡ r → first_name r ≡ Some first
+    → IsNeverForward k t (name_at k x) → ⊥
+completes_some k t j x first (Row.Part (PartRow.Completing m)) s e is none = s.completing x m e none
+completes_some k t j x first r s e is none = none-some first is
+
+-- and one that another completes
+stands_alone : (k : Known) (t : BlockTree) (j : Known) (rs : RoutineTrees) (x : ℕ) (r : Row) → Sound k t j → row_at j x ≡ r
+    → IsNeverForward k t (name_at k x) → routine_if_any rs (block_in r) ≡ None
+stands_alone k t j rs x (Row.Part (PartRow.Forward function o)) s e none = absurd ((s.forward x function o e).directed none)
+stands_alone k t j rs x r s e none = refl
+
+abbrev SiteParts : Chain → Type 0 → ℕ → RoutineTree → Type 0
+SiteParts c On n r =
+    Site c (AndPlain c On r) n r × SitesBody c (AndPlain c On r) (one_deeper n) (routine_body r)
+    × ((IsPlain c r → ⊥) → (m : ℕ) → SitesBody c (AndPlain c On r) m (routine_body r))
+
+site_parts : (c : Chain) (On : Type 0) (n : ℕ) (r : RoutineTree) → SitesRoutine c On n r → SiteParts c On n r
+site_parts c On n (tree.a_routine heading semicolon body last_semicolon) h = h
+
+site_at : (c : Chain) (On : Type 0) (n : ℕ) (rs : RoutineTrees) (at : ℕ) → SitesPart c On n rs
+    → OfOther (Labels (λ d. IsLevel c d (one_deeper n))) (routine_at rs at)
+site_at c On n tree.end_of_routines at h = tt
+site_at c On n (tree.more_routines r rest) zero h = (site_parts c On n r h.0).0.leveled
+site_at c On n (tree.more_routines r rest) (suc at) h = site_at c On n rest at h.1
+
+site_any : (c : Chain) (On : Type 0) (n : ℕ) (rs : RoutineTrees) (at : Option ℕ) → SitesPart c On n rs
+    → OfOther (Labels (λ d. IsLevel c d (one_deeper n))) (routine_if_any rs at)
+site_any c On n rs None h = tt
+site_any c On n rs (Some at) h = site_at c On n rs at h
+
+at_view : (p : Walk) (On : Type 0) (b : ℕ) (q : Option ℕ) (around a : ℕ) (rs : RoutineTrees) (r : RoutineTree) (j : Known)
+    → first_name (row_at j (routine_name r)) ≡ q → p.S around a → (On → p.T around a) → SitesPart p.c On a rs → SiteParts p.c On a r
+    → Sound p.c.k p.c.t j → View p b j → let d = enter_at q around rs r j in Enter p (AndPlain p.c On r) (routine_body r) d.value.frame d.known
+unfolding first_heading look ◌>>=◌
+at_view p On b None around a rs r j is around-in path-in part sites sound s =
+    opened_view p (AndPlain p.c On r) b around a r (completion_of j rs r) j around-in (λ on. path-in on.0) sites.0 sites.1
+    (site_any p.c On a rs (block_in (row_at j (routine_name r))) part)
+    (λ on. stands_alone p.c.k p.c.t j rs (routine_name r) (row_at j (routine_name r)) sound refl on.1) s
+at_view p On b (Some first) around a rs r j is around-in path-in part sites sound s =
+    let off : IsPlain p.c r → ⊥ = completes_some p.c.k p.c.t j (routine_name r) first (row_at j (routine_name r)) sound refl is in
+    let got = got_at j.frames (own_frame j first) (own_there p b j first (row_at j first) refl s) in
+    record {
+      level = got.frame.level;
+      bound = b;
+      view = record {
+        rows = s.rows;
+        heads = s.heads;
+        first = s.first;
+        levels = λ x k h. elim h [
+          | inl old ↦ s.levels x k old
+          | inr new ↦ record {
+            frame = got.frame;
+            there = subst (λ y. slice_get j.frames y ≡ Some got.frame) (sym new.0) got.is;
+            level = sym new.1;
+          }
+        ];
+        paths = λ x k h. elim h [
+          | inl old ↦ s.paths x k old
+          | inr new ↦ absurd (off new.2.1)
+        ];
+        many = s.many;
+      };
+      sites = sites.2 off got.frame.level;
+    }
+
+enter_view : (p : Walk) (On : Type 0) (b around a : ℕ) (rs : RoutineTrees) (r : RoutineTree) (j : Known) → p.S around a → (On → p.T around a)
+    → SitesPart p.c On a rs → SiteParts p.c On a r → Sound p.c.k p.c.t j → View p b j
+    → let d = enter_heading around rs r j in Enter p (AndPlain p.c On r) (routine_body r) d.value.frame d.known
+unfolding enter_heading look ◌>>=◌
+enter_view p On b around a rs r j around-in path-in part sites sound s =
+    at_view p On b (first_name (row_at j (routine_name r))) around a rs r j refl around-in path-in part sites sound s
+
+-- ---- blocks
+
+pub record World (p : Walk) (j : Known) : Type 0 where
+  pub sound : Sound p.c.k p.c.t j
+  pub bound : ℕ
+  pub view : View p bound j
+
+world_lasts : (p : Walk) → Lasting (IsOfText p.c.k p.c.t) (World p)
+world_lasts p =
+    let G = IsOfText p.c.k p.c.t in
+    let c = sound_lasts p.c.k p.c.t in
+    let e : (b : ℕ) → Lasting G (View p b) = λ b. view_lasts p b in
+    record {
+      puts = λ j m r quiet s. record { sound = c.puts j m r quiet s.sound; bound = s.bound; view = (e s.bound).puts j m r quiet s.view };
+      stays = λ j m s. record { sound = c.stays j m s.sound; bound = s.bound; view = (e s.bound).stays j m s.view };
+      bodies = λ j n r same s. record { sound = c.bodies j n r same s.sound; bound = s.bound; view = (e s.bound).bodies j n r same s.view };
+      routines = λ j r s. record { sound = c.routines j r s.sound; bound = s.bound; view = (e s.bound).routines j r s.view };
+      frames = λ j f s. record { sound = c.frames j f s.sound; bound = s.bound; view = (e s.bound).frames j f s.view };
+      regions = λ j token f s. record { sound = c.regions j token f s.sound; bound = s.bound; view = (e s.bound).regions j token f s.view };
+      defines = λ j region d s. record { sound = c.defines j region d s.sound; bound = s.bound; view = (e s.bound).defines j region d s.view };
+      requires = λ j name d behind s. record {
+        sound = c.requires j name d behind s.sound;
+        bound = s.bound;
+        view = (e s.bound).requires j name d behind s.view;
+      };
+      chooses = λ j list v s. record { sound = c.chooses j list v s.sound; bound = s.bound; view = (e s.bound).chooses j list v s.view };
+      records = λ j word packed region cells variants fresh s. record {
+        sound = c.records j word packed region cells variants (record {
+          before = fresh.before;
+          held = fresh.held.sound;
+          opened = fresh.opened;
+          there = fresh.there;
+          none = fresh.none;
+        }) s.sound;
+        bound = s.bound;
+        view = view_row p s.bound j word (Row.Type (TypeRow.Record packed region cells variants)) (λ marked v l ways x. absurd (no_type x))
+            (λ assigned n at x. absurd (no_type x)) s.view;
+      };
+      waits = λ j r g none s. record { sound = c.waits j r g none s.sound; bound = s.bound; view = (e s.bound).waits j r g none s.view };
+      completes = λ j region first position r g x s. record {
+        sound = c.completes j region first position r g x s.sound;
+        bound = s.bound;
+        view = (e s.bound).completes j region first position r g x s.view;
+      };
+    }
+
+-- a procedure or function is left
+outside : (p : Walk) (On : Type 0) (g n b : ℕ) (j : Known) → View (inner p On g n) b j → View p b j
+outside p On g n b j s = record {
+  rows = s.rows;
+  heads = s.heads;
+  first = s.first;
+  levels = λ x m h. s.levels x m (inl h);
+  paths = λ x m h. s.paths x m (inl h);
+  many = s.many;
+}
+
+then_world : {p : Walk} {On : Type 0} {body : BodyTree} (m : Step Entered) (f : Entered → Step (Unit {0})) → Keeps (Sound p.c.k p.c.t) m
+    → ((j : Known) → World p j → Enter p On body (m j).value.frame (m j).known)
+    → ((e : Entered) (level : ℕ) → SitesBody p.c On level body → Keeps (World (inner p On e.frame level)) (f e)) → Keeps (World p) (m >>= f)
+unfolding ◌>>=◌
+then_world {p = p} {On = On} m f kept enters inside = record {
+  of = λ j s.
+      let d = m j in
+      let x = enters j s in
+      let w = (inside d.value x.level x.sites).of d.known (record { sound = kept.of j s.sound; bound = x.bound; view = x.view }) in
+      record { sound = w.sound; bound = w.bound; view = outside p On d.value.frame x.level w.bound (f d.value d.known).known w.view };
+}
+
+mutual
+  block_world : (p : Walk) (On : Type 0) (a frame number place : ℕ) (b : BlockTree) → p.S frame a → (On → p.T frame a) → Sites p.c On a b
+      → OfRoutines (IsOfText p.c.k p.c.t) b → Keeps (World p) (block frame number place b)
+  block_world p On a frame number place (tree.a_block labels constants types variables routines body) frame-in path-in sites all =
+      bind-keeps (parts-lasts (world_lasts p) frame place (tree.a_block labels constants types variables routines body)) (λ end.
+      bind-keeps (put_body-lasts (world_lasts p) number end (compound_word body)) (λ _.
+      bind-keeps (part_world p On a frame routines routines frame-in path-in sites sites all all) (λ _. compound_uses-lasts (world_lasts p) frame body)))
+
+  part_world : (p : Walk) (On : Type 0) (a frame : ℕ) (rs part : RoutineTrees) → p.S frame a → (On → p.T frame a) → SitesPart p.c On a rs
+      → SitesPart p.c On a part → OfEach (IsOfText p.c.k p.c.t) rs → OfEach (IsOfText p.c.k p.c.t) part → Keeps (World p) (routines_in frame rs part)
+  part_world p On a frame rs tree.end_of_routines frame-in path-in sites part-sites all part-all = give-keeps tt
+  part_world p On a frame rs (tree.more_routines r rest) frame-in path-in sites part-sites all part-all =
+      bind-keeps (routine_world p On a frame rs r frame-in path-in sites part-sites.0 all part-all.0)
+      (λ _. part_world p On a frame rs rest frame-in path-in sites part-sites.1 all part-all.1)
+
+  routine_world : (p : Walk) (On : Type 0) (a frame : ℕ) (rs : RoutineTrees) (r : RoutineTree) → p.S frame a → (On → p.T frame a) → SitesPart p.c On a rs
+      → SitesRoutine p.c On a r → OfEach (IsOfText p.c.k p.c.t) rs → OfRoutine (IsOfText p.c.k p.c.t) r → Keeps (World p) (routine frame rs r)
+  routine_world p On a frame rs (tree.a_routine heading semicolon body last_semicolon) frame-in path-in sites own all r-all =
+      let r = tree.a_routine heading semicolon body last_semicolon in
+      let P = AndPlain p.c On r in
+      then_world {p = p} {On = P} {body = body} (enter_heading frame rs r) (λ e. body_in e body)
+      (enter_heading-lasts (sound_all p.c.k p.c.t) frame rs r all r-all.1)
+      (λ j s. enter_view p On s.bound frame a rs r j frame-in path-in sites own s.sound s.view)
+      (λ e level inside. body_world (inner p P e.frame level) P level e body (inr (refl, refl)) (λ on. inr (refl, refl, on)) inside r-all.1)
+
+  body_world : (p : Walk) (On : Type 0) (a : ℕ) (e : Entered) (body : BodyTree) → p.S e.frame a → (On → p.T e.frame a) → SitesBody p.c On a body
+      → OfBody (IsOfText p.c.k p.c.t) body → Keeps (World p) (body_in e body)
+  body_world p On a e (tree.a_directive directive) frame-in path-in sites all = give-keeps tt
+  body_world p On a e (tree.a_block_body b) frame-in path-in sites all = block_world p On a e.frame e.number e.place b frame-in path-in sites all
+
+-- ---- programs
+
+-- the text, before frames are opened
+abbrev pub outermost_walk : Chain → Walk
+outermost_walk c = record { c = c; S = λ g n. ⊥; T = λ g n. ⊥ }
+
+blank : (size n : ℕ) → unwrap_or (slice_get (replicate size Row.Nothing) n) Row.Nothing ≡ Row.Nothing
+blank zero n = refl
+blank (suc size) zero = refl
+blank (suc size) (suc n) = blank size n
+
+outer_view : (l : Lexed) (c : Chain) → View (outermost_walk c) 1 (and_region (known_at_start l) 0 outer_frame)
+outer_view l c =
+    let many = length l.tokens + length required_names in
+    let j = and_region (known_at_start l) 0 outer_frame in
+    record {
+      rows = λ d marked v k ways e. absurd (no_row (sym (blank many d) ∙ e));
+      heads = λ x assigned n region e. absurd (no_row (sym (blank many x) ∙ e));
+      first = held_here j (record {
+        inside = omega arith;
+        home = refl;
+        way = record {
+          steps = 1;
+          few = omega arith;
+          there = omega arith;
+          trail = (omega arith, omega arith, tt);
+          finds = λ v d e. absurd (none-some d e);
+        };
+      });
+      levels = λ g n h. absurd h;
+      paths = λ g n h. absurd h;
+      many = omega arith;
+    }
+  where
+    no_row : {n : NameRow} → Row.Nothing ≡ Row.Name n → ⊥
+    no_row e = cc
+
+outermost_view : (l : Lexed) (c : Chain) → View (outermost_walk c) 1 (open_outermost (known_at_start l)).known
+unfolding open_outermost extend give ◌>>=◌
+outermost_view l p =
+    let c : Lasting Any (View (outermost_walk p) 1) = view_lasts (outermost_walk p) 1 in
+    let outer : ℕ = 0 in
+    (bind-keeps (ordinal_types-lasts c) (λ _. bind-keeps (all_names-lasts c) (λ _. give-keeps outer))).of (and_region (known_at_start l) 0 outer_frame)
+    (outer_view l p)
+
+outermost_zero : (l : Lexed) → (open_outermost (known_at_start l)).value ≡ 0
+unfolding open_outermost extend give ◌>>=◌
+outermost_zero l = refl
+
+defined_opening : (p : Walk) (b n : ℕ) (f : Frame) (Q : ℕ → Type 0) (t : ProgramTree) → Each (λ d. AtLevel p f Q d) (block_labels t.block)
+    → Keeps (Opening p b n f Q) (define_program n t)
+unfolding define_program
+defined_opening p b n f Q t all = bind-keeps (look-keeps (λ k. (frame_at k n).region)) (λ region.
+    bind-keeps (program_parameters-lasts (opening_lasts {G = Any} p b n f Q) region t.parameters) (λ _. define_block-opening p b n f Q t.block all))
+
+pub program_world : (l : Lexed) (t : ProgramTree) → let c : Chain = record { k = known_at_start l; t = t.block } in
+    Ways c → OfRoutines (IsOfText c.k c.t) t.block → World (outermost_walk c) (program_step t (known_at_start l)).known
+unfolding program_step open_program extend give ◌>>=◌
+program_world l t ways all =
+    let c : Chain = record { k = known_at_start l; t = t.block } in
+    let p = outermost_walk c in
+    let o = open_outermost (known_at_start l) in
+    let j = o.known in
+    let f : Frame = record { region = length j.regions; outer = Some o.value; level = 0; withs = 0 } in
+    let n = length j.frames in
+    let i = and_region j 0 f in
+    let labels = block_labels t.block in
+    let Q : ℕ → Type 0 = λ d. Listed labels d in
+    let a = define_program n t i in
+    let e = and_routine a.known (main_row t.name) in
+    let own : Each (λ d. AtLevel p f Q d) labels
+    = each_listed (λ d. AtLevel p f Q d) labels (λ d h. (each_at (λ d. IsLevel c d 0) labels ways.leveled d h, h)) in
+    let start = outermost_view l c in
+    let one = (defined_opening p 1 n f Q t own).of i (opening_start p 1 Q j 0 f refl start) in
+    let two = (opening_lasts {G = Any} p 1 n f Q).routines a.known (main_row t.name) one in
+    let less : 0 < n = (let h = start.first in let there = h.is.way.there in let more = longer_length h.before.frames j.frames h.later.frames in
+    omega (arith, there, more)) in
+    let h = two.view.first in
+    let outer = ap Some (outermost_zero l) in
+    let way = way_new Never Q e n 0 f two.stands.there two.stands.below outer less (way_later Never 0 h.before e h.later h.is.way) two.mine in
+    let path : Way (λ d. Below c 1 d) n e = way_map (λ d. Q d ⊎ Never d) (λ d. Below c 1 d) n e (λ d x. own_below c ways d x) way in
+    let view = closed p 1 n f Q e (Unit {0}) 0 refl (λ on. path) two in
+    let listed_all = block_each (IsOfText c.k c.t) t.block all in
+    let sound_start = (open_program-lasts (sound_lasts c.k c.t)).of (known_at_start l) (start_sound l t.block) in
+    let sound_one = (define_program-lasts (sound_all c.k c.t) n t listed_all).of i sound_start in
+    let sound = (sound_lasts c.k c.t).routines a.known (main_row t.name) sound_one in
+    let end = (block_world (inner p (Unit {0}) n 0) (Unit {0}) 0 n (length a.known.program.routines) 1 t.block (inr (refl, refl))
+    (λ on. inr (refl, refl, on)) ways.sites all).of e (record { sound = sound; bound = length e.regions; view = view }) in
+    record { sound = end.sound; bound = end.bound; view = outside p (Unit {0}) n 0 end.bound _ end.view }
+  where
+    own_below : (c : Chain) → Ways c → (d : ℕ) → Listed (block_labels c.t) d ⊎ Never d → Below c 1 d
+    own_below c ways d (inl h) l level = let same = ways.fixed d l h level in omega (arith, same)
+    own_below c ways d (inr h) l level = absurd h
