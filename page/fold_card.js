@@ -112,8 +112,12 @@ function textRows(label, node) {
   });
 }
 
+// The cell by which a routine finds its copy of an array that it was given tells no more than that the copy is its own.
+const isOwnCopy = ({ name, before }) => before === `at ${name}`;
+
 // The rows of one variable. `label` is how it is called so far.
 function rowsOf(label, node) {
+  if (!isLeaf(node) && node.cell !== null) return [...rowsOf(label, { ...node, kids: [] }), ...rowsOf(label, { ...node, cell: null })];
   if (isLeaf(node)) return [{ shape: 'value', label, name: nameAround(node.cell), before: node.cell.before, after: node.cell.after, cells: [node.cell] }];
   if (isText(node)) return textRows(label, node);
   if (hasIndices(node) && node.kids.length > 1 && node.kids.every(isLeaf)) {
@@ -122,7 +126,7 @@ function rowsOf(label, node) {
   if (hasIndices(node) && node.kids.length > 1 && node.kids.every((kid) => hasFields(kid) && kid.kids.every((it) => isLeaf(it) || isText(it)))) {
     return [tableOf(label, node)];
   }
-  return [...(node.cell === null ? [] : rowsOf(label, { ...node, kids: [] })), ...node.kids.flatMap((kid) => rowsOf(label + kid.selector, kid))];
+  return node.kids.flatMap((kid) => rowsOf(label + kid.selector, kid));
 }
 
 // An array of records: a row for each, a column for each field.
@@ -175,7 +179,7 @@ function rowsGiven(cells) {
 // left alone; what it wrote again with the value of before. `heap` are the cells of variables that `new` made. A row has the
 // `name` of the variable that can be looked at beside it, or null.
 export function foldCard(card) {
-  const cells = cellsOf(card);
+  const cells = cellsOf(card).filter((cell) => !isOwnCopy(cell));
   const plain = cells.filter((cell) => !isHeap(cell.root));
   const changedRoots = new Set(plain.filter(differs).map((cell) => cell.root));
   const writtenRoots = new Set(plain.filter((cell) => cell.isSet).map((cell) => cell.root));

@@ -5,6 +5,7 @@ import { button, byId, make } from './dom.js';
 import { historyView, isGiven } from './history_view.js';
 import { noticesOf } from './notices_view.js';
 import { outputView } from './output_view.js';
+import { Presses } from './presses.js';
 import { detailView, hintView, progressOf, questionView, resultView, routineOf, whereView } from './question_view.js';
 import { refusalOf } from './refusal.js';
 import { paintRight } from './right_view.js';
@@ -21,6 +22,13 @@ export class Painter {
     this.shownCard = '';
     this.shownEntries = null;
     this.lastSaid = '';
+    this.presses = new Presses(() => this.paint());
+  }
+
+  // What stands in a part of the page.
+  fill(id, ...views) {
+    const part = byId(id);
+    if (!this.presses.holds(part)) part.replaceChildren(...views);
   }
 
   paint() {
@@ -49,7 +57,7 @@ export class Painter {
     const kept = desk.offer;
     const close = () => { desk.offer = null; this.paint(); };
     const showLine = (line) => { desk.showPane('source'); desk.source.focus(line); };
-    byId('notices').replaceChildren(...(kept === null ? [] : [offerView(kept, { goOn: () => acts.goOn(kept), close })]),
+    this.fill('notices', ...(kept === null ? [] : [offerView(kept, { goOn: () => acts.goOn(kept), close })]),
       ...noticesOf(desk.dialog, isStale, { own: this.refusalShown(), right: this.rightRefused() }, { putBack: acts.putBack, takeBack: acts.takeBack, showLine }));
   }
 
@@ -73,7 +81,7 @@ export class Painter {
     byId('middle').classList.toggle('stale', isStale && isReady);
     for (const id of ['progress', 'answered']) byId(id).hidden = !isReady;
     const isExample = program.example !== null && dialog.session !== null && dialog.session.source.text === program.example.source;
-    byId('story').replaceChildren(...(isExample ? [storyView(program.example, dialog.session.lines.length === 0)] : []));
+    this.fill('story', ...(isExample ? [storyView(program.example, dialog.session.lines.length === 0)] : []));
     if (isReady) this.paintQuestion(); else this.paintBeginning();
   }
 
@@ -101,7 +109,7 @@ export class Painter {
     byId('bar').firstElementChild.style.width = `${Math.round(100 * Math.max(0.02, progress.share))}%`;
     this.paintCard();
     const hint = dialog.questionCall >= 0 ? hintView(dialog, context) : null;
-    byId('hint').replaceChildren(...(hint === null ? [] : [hint]));
+    this.fill('hint', ...(hint === null ? [] : [hint]));
     this.paintHistory();
     this.announce(progress.text);
   }
@@ -197,7 +205,7 @@ export class Painter {
     byId('callCount').textContent = dialog.tree === null ? '' : counted(dialog.tree.parent.length);
     byId('right').classList.toggle('empty', dialog.tree === null);
     tree.setMarks({ asked: dialog.questionCall, accused: dialog.accused ?? -1 });
-    byId('detail').replaceChildren(...(chosen >= 0 && dialog.tree !== null ? [detailView(chosen, dialog, source.outline, context)] : []));
+    this.fill('detail', ...(chosen >= 0 && dialog.tree !== null ? [detailView(chosen, dialog, source.outline, context)] : []));
   }
 
   paintSource(isStale) {

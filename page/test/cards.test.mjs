@@ -136,6 +136,26 @@ test('what a look tells, in words and as rows', () => {
   assert.deepEqual([row.shape, row.label, row.heads, row.cells.map((cell) => cell.isSet)], ['list', 'a', ['1', '2', '3'], [false, true, false]]);
 });
 
+test('an array of a size of its own: bounds, and the variable that it stands for or the cells of its copy', () => {
+  const given = (...lines) => foldCard(card(...lines)).given.map((row) => [row.shape, row.label, row.heads ?? row.after, row.name]);
+  assert.deepEqual(given('lo = 3', 'hi = 5', 'v = at a'), [['value', 'lo', '3', null], ['value', 'hi', '5', null], ['value', 'v', 'at a', 'a']]);
+  assert.deepEqual(given('lo = 3', 'hi = 5', 'v[3] = 1', 'v[4] = 2', 'v[5] = 4', 'n = 7'),
+    [['value', 'lo', '3', null], ['value', 'hi', '5', null], ['list', 'v', ['3', '4', '5'], null], ['value', 'n', '7', null]]);
+  assert.deepEqual(given('x = 1', 'y = 3', "t[1] = 'x'", "t[2] = 'y'", "t[3] = 'z'"),
+    [['value', 'x', '1', null], ['value', 'y', '3', null], ['text', 't', 'xyz', null]]);
+  assert.deepEqual(given('c = red', 'd = blue', 'm[red] = 1', 'm[blue] = ?'),
+    [['value', 'c', 'red', null], ['value', 'd', 'blue', null], ['list', 'm', ['red', 'blue'], null]]);
+});
+
+test('the copy of another call is one list, with no word of the cell that leads to it', () => {
+  const folded = foldCard(card('reads p#2.lo = 1', 'reads p#2.v = at p#2.v', 'reads p#2.v[1] = 5', 'reads p#2.v[2] = 6', 'changes p#2.v[2] = 7',
+    'reads p#2.w = at a[2]', 'w = at p#2.v'));
+  const rows = (list) => list.map((row) => [row.shape, row.label, row.heads ?? row.after]);
+  assert.deepEqual(rows(folded.changed), [['list', 'p#2.v', ['1', '2']]]);
+  assert.deepEqual(rows(folded.read), [['value', 'p#2.lo', '1'], ['value', 'p#2.w', 'at a[2]']]);
+  assert.deepEqual(rows(folded.given), [['value', 'w', 'at p#2.v']]);
+});
+
 test('a constant of a program may be called gone', () => {
   const folded = foldCard(card('reads s = there', 'changes s = gone', 'changes ^1^ gone'));
   assert.deepEqual(folded.changed.map((row) => [row.before, row.after]), [['there', 'gone']]);

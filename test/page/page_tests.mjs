@@ -152,6 +152,16 @@ begin writeln(a[60000]) end;
 begin fill; show end.
 `;
 
+// `put` is given an array by its address and a text as a copy of its own, which `letter`, within it, reads and changes.
+const OWN_SIZES = `program sizes(output);
+var a: array [3..5] of integer; s: packed array [1..4] of char;
+procedure put(var v: array [lo..hi: integer] of integer; t: packed array [x..y: integer] of char);
+  procedure letter(i: integer);
+  begin v[i] := ord(t[x]); t[x] := t[y] end;
+begin letter(lo); letter(hi) end;
+begin a[3] := 0; a[4] := 0; a[5] := 0; s := 'abcz'; put(a, s); writeln(a[5]: 1) end.
+`;
+
 const isCalm = '!document.body.classList.contains("busy")';
 const button = (word) => `[data-say=${word}]`;
 
@@ -316,6 +326,24 @@ export const TESTS = {
     t.equal('a doubt that is judged after all', await verdict(t), 'twenty');
   },
 
+  async 'a press outlives a change of the page'(t) {
+    await opened(t, 'change', ['wrong']);
+    await choose(t, 2);
+    const press = (kind) => t.page.value(`(() => {
+      window.held ??= document.querySelector('#detail button.wrong');
+      window.held.dispatchEvent(new PointerEvent('pointer${kind}', { bubbles: true }));
+    })()`);
+    await press('down');
+    await t.page.value('document.querySelector("#tree").focus()');
+    await t.page.press('Home');
+    await t.page.press('Enter');
+    await t.page.until('document.querySelector("#tree .row.chosen")?.dataset.call === "0"');
+    t.equal('what is held down stays', await t.page.value('[window.held.isConnected, document.querySelector("#detail [data-call]").dataset.call]'), [true, '2']);
+    await press('up');
+    await t.page.until('document.querySelector("#detail [data-call]").dataset.call === "0"');
+    t.equal('and goes when it is let go', await t.page.value('window.held.isConnected'), false);
+  },
+
   async 'taking back'(t) {
     await opened(t, 'change', ['wrong', 'right', 'wrong']);
     await t.page.press('b');
@@ -412,6 +440,35 @@ export const TESTS = {
     t.holds('the raw card is one click away', /^call \d+ \w+/.test((await t.page.text('#question details.raw pre'))[0]));
     await t.picture('8-folded');
     await accessible(t, 'a folded card');
+  },
+
+  async 'arrays whose bounds a call gives are folded'(t) {
+    // The rows of a part of the card: a label and what stands beside it, where that is no list.
+    const rows = (heading) => t.page.value(`[...document.querySelectorAll('#question .part')].filter((it) => it.querySelector('h3').textContent === '${heading}')
+      .flatMap((it) => [...it.querySelectorAll('table.cells > tbody > tr')]).filter((row) => row.cells[0].tagName === 'TH').map((row) => [row.cells[0], ...(row.querySelector('table.list') === null ? [row.cells[1]] : [])]
+        .map((cell) => cell.innerText.replace(/\\s+/g, ' ').trim()))`);
+    await t.fresh();
+    await ran(t, 'sizes.pas', OWN_SIZES);
+    t.equal('the first question', await asked(t), 'put');
+    t.equal('bounds stand before the array that is meant, and before the copy, which is a text', await rows('It was given'),
+      [['lo', '3'], ['hi', '5'], ['v', 'stands for a'], ['x', '1'], ['y', '4'], ['t', '\u201cabcz\u201d']]);
+    t.equal('what it changed is called by the name of the array', await rows('It changed'), [['a']]);
+    t.equal('with its own numbers', await t.page.text('#question table.list thead th'), ['3', '5']);
+    await t.picture('8-own-sizes');
+    await accessible(t, 'a card with bounds');
+    await t.page.click('#question button[data-look="a"]');
+    await t.page.until('document.querySelector("#question .looked:not([hidden]) table") !== null', 20);
+    t.equal('all of the array can be looked at', await seen(t, '#question .looked table.list thead th'), ['3', '4', '5']);
+    await t.page.click(button('wrong'));
+    await calm(t, 1);
+    t.equal('the second question', await asked(t), 'letter');
+    const [read, changed] = [await rows('It read'), await rows('It changed')];
+    t.equal('the bounds of another call are read', read.map(([label]) => label.split(' ')[0]), ['lo', 'hi', 'v', 'x', 'y']);
+    t.equal('its copy is a text in pieces, without the cell that leads to it', changed.filter(([label]) => label.startsWith('t[')).map(([label, value]) => [label.split(' ')[0], value]),
+      [['t[1]', '\u201ca\u201d \u2192 \u201cz\u201d'], ['t[4]', '\u201cz\u201d']]);
+    // What was read comes before what was only changed.
+    t.equal('and nothing else of it', changed.map(([label]) => label.split(' ')[0]), ['t[1]', 't[4]', 'a[3]']);
+    await accessible(t, 'a card with the copy of another call');
   },
 
   async 'a drawn list'(t) {
