@@ -1,9 +1,14 @@
 pub mod ActionsKeep
 pub mod ActionsMiss
+pub mod CopiesBegin
 pub mod HeapMadeFirst
+pub mod PartsFill
 pub mod PartsJump
 pub mod PartsKeep
 pub mod PartsMiss
+pub mod PassedFill
+pub mod PiecesMatch
+pub mod RunsFill
 pub mod RunsJump
 pub mod RunsKeep
 pub mod RunsMiss

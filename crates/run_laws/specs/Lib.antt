@@ -1,3 +1,6 @@
 pub mod HeapLaws
 pub mod JumpLaws
+pub mod LaidOut
+pub mod ParameterLaws
+pub mod ParameterPieces
 pub mod PointerLaws

@@ -2,6 +2,7 @@
 
 ghost use Rattle.run_laws.specs.{JumpLaws.JumpsLeadOutward, PointerLaws.RunsKeepPointers};
 ghost use Rattle.run_laws.specs.HeapLaws.{FirstVariableBeginsHeap, HeapIsMadeFirst, MissesEndCalls};
+ghost use Rattle.run_laws.specs.ParameterLaws.{ActualsFillParameters, CopiesHaveParameters};
 
 /// Where a cell is not there that a call asks for, the call touches nothing after that, and it ends with the fault
 /// `Disposed`. So it is in each run, whatever the tables of its program.
@@ -27,4 +28,13 @@ pub fn pointers_lead_to_what_was_made()
 /// tables of its program.
 pub fn jumps_lead_outward()
     ensures { JumpsLeadOutward }
+{}
+
+/// Where the tables of a program are laid out, what a call begins with fills the parameters of its routine, in order,
+/// and the copies of arrays that are passed by value stand behind all other cells of its frame, each where its
+/// parameter has the address. Where there are copies, a parameter by copy has the address of the first. So it is in
+/// each run of such tables.
+pub fn actuals_fill_parameters()
+    ensures filled { ActualsFillParameters }
+    ensures copies { CopiesHaveParameters }
 {}

@@ -5,5 +5,6 @@
 mod laws;
 
 pub use laws::{
-    heap_is_made_first, jumps_lead_outward, misses_end_calls, pointers_lead_to_what_was_made,
+    actuals_fill_parameters, heap_is_made_first, jumps_lead_outward, misses_end_calls,
+    pointers_lead_to_what_was_made,
 };
