@@ -1,5 +1,5 @@
 -- A digest is 32 bytes.
-use Rattle.std.proofs.Common.{◌++◌, ◌<◌, ◌∷◌, [], ℕ, List, arith, slice_index, suc, zero}
+use Rattle.std.proofs.Common.{◌++◌, ◌<◌, ◌∷◌, ◌≡◌, [], ℕ, List, arith, slice_index, subst, suc, sym, zero}
 use Rattle.std.specs.Int.{byte_at, bytes_high_first}
 use Rattle.sha2.{proofs.Facts256.length-sha256, specs.Sha256.digest_bytes, specs.Sha256.sha256}
 use Rattle.session_file.specs.Whole.{IsDigest}
@@ -27,5 +27,8 @@ sha256_below : (m : List ℕ) (i : ℕ) → slice_index (sha256 m) i < 256
 unfolding sha256
 sha256_below m i = digest_below _ 8 i
 
-pub digest_whole : (m : List ℕ) → IsDigest (sha256 m)
-digest_whole m = record { size = length-sha256 m; each = sha256_below m }
+sha256_whole : (m : List ℕ) → IsDigest (sha256 m)
+sha256_whole m = record { size = length-sha256 m; each = sha256_below m }
+
+pub digest_whole : (digest m : List ℕ) → digest ≡ sha256 m → IsDigest digest
+digest_whole digest m is = subst (λ (d : List ℕ). IsDigest d) (sym is) (sha256_whole m)

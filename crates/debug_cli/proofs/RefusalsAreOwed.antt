@@ -1,5 +1,5 @@
 -- What is refused is what is owed at its status.
-use Rattle.std.proofs.Common.{◌≡◌, ◌⊎◌, ℕ, Bor, Err, List, None, Ok, Option, Result, Some, inl, inr, refl, sym}
+use Rattle.std.proofs.Common.{◌≡◌, ◌⊎◌, ℕ, Bor, Err, List, None, Ok, Option, Result, Some, inl, inr, refl, subst, sym}
 use Rattle.edge_ports.specs.{Counts.CountsFetch, Files.FileMap, Files.HoldsLonger, Files.LacksFile, declared.ports.FetchFault.FetchFault}
 use Rattle.session_file.specs.{Reading.session_of, declared.session.LoadFault.LoadFault, declared.session.Session.Session}
 use Rattle.ask_session.specs.Outside.{Outside}
@@ -13,6 +13,14 @@ same_some e = cc
 
 none_some : {A : Type 0} {a : A} → None ≡ Some a → ⊥
 none_some e = let x : ⊥ = cc in x
+
+module _ {m : Meant} {before : Outside} {why : Refusal} where
+  -- what comes first changes nothing outside
+  pub refused_later : {middle after : Outside} → middle ≡ before → IsRefusal m middle after why → IsRefusal m before after why
+  refused_later {middle} {after} same is = subst (λ (x : Outside). IsRefusal m x after why) same is
+
+  pub refused_here : {after : Outside} → after ≡ before → IsRefusal m before before why → IsRefusal m before after why
+  refused_here {after} same is = subst (λ (x : Outside). IsRefusal m before x why) (sym same) is
 
 pub memory_refused : (m : Meant) (x : Outside) → IsRefusal m x x Refusal.Memory
 memory_refused m x = record { owed = λ text e. absurd (none_some e); counts = inl refl; files = refl }
@@ -49,11 +57,11 @@ module _ (r : Requested) (before after : Outside) (file : FileSought) (sought : 
   file_owed (FetchFault.TooLong bound) tells counts text e = owes_file (FetchFault.TooLong bound) (tells.longer bound refl) counts text e
   file_owed FetchFault.Memory tells counts text e = absurd (none_some e)
 
-pub file_refused : (r : Requested) (before after : Outside) (name : Bor (List ℕ)) (limit : ℕ)
+pub file_refused : (r : Requested) {before after : Outside} (name : Bor (List ℕ)) (limit : ℕ)
     → IsSought r before.files (record { name = name.now; limit = limit }) → (why : FetchFault)
     → Tells why (record { name = name.now; limit = limit }) before.files → CountsFetch (Err why) before.counts after.counts
     → after.files ≡ before.files → IsRefusal (Source r) before after (Refusal.File name why)
-file_refused r before after name limit sought why tells counts files = record {
+file_refused r {before} {after} name limit sought why tells counts files = record {
   owed = file_owed r before after (record { name = name.now; limit = limit }) sought why tells counts;
   counts = inr (why, counts);
   files = files;

@@ -1,10 +1,10 @@
 -- Why what the words name is refused, and what is said of it.
-use Rattle.std.specs.Prelude.{◌≡◌, ◌≤◌, ◌⊎◌, ℕ, Err, IfSome, List, None, Ok, Option, Result, Some, length}
+use Rattle.std.specs.Prelude.{◌≡◌, ◌⊎◌, ℕ, Err, IfSome, List, None, Ok, Option, Result, Some}
 use Rattle.edge_ports.specs.{Files.FileMap, declared.ports.FetchFault.FetchFault}
 use Rattle.pas_lexer.specs.Limits.{source_bytes}
 use Rattle.session_file.specs.{Whole.IsWhole, declared.session.LoadFault.LoadFault}
 use Rattle.ask_session.specs.Outside.{Outside}
-use Rattle.debuggee.specs.{Limits.input_bytes, Program.IsProgram, declared.source.SourceFault.SourceFault}
+use Rattle.debuggee.specs.{Program.IsProgram, declared.source.SourceFault.SourceFault}
 use Rattle.debug_cli.specs.{Given.GivesNothing, Given.GivesText, Goes.Owes, Meaning.Meant, Meaning.Requested}
 use Rattle.debug_cli.specs.{Named.IsFetched, Named.IsInput, Named.IsSaved, Outside.CountsOneFault}
 use Rattle.debug_cli.specs.Texts.{file_line, refused_line, session_line}
@@ -62,6 +62,5 @@ pub record IsSupplied (r : Requested) (files : Option FileMap) (s : Supplied) : 
   pub source : IsFetched files r.source source_bytes s.source
   pub program : IsProgram s.source s.program.tokens s.program.program
   pub input : IsInput files r.input s.input
-  pub short : length s.input ≤ input_bytes
   pub saved : IsSaved files r.load s.saved
   pub whole : IfSome s.saved IsWhole

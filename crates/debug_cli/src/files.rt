@@ -1,9 +1,7 @@
 //! What a request names: fetched, read, and then asked about.
-ghost use Rattle.std.specs.Prelude.{◌≡◌, ◌≤◌, IfOk, IfSome, IsTrue, None, Some, length};
-ghost use Rattle.sha2.specs.Sha256.{sha256};
+ghost use Rattle.std.specs.Prelude.{◌≡◌, IfOk, IfSome, IsTrue, None, Some};
 ghost use Rattle.edge_ports.specs.Counts.{Counted};
-ghost use Rattle.session_file.specs.Whole.{IsDigest, IsWhole};
-ghost use Rattle.debuggee.specs.Limits.{input_bytes};
+ghost use Rattle.session_file.specs.Whole.{IsWhole};
 ghost use Rattle.debug_cli.specs.{Goes.HasGone, Outside.outside, Reading.requested_by, Refusals.IsSupplied};
 ghost use Rattle.debug_cli.specs.{Refusals.UnlessRefused, Status.is_console, Status.is_screen};
 ghost use Rattle.debug_cli.specs.Meaning.{IsBudget, Requested, Source};
@@ -63,7 +61,6 @@ fn input_of<'a, K: Keeper>(
 ) -> Result<Bytes, Refusal<'a>>
     requires { Checked (requested_by request.now) (K.files keeper.old) }
     ensures input { IfOk result (λ input. IsInput (K.files keeper.old) (requested_by request.now).input input) }
-    ensures short { IfOk result (λ input. length input ≤ input_bytes) }
     ensures refused { UnlessRefused (Source (requested_by request.now))
         (outside (K.files keeper.old) (K.counts keeper.old) None None)
         (outside (K.files keeper.new) (K.counts keeper.new) None None) result }
@@ -72,23 +69,6 @@ fn input_of<'a, K: Keeper>(
         Some(name) => fetched(alloc, name, INPUT_BYTES, keeper),
         None => Ok(Bytes::new(alloc)),
     }
-}
-
-/// The session that a file is.
-fn loaded<'a, K: Keeper>(
-    alloc: Global,
-    name: &'a str,
-    keeper: &mut K,
-) -> Result<Option<Session>, Refusal<'a>>
-    ensures saved { IfOk result (λ saved. IsSaved (K.files keeper.old) (Some name.now) saved) }
-    ensures whole { IfOk result (λ saved. IfSome saved IsWhole) }
-    ensures refused { (r : Requested) → named.Supplied r (K.files keeper.old) → r.load ≡ Some name.now
-        → UnlessRefused (Source r) (outside (K.files keeper.old) (K.counts keeper.old) None None)
-        (outside (K.files keeper.new) (K.counts keeper.new) None None) result }
-{
-    let bytes = fetched(alloc, name, SESSION_BYTES, keeper)?;
-    let session = load(alloc, bytes.as_slice())?;
-    Ok(Some(session))
 }
 
 /// The session that is gone on with: none where no file is named.
@@ -104,10 +84,12 @@ fn saved_session<'a, K: Keeper>(
         (outside (K.files keeper.old) (K.counts keeper.old) None None)
         (outside (K.files keeper.new) (K.counts keeper.new) None None) result }
 {
-    match request.load {
-        Some(name) => loaded(alloc, name, keeper),
-        None => Ok(None),
-    }
+    let Some(name) = request.load else {
+        return Ok(None);
+    };
+    let bytes = fetched(alloc, name, SESSION_BYTES, keeper)?;
+    let session = load(alloc, bytes.as_slice())?;
+    Ok(Some(session))
 }
 
 /// Fetches and reads what a request names: the source, the input, and the session. The first of them that is refused
@@ -132,14 +114,6 @@ pub fn supply<'a, K: Keeper>(
         input,
         saved,
     })
-}
-
-/// The digest of these bytes, by which a session tells its run from others.
-fn digest(bytes: &[u8]) -> [u8; 32]
-    ensures value { result ≡ sha256 bytes.now }
-    ensures whole { IsDigest result }
-{
-    digest_of(bytes)
 }
 
 /// Runs the program and asks about it on the console.
@@ -168,8 +142,8 @@ pub fn ask_about<K: Keeper, I: Source, O: Printer>(
         saved,
     } = supplied;
     let start = Start {
-        source: digest(source.as_slice()),
-        input: digest(input.as_slice()),
+        source: digest_of(source.as_slice()),
+        input: digest_of(input.as_slice()),
         budget: request.budget,
         saved,
     };

@@ -10,25 +10,25 @@ use itoa::Buffer;
 use session_file::{LoadFault, SessionField};
 use std::alloc::{AllocError, Global};
 
-/// Begin, name and line end.
-fn named_line(alloc: Global, begin: &[u8], name: &[u8]) -> Result<Bytes, AllocError>
-    ensures { IfOk result (λ text. text ≡ begin.now ++ name.now ++ codes "\n") }
+/// Begin, word and line end.
+fn word_line(alloc: Global, begin: &[u8], word: &str) -> Result<Bytes, AllocError>
+    ensures { IfOk result (λ text. text ≡ begin.now ++ word.now ++ codes "\n") }
 {
     let mut text = Bytes::new(alloc);
     text.append(begin)?;
-    text.append(name)?;
+    text.append(word.as_bytes())?;
     text.append(b"\n")?;
     Ok(text)
 }
 
 /// The line on a file that could not be fetched.
-fn file_text(alloc: Global, name: &[u8], why: FetchFault) -> Result<Bytes, AllocError>
+fn file_text(alloc: Global, name: &str, why: FetchFault) -> Result<Bytes, AllocError>
     ensures { IfOk result (λ text. file_told why name.now ≡ Some text) }
 {
     match why {
-        FetchFault::Absent => named_line(alloc, b"file: absent ", name),
-        FetchFault::Failed => named_line(alloc, b"file: failed ", name),
-        FetchFault::TooLong(_) => named_line(alloc, b"file: too long ", name),
+        FetchFault::Absent => word_line(alloc, b"file: absent ", name),
+        FetchFault::Failed => word_line(alloc, b"file: failed ", name),
+        FetchFault::TooLong(_) => word_line(alloc, b"file: too long ", name),
         FetchFault::Memory => Err(AllocError),
     }
 }
@@ -63,13 +63,6 @@ fn field_key(field: SessionField) -> &'static str
     }
 }
 
-/// Begin, word and line end.
-fn word_line(alloc: Global, begin: &[u8], word: &str) -> Result<Bytes, AllocError>
-    ensures { IfOk result (λ text. text ≡ begin.now ++ word.now ++ codes "\n") }
-{
-    named_line(alloc, begin, word.as_bytes())
-}
-
 /// The line on a session of another version.
 fn version_text(alloc: Global, version: u64) -> Result<Bytes, AllocError>
     ensures { IfOk result (λ text. text ≡ codes "session: BadVersion " ++ decimal version ++ codes "\n") }
@@ -98,7 +91,7 @@ pub fn refusal_line(alloc: Global, refusal: &Refusal<'_>) -> Result<Bytes, Alloc
         Refusal::Source(SourceFault::Refused { why, line, byte }) => {
             refused_text(alloc, why, line, byte)
         }
-        Refusal::File(name, why) => file_text(alloc, name.as_bytes(), why),
+        Refusal::File(name, why) => file_text(alloc, name, why),
         Refusal::Session(why) => session_text(alloc, why),
         Refusal::Source(SourceFault::Memory) | Refusal::Memory => Err(AllocError),
     }

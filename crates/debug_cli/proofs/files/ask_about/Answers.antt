@@ -4,16 +4,25 @@ use Rattle.edge_ports.specs.Counts.{Counted}
 use Rattle.dialog_replies.specs.declared.start.Start.{Start}
 use Rattle.ask_session.specs.{Outside.Outside, Went.Went}
 use Rattle.debuggee.specs.{Execution.Execution, Execution.execution_of, Limits.input_bytes, References.IsReading, Subjects.subject_of}
-use Rattle.debug_cli.proofs.{StatusByCode.console_by_end, StatusByCode.screen_by_end, StatusTellsWhy.talk_goes}
+use Rattle.debug_cli.proofs.{DigestsAreWhole.digest_whole, StatusTellsWhy.talk_goes, WhatIsSupplied.input_short}
+use Rattle.debug_cli.proofs.StatusByCode.{console_by_end, screen_by_end}
 use Rattle.debug_cli.proofs.files.ask_about.Goals as goal
 use Rattle.debug_cli.specs.{Goes.Goes, Meaning.Requested, Meaning.Source, Named.Begun, Named.start_in, Outside.outside, Reading.requested_by}
 use Rattle.debug_cli.specs.Status.{is_console, is_screen}
 
 pub run_program-requires-clause-input : goal.run_program-requires-clause-input
-run_program-requires-clause-input g c = subst (λ (b : List ℕ). length b ≤ input_bytes) (sym c.as_slice-3.ensures) c.requires.supplied.short
+run_program-requires-clause-input g c =
+    subst (λ (b : List ℕ). length b ≤ input_bytes) (sym c.as_slice-3.ensures)
+    (input_short (g.K.Keeper.files c.args.keeper.now) (requested_by c.args.request.now).input c.args.supplied.input c.requires.supplied.input)
 
 pub converse-requires : goal.converse-requires
-converse-requires g c = record { whole = record { source = c.digest.ensures.whole; input = c.digest-2.ensures.whole; saved = c.requires.supplied.whole } }
+converse-requires g c = record {
+  whole = record {
+    source = digest_whole c.digest_of.result c.as_slice.result.now c.digest_of.ensures;
+    input = digest_whole c.digest_of-2.result c.as_slice-2.result.now c.digest_of-2.ensures;
+    saved = c.requires.supplied.whole;
+  };
+}
 
 pub returns-in-Ok-clause-gone : goal.returns-in-Ok-clause-gone
 returns-in-Ok-clause-gone g c =
@@ -33,9 +42,9 @@ returns-in-Ok-clause-gone g c =
       saved = s.saved;
       is_saved = is.saved;
     } in
-    let begins : Start = record { source = c.digest.result; input = c.digest-2.result; budget = r.budget; saved = s.saved } in
-    let source = c.digest.ensures.value ∙ ap sha256 c.as_slice.ensures in
-    let input = c.digest-2.ensures.value ∙ ap sha256 c.as_slice-2.ensures in
+    let begins : Start = record { source = c.digest_of.result; input = c.digest_of-2.result; budget = r.budget; saved = s.saved } in
+    let source = c.digest_of.ensures ∙ ap sha256 c.as_slice.ensures in
+    let input = c.digest_of-2.ensures ∙ ap sha256 c.as_slice-2.ensures in
     let same : begins ≡ start_in b = λ i. record { source = source i; input = input i; budget = r.budget; saved = s.saved } in
     let run : List ℕ → Execution = λ x. execution_of s.program.tokens s.program.program (record { input = x; budget = r.budget }) in
     let kept = c.in-Ok.ensures.kept ∙ ap run c.as_slice-3.ensures in

@@ -8,7 +8,6 @@ returns-in-Ok-clause-refused g c = λ r sought i. outside (c.in-Ok.ensures.files
 
 pub returns-in-Err-clause-refused : goal.returns-in-Err-clause-refused
 returns-in-Err-clause-refused g c = λ r sought.
-    file_refused r (outside (g.K.Keeper.files c.args.keeper.now) (g.K.Keeper.counts c.args.keeper.now) None None)
-    (outside (g.K.Keeper.files c.fetch.new.self) (g.K.Keeper.counts c.fetch.new.self) None None) c.args.name c.args.limit sought c.in-Err.why
+    file_refused r c.args.name c.args.limit sought c.in-Err.why
     (record { absent = λ x. c.in-Err.ensures.absent (ap Err x); longer = λ b x. (c.in-Err.ensures.too_long b (ap Err x)).1 })
     c.in-Err.ensures.counts c.in-Err.ensures.files
