@@ -1,34 +1,17 @@
-//! Tests of what is outside and of what stands before a run: ports, files and streams, pieces, trees and their
-//! readers, and the static rules; of what a run is made of and kept in: lists of values, the store, the log and its
-//! effects, the calls, a machine and a body; and of whole runs, with their calls done again, outputs sliced, alike
-//! calls in classes, and a right program that judges its calls.
+//! Tests of what neither a clause nor a case in files says: of real files and streams, of many snapshots, and of what
+//! is kept of a run, whose calls are done again and put in place of their runs. And each public call below the dialog
+//! that may run out of memory is called once with ample memory, over a small source and its run.
 #![tactic(auto)]
 
 #[cfg(test)]
-mod actions;
+mod cells;
 #[cfg(test)]
-mod checks;
-#[cfg(test)]
-mod classes;
-#[cfg(test)]
-mod lexer;
-#[cfg(test)]
-mod log;
+mod layers;
 #[cfg(test)]
 mod ports;
 #[cfg(test)]
-mod reader_tests;
-#[cfg(test)]
-mod references;
-#[cfg(test)]
 mod runs;
 #[cfg(test)]
-mod slices;
+mod searches;
 #[cfg(test)]
 mod store;
-#[cfg(test)]
-mod tree_calls;
-#[cfg(test)]
-mod tree_tests;
-#[cfg(test)]
-mod values;

@@ -1,23 +1,26 @@
-//! The run of a program, and the work of its calls done again.
-ghost use Rattle.std.specs.Prelude.{◌<◌, ◌≡◌, ◌≤◌, ℕ, IfOk, List, length};
-ghost use Rattle.core_program.specs.RunLaws.{most_bytes};
+//! The run of a program, the work of its calls done again, and what is told of them.
+ghost use Rattle.std.specs.Prelude.{◌<◌, ◌≡◌, ◌≤◌, [], ℕ, IfOk, IsTrue, List, length};
+ghost use Rattle.core_program.specs.{ProgramRows.frame_of, RunLaws.most_bytes, State.stack_end};
 ghost use Rattle.program_run.specs.History.{IsOfRun};
 
-use crate::slices::slices_hold;
-use body_replay::{KeptState, Trace, carries, entry_of, replay, transplant};
-use call_tree::{Call, Calls, Event, Events, Side};
-use cell_value::{Memory, Steps, Touch, Value, WayOut};
+use crate::searches::searches_hold;
+use answer_reuse::Classes;
+use body_replay::{KeptState, Trace, entry_of, replay, transplant};
+use call_tree::{Call, Event, Events, Side};
+use cell_value::{Cells, Memory, Steps, Value, WayOut};
 use code_checker::check_tokens;
 use core_program::Program;
-use effect_log::Log;
+use output_slice::{Output, slice};
 use pas_lexer::{MAX_SOURCE_BYTES, lex};
-use program_run::{History, run};
+use persistent_store::Store;
+use program_run::{History, run, run_from};
+use reference_oracle::{Reference, Verdict};
 use std::alloc::Global;
 use std::test::Fail;
 
 /// The frame of the block stands at 0, with `x` at 1; that of `next` at 2, with its parameter at 3; and that of `one`
 /// at 4, with its result at 5.
-pub const ADD: &str = "program add(input, output);
+const ADD: &[u8] = b"program add(input, output);
 var x: integer;
 function one: integer;
 begin
@@ -34,7 +37,7 @@ begin
 end.
 ";
 
-pub const INPUT: &[u8] = b"41\n";
+const INPUT: &[u8] = b"41\n";
 
 /// What is kept of a state beside a call, without its cells: the entries of the log, the first free addresses of the
 /// stack and of the heap, the place in the input, the bytes of the output, the steps that are left, and the calls.
@@ -116,42 +119,21 @@ const CALLS: [Kept; 3] = [
     },
 ];
 
-/// What was done: `read(x)`, then `y + one`, which is assigned to `y`, and `writeln(x)`.
-const TOUCHES: [Touch; 17] = [
-    Touch::Look(0),
-    Touch::Take(1),
-    Touch::Look(1),
-    Touch::Take(1),
-    Touch::Look(2),
-    Touch::Write(1, Value::Number(41)),
-    Touch::Read(3, Value::Place(1)),
-    Touch::Read(1, Value::Number(41)),
-    Touch::Read(2, Value::Frame(0)),
-    Touch::Write(5, Value::Number(1)),
-    Touch::Read(5, Value::Number(1)),
-    Touch::Read(3, Value::Place(1)),
-    Touch::Write(1, Value::Number(42)),
-    Touch::Read(1, Value::Number(42)),
-    Touch::Give(b'4'),
-    Touch::Give(b'2'),
-    Touch::Give(b'\n'),
-];
-
-/// The program of a source.
-pub fn program_of(alloc: Global, source: &str) -> Result<Program, Fail> {
-    let source = source.as_bytes();
+/// The program of a source, if it is one.
+pub fn program_of(alloc: Global, source: &[u8]) -> Option<Program> {
     if source.len() > MAX_SOURCE_BYTES {
-        return Err(Fail::from("too long"));
+        return None;
     }
-    let tokens = lex(alloc, source)?;
-    Ok(check_tokens(alloc, &tokens)?)
+    let tokens = lex(alloc, source).ok()?;
+    check_tokens(alloc, &tokens).ok()
 }
 
-/// The run of a program.
-pub fn history_of(alloc: Global, program: &Program, input: &[u8]) -> Result<History, Memory>
+/// The run of a program: its calls were all left.
+fn history_of(alloc: Global, program: &Program, input: &[u8]) -> Result<History, Memory>
     requires short { length input.now ≤ most_bytes }
     ensures ran { IfOk result (λ h. (input : List ℕ) × (length input ≤ most_bytes)
         × IsOfRun program.now input h.budget h) }
+    ensures all_left { IfOk result (λ h. h.calls.open_calls ≡ []) }
     ensures some_steps { IfOk result (λ h. 0 < h.budget) }
     ensures budget { IfOk result (λ h. h.budget ≤ 4000000) }
 {
@@ -159,8 +141,8 @@ pub fn history_of(alloc: Global, program: &Program, input: &[u8]) -> Result<Hist
     Ok(history)
 }
 
-/// Whether a call is that which is wanted.
-fn call_holds(call: &Call, kept: &Kept) -> bool {
+/// Whether a call is recorded as it is wanted.
+fn is_recorded(call: &Call, kept: &Kept) -> bool {
     let stands = call.routine == kept.routine
         && call.parent == kept.parent
         && call.depth == kept.depth
@@ -168,36 +150,6 @@ fn call_holds(call: &Call, kept: &Kept) -> bool {
     let ended = call.way == WayOut::Returned && call.result == kept.answer;
     let sides = numbers_of(&call.entry) == kept.entry && numbers_of(&call.exit) == kept.exit;
     stands && ended && sides && call.args.as_slice() == kept.args
-}
-
-/// Whether the calls are those of the block, of `next` and of `one`.
-fn calls_hold(calls: &Calls) -> bool {
-    'calls: for number in 0..calls.len() {
-        match CALLS.get(number as usize) {
-            Some(kept) => {
-                if !call_holds(calls.call(number), kept) {
-                    return false;
-                }
-            }
-            None => return false,
-        }
-    }
-    calls.len() == 3
-}
-
-fn log_holds(log: &Log) -> bool {
-    'touches: for at in 0..log.len() {
-        if TOUCHES.get(at as usize).copied() != Some(log.at(at)) {
-            return false;
-        }
-    }
-    log.len() as usize == TOUCHES.len()
-}
-
-/// Whether the calls, the log and the output of a run are those that are wanted.
-fn history_holds(history: &History) -> bool {
-    let given = history.output.as_slice() == b"42\n".as_slice();
-    given && calls_hold(&history.calls) && log_holds(&history.log)
 }
 
 fn events_hold(events: &Events, wanted: &[Event]) -> bool {
@@ -246,27 +198,75 @@ fn repeats(
     Ok(same && trace_holds(&trace, kept))
 }
 
-/// Whether each call does again what it did.
-fn all_repeat(alloc: Global, program: &Program, history: &History) -> Result<bool, Memory>
+/// Whether the calls are those of the block, of `next` and of `one`, and each does again what it did.
+fn calls_hold(alloc: Global, program: &Program, history: &History) -> Result<bool, Memory>
     requires ran { (input : List ℕ) × (length input ≤ most_bytes)
         × IsOfRun program.now input history.now.budget history.now }
     requires budget { history.now.budget ≤ 4000000 }
 {
     'calls: for number in 0..history.calls.len() {
-        match CALLS.get(number as usize) {
-            Some(kept) => {
-                if !repeats(alloc, program, history, number, kept)? {
-                    return Ok(false);
-                }
-            }
-            None => return Ok(false),
+        let Some(kept) = CALLS.get(number as usize) else {
+            return Ok(false);
+        };
+        if !is_recorded(history.calls.call(number), kept)
+            || !repeats(alloc, program, history, number, kept)?
+        {
+            return Ok(false);
         }
     }
     Ok(history.calls.len() == 3)
 }
 
-/// Whether the call `next` carries to itself, and not to where the block was entered, below whose variables it stands.
-fn carries_home(alloc: Global, program: &Program, history: &History) -> Result<bool, Memory>
+/// Whether the frame of the block fits on the stack.
+fn block_fits(program: &Program) -> bool
+    ensures { IsTrue result → frame_of program.now 0 ≤ stack_end }
+{
+    match program.routine(0) {
+        Some(block) => block.cells <= 524_288,
+        None => false,
+    }
+}
+
+/// Whether the block, called from a state without cells, does what it did in the run.
+fn block_holds(alloc: Global, program: &Program, history: &History) -> Result<bool, Memory> {
+    // There is a block.
+    program.is_whole();
+    if !block_fits(program) {
+        return Ok(false);
+    }
+    let entry = Side {
+        mark: 0,
+        top: 0,
+        fresh: 524_288,
+        place: 0,
+        output: 0,
+        steps: 1_000,
+        calls: 0,
+        store: Store::new(),
+    };
+    let mut link = Cells::new(alloc);
+    link.push(Value::Nil)?;
+    let again = run_from(alloc, program, 0, &link, entry, 0, &history.input)?;
+    Ok(again.calls.len() == 3 && again.output.as_slice() == b"42\n".as_slice())
+}
+
+/// Whether no two of the three calls are alike, since each is one of another routine.
+fn classes_hold(alloc: Global, program: &Program, history: &History) -> Result<bool, Fail>
+    requires ran { (input : List ℕ) × (length input ≤ most_bytes)
+        × IsOfRun program.now input history.now.budget history.now }
+    requires budget { history.now.budget ≤ 4000000 }
+{
+    let classes = Classes::new(alloc, program, history)?;
+    'calls: for call in 0..classes.len() {
+        if classes.least(call) != call || classes.next(call).is_some() || classes.size(call) != 1 {
+            return Ok(false);
+        }
+    }
+    Ok(classes.len() == 3)
+}
+
+/// Whether `next` leaves `x` with what it read there itself and with the value of `one`.
+fn slice_holds(alloc: Global, program: &Program, history: &History) -> Result<bool, Fail>
     requires ran { (input : List ℕ) × (length input ≤ most_bytes)
         × IsOfRun program.now input history.now.budget history.now }
     requires budget { history.now.budget ≤ 4000000 }
@@ -274,27 +274,65 @@ fn carries_home(alloc: Global, program: &Program, history: &History) -> Result<b
     if history.calls.len() != 3 {
         return Ok(false);
     }
-    let itself = carries(alloc, program, history, 1, 1)?;
-    let block = carries(alloc, program, history, 1, 0)?;
-    Ok(itself && !block)
+    let slicing = slice(alloc, program, history, 1, Output::Cell(1))?;
+    Ok(
+        slicing.len() == 2
+            && slicing.pair(0) == (1, Output::Cell(1))
+            && slicing.pair(1) == (2, Output::Result),
+    )
 }
 
-/// Runs the program: whether its run is that which is wanted, its calls do again what they did, `next` carries, and
-/// outputs have their slices.
-fn run_holds(alloc: Global, program: &Program) -> Result<[bool; 4], Memory> {
+/// In it `next` adds 2.
+const RIGHT: &[u8] = b"program right(output);
+var x: integer;
+function one: integer;
+begin
+  one := 2 - 1
+end;
+procedure next(var y: integer);
+begin
+  y := y + one + one
+end;
+begin
+end.
+";
+
+/// What it says of the block, which is no routine of both, and of the routines.
+const VERDICTS: [Verdict; 3] = [Verdict::Unfit, Verdict::Wrong, Verdict::Right];
+
+fn verdicts_hold(alloc: Global, program: &Program, history: &History) -> Result<bool, Fail>
+    requires ran { (input : List ℕ) × (length input ≤ most_bytes)
+        × IsOfRun program.now input history.now.budget history.now }
+    requires some_steps { 0 < history.now.budget }
+    requires budget { history.now.budget ≤ 4000000 }
+{
+    let right = Reference::read(alloc, RIGHT)?;
+    'calls: for call in 0..history.calls.len() {
+        let verdict = right.judge(alloc, program, history, call)?;
+        if VERDICTS.get(call as usize).copied() != Some(verdict) {
+            return Ok(false);
+        }
+    }
+    Ok(history.calls.len() == 3)
+}
+
+/// Which of these hold of the run of the program.
+fn run_holds(alloc: Global, program: &Program) -> Result<[bool; 7], Fail> {
     let history = history_of(alloc, program, INPUT)?;
-    let again = all_repeat(alloc, program, &history)?;
-    let carried = carries_home(alloc, program, &history)?;
-    let sliced = slices_hold(alloc, program, &history);
-    Ok([history_holds(&history), again, carried, sliced])
+    let given = history.output.as_slice() == b"42\n".as_slice();
+    let calls = calls_hold(alloc, program, &history)?;
+    let block = block_holds(alloc, program, &history)?;
+    let classes = classes_hold(alloc, program, &history)?;
+    let sliced = slice_holds(alloc, program, &history)?;
+    let verdicts = verdicts_hold(alloc, program, &history)?;
+    let searches = searches_hold(alloc, &history.calls)?;
+    Ok([given, calls, block, classes, sliced, verdicts, searches])
 }
 
 #[test]
 fn a_run_and_its_calls_again(rt: HostRuntime) -> Result<(), Fail> {
-    let program = program_of(rt.alloc(), ADD)?;
+    let program = program_of(rt.alloc(), ADD).expect(&rt, "a program");
     let held = run_holds(rt.alloc(), &program)?;
-    for (number, holds) in held.iter().enumerate() {
-        assert!(rt; *holds, "part {number}");
-    }
+    assert!(rt; held == [true; 7], "{held:?}");
     Ok(())
 }

@@ -13,14 +13,18 @@ const SHOWN: &[u8] =
     coins = 50\n  returned\nentry 3\nask 3 suspects 1 left 0\ncall 3 twenty in call 1\n  reads coins = 50\n  changes \
     coins = 52\n  returned\nentry 4\nfound call 3 twenty\n  line 6\n  returned\n";
 
-/// Whether the session on the wrong change shows what it is to show, with these further files.
-fn shows(alloc: Global, files: &[NamedFile]) -> bool {
+/// Whether the session on the wrong change shows what it is to show, with a further file beside the source.
+fn shows(alloc: Global) -> bool {
+    let further = NamedFile {
+        name: "notes",
+        bytes: b"seventy coins",
+    };
     let turn = PageTurn {
         source: CHANGE,
         input: b"",
         budget: "1000000",
         session: None,
-        files,
+        files: &[further],
         console: b"wrong\nright\nwrong\n",
     };
     let mut screen = [0u8; 1_024];
@@ -29,13 +33,7 @@ fn shows(alloc: Global, files: &[NamedFile]) -> bool {
     outcome.status == 0 && &screen[..outcome.screen] == SHOWN
 }
 
-/// A turn on a small program, alone and with a further file.
 #[test]
 fn change_is_asked_about(rt: HostRuntime) {
-    let further = NamedFile {
-        name: "notes",
-        bytes: b"seventy coins",
-    };
-    assert!(rt; shows(rt.alloc(), &[]));
-    assert!(rt; shows(rt.alloc(), &[further]));
+    assert!(rt; shows(rt.alloc()));
 }

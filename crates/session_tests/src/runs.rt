@@ -1,14 +1,20 @@
-//! From a source to its run, the texts on its calls, and its sessions.
-use crate::sessions::sessions_held;
+//! A source and its run, each text on its calls, and what a session needs of them: each call that takes memory, once
+//! with ample memory.
+ghost use Rattle.session_file.specs.Whole.{IsWhole};
+ghost use Rattle.dialog_replies.specs.Start.{IsWholeStart};
+
+use ask_session::{Ending, converse};
 use call_tree::Mark;
-use debuggee::{Debuggee, SourceFault, SourceProgram, read_source, run_program};
-use dialog_replies::{Debugged, print_named_call};
-use edge_ports::{Memory, Page, Pieces, Printer};
-use made_program::{made_lines, make_source};
-use std::alloc::{AllocError, Global};
+use debuggee::{Debuggee, SourceFault, read_source, run_program};
+use dialog_replies::{Debugged, SliceOf, Start, begin};
+use edge_ports::{Memory, Page, Pieces, Printer, Shelf, Tape};
+use made_program::make_source;
+use optimal_query::SearchState;
+use session_file::{Session, load, save};
+use std::alloc::Global;
 use std::test::Fail;
 
-/// It calls `twice` for 3, and then for 5.
+/// It calls `twice` for 3, and for 5 once that was given.
 const SOURCE: &[u8] = b"program four(input, output);
 var x: integer;
 procedure twice(var y: integer);
@@ -18,62 +24,29 @@ end;
 begin
   read(x);
   twice(x);
-  twice(x);
-  writeln(x)
+  writeln(x);
+  twice(x)
 end.
 ";
 
-const INPUT: &[u8] = b"3\n";
-
-/// The program of a source.
-fn program_of(alloc: Global, source: &[u8]) -> Result<SourceProgram, SourceFault> {
-    if source.len() > 1_048_576 {
+/// The run of a source, with 1,000 steps.
+fn run_of<'a>(alloc: Global, source: &[u8], input: &'a [u8]) -> Result<Debuggee<'a>, SourceFault> {
+    if source.len() > 1_048_576 || input.len() > 4_194_304 {
         return Err(SourceFault::Memory);
     }
-    read_source(alloc, source)
-}
-
-/// The run of a source with an input, within a budget of steps.
-fn run_of<'a>(
-    alloc: Global,
-    source: &[u8],
-    input: &'a [u8],
-    budget: u32,
-) -> Result<Debuggee<'a>, SourceFault> {
-    let program = program_of(alloc, source)?;
-    if input.len() > 4_194_304 || budget == 0 || budget > 4_000_000 {
-        return Err(SourceFault::Memory);
-    }
-    let run = run_program(alloc, program, input, budget)?;
+    let program = read_source(alloc, source)?;
+    let run = run_program(alloc, program, input, 1_000)?;
     Ok(run)
 }
 
-/// The run of the source.
-fn a_run(alloc: Global) -> Result<Debuggee<'static>, SourceFault> {
-    run_of(alloc, SOURCE, INPUT, 1_000)
-}
-
-/// The number of a call and the name of its routine, its card, its trace, what `x` held before and after it, and
-/// whether it carries to itself.
-const TEXTS: [&str; 3] = [
-    "0 four
-call 0 four
-  looks \"3\\n\"
-  takes \"3\"
-  gives \"7\\n\"
+/// The card of call 1, the question about it, its trace, what `x` held before and after it, that it carries to itself,
+/// and the tree.
+const TEXTS: &[u8] = b"call 1 twice in call 0
+  y = at x
+  reads x = 3
+  changes x = 5
   returned
-  line 8
-  line 9
-  call 1 twice
-  line 10
-  call 2 twice
-  line 11
-  returned
-no cell x
-carries
-",
-    "1 twice
-call 1 twice in call 0
+twice
   y = at x
   reads x = 3
   changes x = 5
@@ -82,123 +55,122 @@ call 1 twice in call 0
   returned
   x = 3, then 5
 carries
-",
-    "2 twice
+0 four #0 wrong
+1 in 0 twice #1 trusted
+2 in 0 twice #1 unknown
+";
+
+/// Prints all that is said of call 1, and the tree.
+fn write_texts<D: Debugged>(alloc: Global, out: &mut Pieces<Page>, run: &D) -> Result<(), Memory> {
+    if run.calls().len() == 3 {
+        let card = run.prepare_card(alloc, 1)?;
+        let trace = run.prepare_trace(alloc, 1)?;
+        let opened = run.prepare_state(alloc, 1)?;
+        run.write_card(out, 1, &card);
+        run.write_question(out, 1, &card);
+        run.write_trace(out, 1, &trace);
+        run.write_state(out, 1, b"x", &opened);
+        if run.carries(alloc, 1, 1)? {
+            out.print(b"carries\n");
+        }
+        run.write_tree(out, &[Mark::Wrong, Mark::Trusted, Mark::Unknown]);
+    }
+    Ok(())
+}
+
+/// Whether that is said.
+fn texts_hold<D: Debugged>(alloc: Global, run: &D) -> Result<bool, Memory> {
+    let mut screen = Pieces::new(alloc, Page::new(alloc, 4_096, &[])?)?;
+    screen.begin();
+    write_texts(alloc, &mut screen, run)?;
+    Ok(screen.finish().is_ok() && screen.sink().given() == TEXTS)
+}
+
+/// Once call 2 is left out, call 1 is the only suspect.
+const LEFT: SearchState = SearchState::Ask {
+    call: 1,
+    weight: 1,
+    suspects: 1,
+    left: 0,
+};
+
+/// Whether the second call is left out where what the program gave is wrong: that is entry 3, after the wrong output.
+fn slice_holds<D: Debugged>(alloc: Global, run: &D) -> Result<bool, Memory> {
+    if run.calls().len() != 3 {
+        return Ok(false);
+    }
+    let mut debug = begin(alloc, run)?;
+    match run.prepare_slice(alloc, 0, b"gives")? {
+        SliceOf::Slice(slice) => {
+            Ok(run.leave_out(&mut debug, 0, &slice) == Ok((2, 3)) && debug.state() == LEFT)
+        }
+        _ => Ok(false),
+    }
+}
+
+/// The session of a run with these digests and this budget: call 0 is wrong, and call 1 is right, with a note; that
+/// routine 1 can be trusted was taken back.
+const SAVED: &[u8] =
+    b"{\"budget\":1000,\"entries\":[{\"call\":0,\"kind\":\"wrong\",\"standing\":true},\
+    {\"kind\":\"trust\",\"routine\":1,\"standing\":false},\
+    {\"call\":1,\"kind\":\"right\",\"note\":\"by two\",\"standing\":true}],\
+    \"input\":\"1111111111111111111111111111111111111111111111111111111111111111\",\"replies\":[],\
+    \"source\":\"abababababababababababababababababababababababababababababababab\",\"version\":2}";
+
+/// What a dialog starts with that goes on with a session of its own run.
+fn start_with(session: Session) -> Start
+    requires whole { IsWhole session }
+    ensures whole { IsWholeStart result }
+{
+    Start {
+        source: session.source,
+        input: session.input,
+        budget: session.budget,
+        saved: Some(session),
+    }
+}
+
+const SCREEN: &[u8] = b"call 0 four
+  looks \"3\\n\"
+  takes \"3\"
+  gives \"5\\n\"
+  returned
+ask 2 suspects 1 left 0
 call 2 twice in call 0
   y = at x
   reads x = 5
   changes x = 7
   returned
+entry 4
+found call 2 twice
   line 5
   returned
-  x = 5, then 7
-carries
-",
-];
+";
 
-/// A screen in memory.
-fn screen(alloc: Global) -> Result<Pieces<Page>, Memory> {
-    Pieces::new(alloc, Page::new(alloc, 4_096, &[])?)
-}
-
-/// Prints all that is said of a call, if there is one of this number.
-fn write_texts<D: Debugged>(
-    alloc: Global,
-    out: &mut Pieces<Page>,
-    run: &D,
-    call: u32,
-) -> Result<(), Memory> {
-    if call < run.calls().len() {
-        let card = run.prepare_card(alloc, call)?;
-        let trace = run.prepare_trace(alloc, call)?;
-        let opened = run.prepare_state(alloc, call)?;
-        print_named_call(out, run, call);
-        out.print(b"\n");
-        run.write_card(out, call, &card);
-        run.write_trace(out, call, &trace);
-        if !run.write_state(out, call, b"x", &opened) {
-            out.print(b"no cell x\n");
-        }
-        if run.carries(alloc, call, call)? {
-            out.print(b"carries\n");
-        }
-    }
-    Ok(())
-}
-
-/// Whether this is said of a call.
-fn texts_hold<D: Debugged>(
-    alloc: Global,
-    run: &D,
-    call: u32,
-    wanted: &str,
-) -> Result<bool, Memory> {
-    let mut screen = screen(alloc)?;
-    screen.begin();
-    write_texts(alloc, &mut screen, run, call)?;
-    Ok(screen.finish().is_ok() && screen.sink().given() == wanted.as_bytes())
-}
-
-const MARKS: [Mark; 3] = [Mark::Wrong, Mark::Trusted, Mark::Unknown];
-
-const TREE: &str = "0 four #0 wrong\n1 in 0 twice #1 trusted\n2 in 0 twice #1 unknown\n";
-
-/// Whether the lines of all calls are those for the marks.
-fn tree_holds<D: Debugged>(alloc: Global, run: &D) -> Result<bool, Memory> {
-    let mut screen = screen(alloc)?;
-    screen.begin();
-    if run.calls().len() as usize == MARKS.len() {
-        run.write_tree(&mut screen, &MARKS);
-    }
-    Ok(screen.finish().is_ok() && screen.sink().given() == TREE.as_bytes())
-}
-
-/// Whether the run is that of the source. Its tokens are 52, and `End`.
-fn run_holds(run: &Debuggee<'_>) -> bool {
-    let read = run.tokens.len() == 53 && run.program.routines() == 2;
-    let input = run.history.input.len() == 2 && run.history.budget == 1_000;
-    let output = run.history.output.as_slice() == b"7\n".as_slice();
-    read && input && output && run.history.calls.len() == 3
-}
-
-/// Whether this is said of each call.
-fn all_texts_hold<D: Debugged>(alloc: Global, run: &D) -> Result<bool, Memory> {
-    'calls: for (call, wanted) in (0..3).zip(&TEXTS) {
-        if !texts_hold(alloc, run, call, wanted)? {
-            return Ok(false);
-        }
-    }
-    Ok(true)
-}
-
-/// Whether the made search finds call 1, before which one of the three calls was entered, and asks about it first.
-fn made_holds<D: Debugged>(alloc: Global, run: &D) -> Result<bool, Memory> {
-    let text = made_lines(alloc, run)?;
-    Ok(text.as_slice() == b"calls 3\nquestions 1\nfound call 1 twice\n".as_slice())
-}
-
-/// Which of these hold.
-fn texts_held<D: Debugged>(alloc: Global, run: &D) -> Result<[bool; 3], Memory> {
-    let texts = all_texts_hold(alloc, run)?;
-    let tree = tree_holds(alloc, run)?;
-    let made = made_holds(alloc, run)?;
-    Ok([texts, tree, made])
+/// Whether the session is saved as it was loaded, and a dialog that goes on with it says this to `wrong`.
+fn session_holds<D: Debugged>(alloc: Global, run: &D) -> Result<bool, Fail> {
+    let session = load(alloc, SAVED)?;
+    let text = save(alloc, &session)?;
+    let start = start_with(session);
+    let mut keeper = Shelf::new(alloc, &[])?;
+    let mut console = Tape::new(alloc, b"wrong\n", &[])?;
+    let mut screen = Pieces::new(alloc, Page::new(alloc, 4_096, &[])?)?;
+    let ending = converse(alloc, run, &start, &mut keeper, &mut console, &mut screen);
+    let said = screen.sink().given() == SCREEN && matches!(ending, Ending::Done);
+    Ok(said && text.as_slice() == SAVED)
 }
 
 #[test]
-fn a_run_and_its_sessions(rt: HostRuntime) -> Result<(), Fail> {
-    let run = a_run(rt.alloc())?;
-    assert!(rt; run_holds(&run));
-    let texts = texts_held(rt.alloc(), &run)?;
-    let sessions = sessions_held(rt.alloc(), &run)?;
-    for (number, holds) in texts.iter().chain(&sessions).enumerate() {
-        assert!(rt; *holds, "part {number}");
-    }
+fn a_run_and_its_session(rt: HostRuntime) -> Result<(), Fail> {
+    let run = run_of(rt.alloc(), SOURCE, b"3\n")?;
+    assert!(rt; texts_hold(rt.alloc(), &run)?, "texts");
+    assert!(rt; slice_holds(rt.alloc(), &run)?, "a slice");
+    assert!(rt; session_holds(rt.alloc(), &run)?, "a session");
     Ok(())
 }
 
-/// The text of each made program up to its number.
-const BEFORE: &str = "program made;
+/// The made program of the greatest number.
+const MADE: &[u8] = b"program made;
 var s: integer;
 procedure t(d: integer);
 begin
@@ -207,18 +179,13 @@ begin
 end;
 begin
   s := 0;
-  t(";
-
-/// Whether this comes after that in the text of the made program of the greatest number.
-fn source_holds(alloc: Global, after: &str) -> Result<bool, AllocError> {
-    let text = make_source(alloc, 14)?;
-    let given = text.as_slice();
-    let joined = given.starts_with(BEFORE.as_bytes()) && given.ends_with(after.as_bytes());
-    Ok(joined && given.len() == BEFORE.len() + after.len())
-}
+  t(14)
+end.
+";
 
 #[test]
 fn a_made_source(rt: HostRuntime) -> Result<(), Fail> {
-    assert!(rt; source_holds(rt.alloc(), "14)\nend.\n")?);
+    let text = make_source(rt.alloc(), 14)?;
+    assert!(rt; text.as_slice() == MADE);
     Ok(())
 }

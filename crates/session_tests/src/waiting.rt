@@ -1,12 +1,11 @@
 //! What no clause says: that the console is asked for more only once each line that it gave got its reply.
+use crate::commands::ADDERS;
 use debug_cli::ask_pascal;
-use edge_ports::{Pieces, Shelf, StdSink, StdSource};
+use edge_ports::{Memory, Pieces, Shelf, StdSink, StdSource};
+use std::alloc::Global;
 use std::cell::Cell;
 use std::io::{self, Read, Write};
 use std::test::Fail;
-
-const ADDERS: &[u8] =
-    b"program p; var x: integer; procedure a; begin x := x + 1 end; procedure b; begin a; a end; begin x := 1; b end.";
 
 /// What is typed.
 const LINES: [&[u8]; 4] = [b"wrong\n", b"right\n", b"right\n", b"quit\n"];
@@ -62,31 +61,33 @@ impl Write for Watched<'_> {
     }
 }
 
+/// The status of a session with someone patient, of whom each line that is typed and all that is shown is counted.
+fn status_of(
+    alloc: Global,
+    shown: &Cell<usize>,
+    typed: &Cell<usize>,
+    text: &mut Vec<u8>,
+) -> Result<u8, Memory> {
+    let words = vec![in alloc; "pasask".to_string(alloc)?, "F".to_string(alloc)?]?;
+    let mut keeper = Shelf::new(alloc, &[])?;
+    keeper.put("F", ADDERS)?;
+    let mut console = StdSource::new(Patient {
+        shown,
+        typed,
+        seen: 0,
+    });
+    let mut screen = Pieces::new(alloc, StdSink::new(Watched { shown, text }))?;
+    Ok(ask_pascal(alloc, &words, &mut keeper, &mut console, &mut screen))
+}
+
 /// A session with someone who waits for each reply, over std's readers and writers: all lines are typed and replied.
 /// Had the console been asked for a line while a reply was due, it would have ended there.
 #[test]
 fn each_reply_comes_first(rt: HostRuntime) -> Result<(), Fail> {
-    let alloc = rt.alloc();
-    let words = vec![in alloc; "pasask".to_string(alloc)?, "F".to_string(alloc)?]?;
-    let mut keeper = Shelf::new(alloc, &[])?;
-    keeper.put("F", ADDERS)?;
     let shown = Cell::new(0);
     let typed = Cell::new(0);
-    let mut text = Vec::new(alloc);
-    let mut console = StdSource::new(Patient {
-        shown: &shown,
-        typed: &typed,
-        seen: 0,
-    });
-    let watched = StdSink::new(Watched {
-        shown: &shown,
-        text: &mut text,
-    });
-    let mut screen = Pieces::new(alloc, watched)?;
-    let status = ask_pascal(alloc, &words, &mut keeper, &mut console, &mut screen);
-    drop(screen);
-    assert_eq!(rt; status, 0);
-    assert_eq!(rt; typed.get(), LINES.len());
-    assert!(rt; text.as_slice() == SHOWN);
+    let mut text = Vec::new(rt.alloc());
+    let status = status_of(rt.alloc(), &shown, &typed, &mut text)?;
+    assert!(rt; status == 0 && typed.get() == LINES.len() && text.as_slice() == SHOWN);
     Ok(())
 }

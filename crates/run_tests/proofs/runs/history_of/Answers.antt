@@ -1,4 +1,4 @@
-use Rattle.std.proofs.Common.{subst, sym}
+use Rattle.std.proofs.Common.{ap, subst, sym}
 use Rattle.program_run.specs.History.{IsOfRun}
 use Rattle.run_tests.proofs.runs.history_of.Goals as goal
 
@@ -16,3 +16,6 @@ returns-clause-ran c =
       c.requires.short,
       subst (λ b. IsOfRun c.args.program.now c.args.input.now b c.in_ok-history.history) (sym left.budget) the,
     )
+
+pub returns-clause-all_left : goal.returns-clause-all_left
+returns-clause-all_left c = ap (λ calls. calls.open_calls) c.in_ok-history.ensures.calls
