@@ -17,6 +17,7 @@ abbrev pub denoted : Row → Row
 denoted (Row.Name (NameRow.Routine assigned number region)) = Row.Nothing
 denoted (Row.Name (NameRow.Label marked value level ways)) = Row.Nothing
 denoted (Row.Part (PartRow.Completing first)) = Row.Nothing
+denoted (Row.Part (PartRow.Heading name sections result)) = Row.Nothing
 denoted r = said r
 
 denoted_said : (r : Row) → denoted (said r) ≡ denoted r
@@ -26,6 +27,7 @@ denoted_said (Row.Name (NameRow.Text token)) = refl
 denoted_said (Row.Name (NameRow.Routine assigned number region)) = refl
 denoted_said (Row.Name (NameRow.Label marked value level ways)) = refl
 denoted_said (Row.Part (PartRow.Completing first)) = refl
+denoted_said (Row.Part (PartRow.Heading name sections result)) = refl
 denoted_said r = refl
 
 pub record Alike (k j : Known) : Type 0 where
@@ -73,6 +75,7 @@ nothing_said (Row.Name (NameRow.Text token)) type value = absurd (none-some (Con
 nothing_said (Row.Name (NameRow.Routine assigned number region)) type value = refl
 nothing_said (Row.Name (NameRow.Label marked v level ways)) type value = refl
 nothing_said (Row.Part (PartRow.Completing first)) type value = refl
+nothing_said (Row.Part (PartRow.Heading name sections result)) type value = refl
 nothing_said r type value = refl
 
 pub nothing_told : (k : Known) (part : Node) → ((n : ℕ) → Has part n ⊎ (n ≡ length k.words - 1) → IsFree k n) → IsUntold k part
@@ -83,6 +86,7 @@ value_denoted (Row.Name (NameRow.Constant of' v)) = refl
 value_denoted (Row.Name (NameRow.Text token)) = refl
 value_denoted (Row.Name (NameRow.Routine assigned number region)) = refl
 value_denoted (Row.Part (PartRow.Completing first)) = refl
+value_denoted (Row.Part (PartRow.Heading name sections result)) = refl
 value_denoted r = refl
 
 type_denoted : (r : Row) → type_in (denoted r) ≡ type_in r
@@ -91,6 +95,7 @@ type_denoted (Row.Name (NameRow.Constant of' v)) = refl
 type_denoted (Row.Name (NameRow.Text token)) = refl
 type_denoted (Row.Name (NameRow.Routine assigned number region)) = refl
 type_denoted (Row.Part (PartRow.Completing first)) = refl
+type_denoted (Row.Part (PartRow.Heading name sections result)) = refl
 type_denoted r = refl
 
 pub type_said : (r : Row) → type_in (said r) ≡ type_in r
@@ -100,6 +105,7 @@ type_said (Row.Name (NameRow.Text token)) = refl
 type_said (Row.Name (NameRow.Routine assigned number region)) = refl
 type_said (Row.Name (NameRow.Label marked value level ways)) = refl
 type_said (Row.Part (PartRow.Completing first)) = refl
+type_said (Row.Part (PartRow.Heading name sections result)) = refl
 type_said r = refl
 
 pub type_still : (k j : Known) → Alike k j → (n : ℕ) → type_at j n ≡ type_at k n

@@ -1,4 +1,4 @@
--- Blocks on the chain of those whose routines no forward heading names, with the labels of their label parts and the
+-- Blocks on the chain of those whose routines have one heading, with the labels of their label parts and the
 -- names of their routines.
 use Rattle.std.proofs.Common.{if◌then◌else◌, ◌++◌, ◌+◌, ◌<◌, ◌∙◌, ◌∷◌, ◌≡◌, ◌≤◌, ◌⊎◌, [], ℕ, Bool, List, None, Option, Some, ap, arith, false, inl, inr, length}
 use Rattle.std.proofs.Common.{map, nat_lt, refl, subst, suc, true}
@@ -8,20 +8,20 @@ use Rattle.pas_tree.specs.{Blocks.next_label_node, HeadingPlaces.heading_name, d
 use Rattle.pas_tree.specs.BlockTrees.{BlockTree, BodyTree, LabelPartTree, RoutineTree, RoutineTrees, routine_body}
 use Rattle.pas_tree.specs.BlockTrees as tree
 use Rattle.pas_tree.specs.TreeNodes.{block_node, body_node, heading_node, label_part_node, routine_node, routines_node}
-use Rattle.check_steps.specs.Known.{Known, frame_at, name_at}
+use Rattle.check_steps.specs.Known.{Known, frame_at}
 use Rattle.denoter_checker.specs.RoutineParts.{routine_name}
 use Rattle.decl_checker.specs.Routines.{one_deeper}
-use Rattle.rule_laws.proofs.{Breaks.Each, Laters.Way, Listed.Listed, Listed.each_listed, TextForwards.name_has}
-use Rattle.rule_laws.specs.{NameLaws.block_labels, RegionNames.label_token, RegionNames.labels_of, Tokens.Has, Tokens.IsDistinct}
-use Rattle.rule_laws.specs.TextLaws.{IsNeverForward, labels_in_body}
+use Rattle.rule_laws.proofs.{Breaks.Each, Laters.Way, Listed.Listed, Listed.each_listed, Seats.SomeAt, Seats.SplitKind, TextForwards.name_has}
+use Rattle.rule_laws.specs.{NameLaws.block_labels, RegionNames.label_token, RegionNames.labels_of, TextLaws.labels_in_body, Tokens.Has, Tokens.IsDistinct}
 
--- the text, by which a routine's name is told to be no forward heading's
+-- the text, by which a routine is told to have one heading
 pub record Chain : Type 0 where
   pub k : Known
   pub t : BlockTree
 
+-- neither a forward heading nor one that has the block of such
 abbrev pub IsPlain : Chain → RoutineTree → Type 0
-IsPlain c r = IsNeverForward c.k c.t (name_at c.k (routine_name r))
+IsPlain c r = SomeAt (SplitKind c.k) (routine_name r) c.t → ⊥
 
 -- ---- labels
 
@@ -81,7 +81,7 @@ Names c x i g = NamesAt c 0 c.t x i g
 
 -- ---- what the walk over the declarations needs of each routine
 
--- It and all around it are such that no forward heading names them, if it is on the chain.
+-- It and all around it have one heading, if it is on the chain.
 pub record Site (c : Chain) (On : Type 0) (around : ℕ) (r : RoutineTree) : Type 0 where
   pub leveled : Each (λ d. IsLevel c d (one_deeper around)) (labels_in_body (routine_body r))
   pub fixed : On → (d l : ℕ) → Listed (labels_in_body (routine_body r)) d → IsLevel c d l → l ≡ one_deeper around

@@ -31,7 +31,7 @@ face s (Row.Name (NameRow.Routine assigned number region)) = Row.Name (NameRow.R
 face s (Row.Item i) = Row.Nothing
 face s r = r
 
--- what a row says of a type, a constant, a procedure, a function or a label, or of the heading that one completes
+-- what a row says of a type, a constant, a procedure, a function or a label, of a heading, or of the one that it completes
 abbrev pub said : Row → Row
 said (Row.Type t) = Row.Type t
 said (Row.Name (NameRow.Constant of' v)) = Row.Name (NameRow.Constant of' v)
@@ -39,6 +39,7 @@ said (Row.Name (NameRow.Text token)) = Row.Name (NameRow.Text token)
 said (Row.Name (NameRow.Routine assigned number region)) = Row.Name (NameRow.Routine false number region)
 said (Row.Name (NameRow.Label marked value level ways)) = Row.Name (NameRow.Label false value level 0)
 said (Row.Part (PartRow.Completing first)) = Row.Part (PartRow.Completing first)
+said (Row.Part (PartRow.Heading name sections result)) = Row.Part (PartRow.Heading name sections result)
 said r = Row.Nothing
 
 -- whether the row is that of a label which the block of this level declares and which marks no statement so far

@@ -39,12 +39,12 @@ wrong_parts r done (x ∷ xs) ys (inr w) = elim (wrong_parts r (done ++ x ∷ []
   | inr v ↦ inr (subst (λ d. Wrong r d ys) (append_assoc done (x ∷ []) xs) v)
 ]
 
-wrong_first : (r : Rule) (done xs ys : List r.X) → Wrong r done xs → Wrong r done (xs ++ ys)
+pub wrong_first : (r : Rule) (done xs ys : List r.X) → Wrong r done xs → Wrong r done (xs ++ ys)
 wrong_first r done [] ys w = absurd w
 wrong_first r done (x ∷ xs) ys (inl w) = inl w
 wrong_first r done (x ∷ xs) ys (inr w) = inr (wrong_first r (done ++ x ∷ []) xs ys w)
 
-wrong_later : (r : Rule) (done xs ys : List r.X) → Wrong r (done ++ xs) ys → Wrong r done (xs ++ ys)
+pub wrong_later : (r : Rule) (done xs ys : List r.X) → Wrong r (done ++ xs) ys → Wrong r done (xs ++ ys)
 wrong_later r done [] ys w = subst (λ d. Wrong r d ys) (append-nil done) w
 wrong_later r done (x ∷ xs) ys w =
     inr (wrong_later r (done ++ x ∷ []) xs ys (subst (λ d. Wrong r d ys) (sym (append_assoc done (x ∷ []) xs)) w))

@@ -1,7 +1,7 @@
 -- Which labels of a label part break rule 2.
 use Rattle.std.proofs.Common.{if◌then◌else◌, ◌++◌, ◌<◌, ◌||◌, ◌∙◌, ◌∷◌, ◌≡◌, [], ℕ, Bool, List, None, Option, Some, ap, arith, cond, false, inl, inr, is_none}
 use Rattle.std.proofs.Common.{is_some, length, length-set, map, nat_eq, nat_le, refl, subst, sym, true}
-use Rattle.std.{proofs.lemmas.Bool.eqb-true, specs.List.list_any, specs.Map.lookup}
+use Rattle.std.{proofs.lemmas.Bool.eqb-true, proofs.lemmas.List.append_assoc, specs.List.list_any, specs.Map.lookup}
 use Rattle.pas_tree.specs.{BlockTrees.LabelPartTree, declared.blocks.NextLabel.NextLabel}
 use Rattle.check_steps.specs.{Breaks.number, Known.Known, Known.and_label, Known.label_at, Names.declare_in}
 use Rattle.check_steps.specs.Regions.{RegionRows, declared_in, or_else, region_at}
@@ -214,3 +214,31 @@ labels_told k here part before label after below same second =
     let bad = ap (λ b. is_some (declared_in k.regions here.region (label_at k label)) || b) second
     ∙ or_true (is_some (declared_in k.regions here.region (label_at k label))) in
     ends.back (subst (λ (l : List ℕ). Wrong (rule_two p) [] l) (sym same) (one_wrong (rule_two p) [] before label after refl bad))
+
+-- a label that is told of, at its place
+pub record SecondLabel (k : Known) (region : ℕ) (labels : List ℕ) (token : ℕ) : Type 0 where
+  pub before : List ℕ
+  pub after : List ℕ
+  pub is : labels ≡ before ++ token ∷ after
+  pub again : is_declared k region before token ≡ true
+
+pub second_label : (k : Known) (here : Frame) (part : Option LabelPartTree) (token : ℕ) → here.region < length k.regions
+    → In (broken_at 2 token) (define_labels here part k).broken → SecondLabel k here.region (labels_of part) token
+second_label k here part token below told =
+    let p : LabelPartOf = record { k = k; here = here; t = token } in
+    let begun : Turn p [] k = record { words = refl; there = below; labels = λ v. sym (or_none (is_some (declared_in k.regions here.region v))) } in
+    split p [] (labels_of part) (((part_goes p part).of [] k begun).forth told)
+  where
+    split : (p : LabelPartOf) (done xs : List ℕ) → Wrong (rule_two p) done xs → SecondLabel p.k p.here.region (done ++ xs) p.t
+    split p done [] w = absurd w
+    split p done (x ∷ xs) w = elim w [
+      | inl own ↦
+          record {
+            before = done;
+            after = xs;
+            is = ap (λ y. done ++ y ∷ xs) own.0;
+            again = ap (λ y. is_declared p.k p.here.region done y) (sym own.0) ∙ own.1;
+          }
+      | inr later ↦
+          subst (λ (l : List ℕ). SecondLabel p.k p.here.region l p.t) (append_assoc done (x ∷ []) xs) (split p (done ++ x ∷ []) xs later)
+    ]

@@ -49,7 +49,8 @@ pub record Lasting (G : RoutineTree → Type 0) (I : Known → Type 0) : Type 0 
   pub routines : (k : Known) (r : RoutineRow) → I k → I (and_routine k r)
   pub frames : (k : Known) (f : Frame) → I k → I (and_frame k f)
   pub regions : (k : Known) (token : ℕ) (f : Frame) → I k → I (and_region k token f)
-  pub defines : (k : Known) (region : ℕ) (d : Definition) → I k → I (and_definition k region (name_at k d.token) d)
+  -- a name may be used from its token on
+  pub defines : (k : Known) (region : ℕ) (d : Definition) → d.end ≡ d.token → I k → I (and_definition k region (name_at k d.token) d)
   pub requires : (k : Known) (name : ℕ) (d : Definition) → length k.words ≤ d.token → I k → I (and_definition k 0 name d)
   pub chooses : (k : Known) (list : ℕ) (value : ℤ) → I k → I (and_choice k list value)
   pub records : (k : Known) (word : ℕ) (packed : Bool) (region cells : ℕ) (variants : Option ℕ) → IsRecordRegion I k region → I k
@@ -61,9 +62,14 @@ pub record Lasting (G : RoutineTree → Type 0) (I : Known → Type 0) : Type 0 
       → I k
       → I (with_completion k first position (is_function (routine_heading r)) (routine_name r))
 
+-- what else keeps it: a constant or a type, which may be used from the end of its definition on
+abbrev pub Ends : (Known → Type 0) → Type 0
+Ends I = (k : Known) (region : ℕ) (d : Definition) → I k → I (and_definition k region (name_at k d.token) d)
+
 -- and what else the declarations of blocks change
 pub record Declaring (G : RoutineTree → Type 0) (I : Known → Type 0) : Type 0 where
   pub kept : Lasting G I
+  pub ends : Ends I
   pub declares : (k : Known) (region value token : ℕ) → I k → I (and_label k region value token)
   pub labels : (k : Known) (token value level : ℕ) → I k → I (with_row k token (Row.Name (NameRow.Label false value level 0)))
   -- a routine of this name is there
@@ -120,16 +126,21 @@ add_chosen-lasts c list value = changes (λ k. and_choice k list value) (λ k i.
 
 -- ---- names
 
-when_defined : {G : RoutineTree → Type 0} {I : Known → Type 0} → Lasting G I → (ok : Bool) (k : Known) (region : ℕ) (d : Definition) → I k
-    → I (when ok (add_definition region (name_at k d.token) d) k).known
+when_defined : (I : Known → Type 0) (ok : Bool) (k : Known) (region : ℕ) (d : Definition) → (I k → I (and_definition k region (name_at k d.token) d))
+    → I k → I (when ok (add_definition region (name_at k d.token) d) k).known
 unfolding when change give
-when_defined c true k region d i = c.defines k region d i
-when_defined c false k region d i = i
+when_defined I true k region d h i = h i
+when_defined I false k region d h i = i
 
-pub define_in-lasts : {G : RoutineTree → Type 0} {I : Known → Type 0} → Lasting G I → (region : ℕ) (d : Definition) → Keeps I (define_in region d)
+pub define_in-by : {I : Known → Type 0} (region : ℕ) (d : Definition) → ((k : Known) → I k → I (and_definition k region (name_at k d.token) d))
+    → Keeps I (define_in region d)
 unfolding define_in look ◌>>=◌ ask
-define_in-lasts c region d =
-    record { of = λ k i. when_defined c (is_none (defined_in k.regions region (name_at k d.token))) k region d i }
+define_in-by {I = I} region d h =
+    record { of = λ k i. when_defined I (is_none (defined_in k.regions region (name_at k d.token))) k region d (h k) i }
+
+pub define_in-lasts : {G : RoutineTree → Type 0} {I : Known → Type 0} → Lasting G I → (region : ℕ) (d : Definition) → d.end ≡ d.token
+    → Keeps I (define_in region d)
+define_in-lasts c region d at = define_in-by region d (λ k i. c.defines k region d at i)
 
 pub declare_in-keeps : {I : Known → Type 0} (region value token : ℕ) → ((k : Known) → I k → I (and_label k region value token))
     → Keeps I (declare_in region value token)

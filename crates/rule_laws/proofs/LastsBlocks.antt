@@ -9,21 +9,21 @@ use Rattle.kind_checker.specs.Constants.{constant_part, constants_in, define_con
 use Rattle.denoter_checker.specs.Parts.{define_type, define_variable, types_in, variable_declaration, variables_in}
 use Rattle.decl_checker.specs.Blocks.{constants, define_block, define_constants, define_types, define_variables, parts, put_body, put_held, types, variables}
 use Rattle.decl_checker.specs.Blocks.{with_body, word_after}
-use Rattle.rule_laws.proofs.{Breaks.Each, Lasting.Declaring, Lasting.Lasting, Lasting.each-lasts, LastsConstants.constant_part-lasts}
+use Rattle.rule_laws.proofs.{Breaks.Each, Lasting.Declaring, Lasting.Ends, Lasting.Lasting, Lasting.each-lasts, LastsConstants.constant_part-lasts}
 use Rattle.rule_laws.proofs.{LastsConstants.define_constant-lasts, LastsLabels.define_labels-lasts, LastsRoutineParts.define_routines-lasts}
 use Rattle.rule_laws.proofs.Keeping.{Keeps, bind-keeps, give-keeps, look-keeps}
 use Rattle.rule_laws.proofs.LastsParts.{define_type-lasts, define_variable-lasts, type_part-lasts, variable_declaration-lasts}
 use Rattle.rule_laws.specs.NameLaws.{block_routines}
 
-pub define_constants-lasts : {G : RoutineTree → Type 0} {I : Known → Type 0} (kept : Lasting G I) (region : ℕ) (constant_part' : Option ConstantPartTree)
+pub define_constants-lasts : {I : Known → Type 0} (ends : Ends I) (region : ℕ) (constant_part' : Option ConstantPartTree)
     → Keeps I (define_constants region constant_part')
-define_constants-lasts kept region None = give-keeps tt
-define_constants-lasts kept region (Some p) = each-lasts (define_constant region) (λ a x. define_constant-lasts kept region a x) tt (constants_in p)
+define_constants-lasts ends region None = give-keeps tt
+define_constants-lasts ends region (Some p) = each-lasts (define_constant region) (λ a x. define_constant-lasts ends region a x) tt (constants_in p)
 
-pub define_types-lasts : {G : RoutineTree → Type 0} {I : Known → Type 0} (kept : Lasting G I) (region : ℕ) (type_part' : Option TypePartTree)
-    → Keeps I (define_types region type_part')
-define_types-lasts kept region None = give-keeps tt
-define_types-lasts kept region (Some p) = each-lasts (define_type region) (λ a x. define_type-lasts kept region a x) tt (types_in p)
+pub define_types-lasts : {G : RoutineTree → Type 0} {I : Known → Type 0} (kept : Lasting G I) (ends : Ends I) (region : ℕ)
+    (type_part' : Option TypePartTree) → Keeps I (define_types region type_part')
+define_types-lasts kept ends region None = give-keeps tt
+define_types-lasts kept ends region (Some p) = each-lasts (define_type region) (λ a x. define_type-lasts kept ends region a x) tt (types_in p)
 
 pub define_variables-lasts : {G : RoutineTree → Type 0} {I : Known → Type 0} (kept : Lasting G I) (region : ℕ) (variable_part : Option VariablePartTree)
     → Keeps I (define_variables region variable_part)
@@ -65,5 +65,5 @@ pub define_block-lasts : {G : RoutineTree → Type 0} {I : Known → Type 0} (ke
     → Keeps I (define_block frame b)
 define_block-lasts kept frame (tree.a_block labels consts kinds variable_part routines body) all =
     bind-keeps (look-keeps (λ k. frame_at k frame)) (λ here. bind-keeps (define_labels-lasts kept here labels) (λ _.
-    bind-keeps (define_constants-lasts kept.kept here.region consts) (λ _. bind-keeps (define_types-lasts kept.kept here.region kinds) (λ _.
+    bind-keeps (define_constants-lasts kept.ends here.region consts) (λ _. bind-keeps (define_types-lasts kept.kept kept.ends here.region kinds) (λ _.
     bind-keeps (define_variables-lasts kept.kept here.region variable_part) (λ _. define_routines-lasts kept.kept here.region routines all)))))

@@ -3,12 +3,13 @@ use Rattle.std.proofs.Common.{◌≡◌, ℕ, None, Option, Some, refl, true}
 use Rattle.pas_tree.specs.{BlockTrees.RoutineTree, OperatorPlaces.sign_token}
 use Rattle.pas_tree.specs.declared.{blocks.ConstantDefinition.ConstantDefinition, constants.Constant.Constant, operators.Sign.Sign}
 use Rattle.core_program.specs.ProgramRows.{text_at}
-use Rattle.check_steps.specs.{Known.Known, Known.spelled_at, declared.regions.Def.Def}
+use Rattle.check_steps.specs.{Known.Known, Known.spelled_at, declared.regions.Def.Def, declared.regions.Definition.Definition}
 use Rattle.kind_checker.specs.Constants.{constant, constant_again, constant_part, define_constant, integer_in, is_constant, is_integer, named_again}
 use Rattle.kind_checker.specs.Constants.{named_constant, sign_again, sign_before, signed, signed_again, signed_value, text_value, value_of, value_row}
 use Rattle.kind_checker.specs.declared.constants.ConstantValue.{ConstantValue, TheVariants.Ordinal, TheVariants.Text}
-use Rattle.rule_laws.proofs.{Lasting.Lasting, Lasting.define_in-lasts, Lasting.is_quiet, Lasting.put-lasts, LastsNames.use_again-lasts, LastsNames.use_at-lasts}
 use Rattle.rule_laws.proofs.Keeping.{Keeps, ask-keeps, bind-keeps, give-keeps, look-keeps}
+use Rattle.rule_laws.proofs.Lasting.{Ends, Lasting, define_in-by, is_quiet, put-lasts}
+use Rattle.rule_laws.proofs.LastsNames.{use_again-lasts, use_at-lasts}
 
 pub sign_before-lasts : {G : RoutineTree → Type 0} {I : Known → Type 0} (kept : Lasting G I) (s : Sign) (v : Option ConstantValue) → Keeps I (sign_before s v)
 unfolding sign_before
@@ -50,10 +51,11 @@ constant_again-lasts kept frame (Constant.Number s n) = bind-keeps (look-keeps (
 constant_again-lasts kept frame (Constant.Name s n) = bind-keeps (named_again-lasts kept frame n) (λ v. signed_again-lasts kept s v)
 constant_again-lasts kept frame (Constant.Text n) = look-keeps (λ k. Some (text_value n (text_at k.program n)))
 
-pub define_constant-lasts : {G : RoutineTree → Type 0} {I : Known → Type 0} (kept : Lasting G I) (region : ℕ) (u : Unit {0}) (d : ConstantDefinition)
+pub define_constant-lasts : {I : Known → Type 0} (ends : Ends I) (region : ℕ) (u : Unit {0}) (d : ConstantDefinition)
     → Keeps I (define_constant region u d)
 unfolding define_constant
-define_constant-lasts kept region u d = define_in-lasts kept region (record { def = Def.Constant d.name; token = d.name; end = d.semicolon })
+define_constant-lasts ends region u d =
+    let e : Definition = record { def = Def.Constant d.name; token = d.name; end = d.semicolon } in define_in-by region e (λ k i. ends k region e i)
 
 value_quiet : (v : Option ConstantValue) → is_quiet (value_row v) ≡ true
 value_quiet None = refl

@@ -10,7 +10,8 @@ use Rattle.rule_laws.proofs.Lasting.{Lasting, define_in-lasts, each_name-lasts, 
 pub define_file-lasts : {G : RoutineTree → Type 0} {I : Known → Type 0} (kept : Lasting G I) (region token : ℕ) (x_text_file : Option TextFile)
     → Keeps I (define_file region token x_text_file)
 define_file-lasts kept region token None = give-keeps tt
-define_file-lasts kept region token (Some file) = bind-keeps (define_in-lasts kept region (record { def = Def.TextFile token; token = token; end = token }))
+define_file-lasts kept region token (Some file) =
+    bind-keeps (define_in-lasts kept region (record { def = Def.TextFile token; token = token; end = token }) refl)
     (λ _. put-lasts kept token (Row.Name (NameRow.TextFile file)) refl)
 
 pub program_parameter-lasts : {G : RoutineTree → Type 0} {I : Known → Type 0} (kept : Lasting G I) (region : ℕ) (u : Unit {0}) (token : ℕ)

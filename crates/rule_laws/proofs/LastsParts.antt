@@ -2,19 +2,20 @@
 use Rattle.std.proofs.Common.{◌+◌, ◌-◌, ℕ, Some, nat_le, refl, suc, zero}
 use Rattle.pas_tree.specs.BlockTrees.{RoutineTree, TypeDefinitionTree, TypePartTree, VariableDeclarationTree}
 use Rattle.core_program.specs.{ProgramRows.size_of, declared.rows.Mode.TheVariants.Own, declared.rows.NameRow.NameRow, declared.rows.Row.Row}
-use Rattle.check_steps.specs.{Known.Known, Known.frame_at, declared.regions.Def.Def}
+use Rattle.check_steps.specs.{Known.Known, Known.frame_at, declared.regions.Def.Def, declared.regions.Definition.Definition}
 use Rattle.kind_checker.specs.{Names.define_name, Sizes.frame_capped, declared.names.NameKind.NameKind, declared.types.Scope.Scope}
 use Rattle.denoter_checker.specs.Parts.{at_names, define_type, define_variable, domains, place_variable, settle_from, type_definition, type_part, types_in}
 use Rattle.denoter_checker.specs.Parts.{variable_declaration}
 use Rattle.rule_laws.proofs.{LastsDefines.define_denoter-lasts, LastsDenoters.denoter-lasts, LastsNameLists.define_name-lasts}
 use Rattle.rule_laws.proofs.Keeping.{Keeps, ask-keeps, bind-keeps, give-keeps, look-keeps}
-use Rattle.rule_laws.proofs.Lasting.{Lasting, define_in-lasts, each-lasts, each_name-lasts, put-lasts, settle_domain-lasts}
+use Rattle.rule_laws.proofs.Lasting.{Ends, Lasting, define_in-by, each-lasts, each_name-lasts, put-lasts, settle_domain-lasts}
 
-pub define_type-lasts : {G : RoutineTree → Type 0} {I : Known → Type 0} (kept : Lasting G I) (region : ℕ) (u : Unit {0}) (d : TypeDefinitionTree)
-    → Keeps I (define_type region u d)
+pub define_type-lasts : {G : RoutineTree → Type 0} {I : Known → Type 0} (kept : Lasting G I) (ends : Ends I) (region : ℕ) (u : Unit {0})
+    (d : TypeDefinitionTree) → Keeps I (define_type region u d)
 unfolding define_type
-define_type-lasts kept region u d = bind-keeps (define_in-lasts kept region (record { def = Def.TypeName d.name; token = d.name; end = d.semicolon }))
-    (λ _. define_denoter-lasts kept region d.denoter)
+define_type-lasts kept ends region u d =
+    let e : Definition = record { def = Def.TypeName d.name; token = d.name; end = d.semicolon } in
+    bind-keeps (define_in-by region e (λ k i. ends k region e i)) (λ _. define_denoter-lasts kept region d.denoter)
 
 pub type_definition-lasts : {G : RoutineTree → Type 0} {I : Known → Type 0} (kept : Lasting G I) (s : Scope) (u : Unit {0}) (d : TypeDefinitionTree)
     → Keeps I (type_definition s u d)

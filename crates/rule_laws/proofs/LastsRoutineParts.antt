@@ -18,7 +18,7 @@ use Rattle.rule_laws.specs.ForwardHeadings.{is_block, routines_in}
 pub define_heading-lasts : {G : RoutineTree → Type 0} {I : Known → Type 0} (c : Lasting G I) (region : ℕ) (h : HeadingTree) → Keeps I (define_heading region h)
 unfolding define_heading
 define_heading-lasts c region h =
-    bind-keeps (define_in-lasts c region (record { def = Def.Routine (heading_name h); token = heading_name h; end = heading_name h }))
+    bind-keeps (define_in-lasts c region (record { def = Def.Routine (heading_name h); token = heading_name h; end = heading_name h }) refl)
     (λ _. ask-keeps _ (heading_name h) (is_complete h))
 
 directive_in-lasts : {G : RoutineTree → Type 0} {I : Known → Type 0} (c : Lasting G I) (r : RoutineTree) (body : BodyTree) → G r → (routine_body r) ≡ body
@@ -70,7 +70,7 @@ has_block-lasts : {I : Known → Type 0} (r : RoutineTree) → Keeps I (has_bloc
 unfolding has_block
 has_block-lasts r = bind-keeps (look-keeps (λ k. is_waiting (row_at k (routine_name r)))) (λ waiting. ask-keeps _ (routine_name r) (not waiting))
 
-have_blocks-lasts : {I : Known → Type 0} (rs : RoutineTrees) → Keeps I (have_blocks rs)
+pub have_blocks-lasts : {I : Known → Type 0} (rs : RoutineTrees) → Keeps I (have_blocks rs)
 have_blocks-lasts tree.end_of_routines = give-keeps tt
 have_blocks-lasts (tree.more_routines r rest) = bind-keeps (has_block-lasts r) (λ _. have_blocks-lasts rest)
 

@@ -16,6 +16,14 @@ pub listed_right : (xs ys : List ℕ) (n : ℕ) → Listed ys n → Listed (xs +
 listed_right [] ys n h = h
 listed_right (x ∷ xs) ys n h = inr (listed_right xs ys n h)
 
+pub listed_either : (xs ys : List ℕ) (n : ℕ) → Listed (xs ++ ys) n → Listed xs n ⊎ Listed ys n
+listed_either [] ys n h = inr h
+listed_either (x ∷ xs) ys n (inl e) = inl (inl e)
+listed_either (x ∷ xs) ys n (inr h) = elim (listed_either xs ys n h) [
+  | inl i ↦ inl (inr i)
+  | inr i ↦ inr i
+]
+
 pub each_listed : (L : ℕ → Type 0) (xs : List ℕ) → ((n : ℕ) → Listed xs n → L n) → Each L xs
 each_listed L [] h = tt
 each_listed L (x ∷ xs) h = (h x (inl refl), each_listed L xs (λ n i. h n (inr i)))

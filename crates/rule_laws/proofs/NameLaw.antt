@@ -184,7 +184,10 @@ give_calm p a = record { turn = λ done j t. t; none = λ j i. absurd i }
 
 pub row_calm : (p : Region) (n : ℕ) (r : Row) → Calm (rule_two p) (put n r)
 unfolding change
-row_calm p n r = record { turn = λ done j t. record { words = t.words; spellings = t.spellings; there = t.there; names = t.names }; none = λ j i. absurd i }
+row_calm p n r = record {
+  turn = λ done j t. record { words = t.words; spellings = t.spellings; there = t.there; names = t.names; tokens = t.tokens };
+  none = λ j i. absurd i;
+}
 
 -- one more label leaves the names
 pub label_turn : (p : Region) (done : List ℕ) (j : Known) (value token : ℕ) → Turn p done j → Turn p done (and_label j p.region value token)
@@ -196,6 +199,7 @@ label_turn p done j value token t =
       spellings = t.spellings;
       there = subst (λ size. p.region < size) (sym (length-set j.regions p.region more)) t.there;
       names = λ n. ap (λ (r : RegionRows). is_some (lookup (nat_eq n) r.names)) (region-set j.regions p.region more t.there) ∙ t.names n;
+      tokens = λ n d found. t.tokens n d (sym (ap (λ (r : RegionRows). lookup (nat_eq n) r.names) (region-set j.regions p.region more t.there)) ∙ found);
     }
 
 more_calm : (p : Region) (ok : Bool) (value token : ℕ) → Calm (rule_two p) (when ok (add_label p.region value token))
@@ -249,7 +253,13 @@ routines_calm p rs j others i = listed_calm p (routines_in rs) j others
 -- ---- the laws
 
 pub begun : (k : Known) (region t : ℕ) → region < length k.regions → Turn (record { k = k; region = region; t = t }) [] k
-begun k region t below = record { words = refl; spellings = refl; there = below; names = λ n. sym (or_none (is_some (defined_in k.regions region n))) }
+begun k region t below = record {
+  words = refl;
+  spellings = refl;
+  there = below;
+  names = λ n. sym (or_none (is_some (defined_in k.regions region n)));
+  tokens = λ n d found. inl found;
+}
 
 told : (p : Region) (before : List ℕ) (x : ℕ) (after : List ℕ) (xs : List ℕ) (bs : List Break) → x ≡ p.t → xs ≡ before ++ x ∷ after
     → All (λ y. y ≡ p.t → ⊥) before → All (λ y. y ≡ p.t → ⊥) after
@@ -393,7 +403,7 @@ other_parameters_go p u [] = goes_nowhere u
 other_parameters_go p u (n ∷ ns) =
     goes_then (file_name p.k n.name) (file_names p.k (map next_token ns)) (parameter_goes p u n.name) (λ v. other_parameters_go p v ns)
 
-parameters_go : (p : Region) (x : Option ParametersTree) → Goes (rule_two p) (parameter_names p.k x) (program_parameters p.region x)
+pub parameters_go : (p : Region) (x : Option ParametersTree) → Goes (rule_two p) (parameter_names p.k x) (program_parameters p.region x)
 parameters_go p None = goes_nowhere tt
 parameters_go p (Some x) = goes_then (file_name p.k x.names.first) (file_names p.k (map next_token x.names.others))
     (parameter_goes p tt x.names.first) (λ u. other_parameters_go p u x.names.others)

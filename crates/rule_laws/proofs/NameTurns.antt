@@ -1,11 +1,12 @@
 -- The definitions of a region in turn.
-use Rattle.std.proofs.Common.{if◌then◌else◌, ◌++◌, ◌<◌, ◌||◌, ◌∙◌, ◌∷◌, ◌≡◌, [], ℕ, Bool, List, None, Option, Some, ap, cond, false, inl, inr, is_none, is_some}
-use Rattle.std.proofs.Common.{length, length-set, nat_eq, refl, subst, sym, true}
+use Rattle.std.proofs.Common.{if◌then◌else◌, ◌++◌, ◌<◌, ◌||◌, ◌∙◌, ◌∷◌, ◌≡◌, ◌⊎◌, [], ℕ, Bool, List, None, Option, Some, ap, cond, false, inl, inr, is_none}
+use Rattle.std.proofs.Common.{is_some, length, length-set, nat_eq, refl, subst, sym, true}
 use Rattle.std.{proofs.lemmas.Bool.eqb-true, specs.List.list_any}
 use Rattle.check_steps.specs.{Known.Known, Known.name_at, Names.define_in, Regions.defined_in, Regions.or_else, Regions.region_at}
 use Rattle.check_steps.specs.Steps.{◌>>=◌, add_definition, ask, change, give, look, when}
 use Rattle.check_steps.specs.declared.{breaks.Break.Break, regions.Definition.Definition, words.SpelledToken.SpelledToken}
-use Rattle.rule_laws.proofs.{Breaks.In, Breaks.in_either, Breaks.in_left, InTurn.Goes, InTurn.Rule, Tables.defined-more, Touches.any-last}
+use Rattle.rule_laws.proofs.{Breaks.In, Breaks.in_either, Breaks.in_left, InTurn.Goes, InTurn.Rule, Tables.defined-more, Tables.one_or_other, Touches.any-last}
+use Rattle.rule_laws.proofs.Listed.{Listed, listed_left, listed_right}
 use Rattle.rule_laws.specs.{Laws.broken_at, RegionNames.is_defined}
 
 -- the definitions of a region that are gone over from tables on, and the name that is looked at
@@ -23,6 +24,8 @@ pub record Turn (p : Region) (done : List ℕ) (j : Known) : Type 0 where
   pub spellings : j.names ≡ p.k.names
   pub there : p.region < length j.regions
   pub names : (n : ℕ) → is_some (defined_in j.regions p.region n) ≡ (is_some (defined_in p.k.regions p.region n) || named p.k done n)
+  pub tokens : (n : ℕ) (d : Definition) → defined_in j.regions p.region n ≡ Some d
+      → (defined_in p.k.regions p.region n ≡ Some d) ⊎ Listed done d.token
 
 abbrev pub rule_two : Region → Rule
 rule_two p = record {
@@ -75,6 +78,10 @@ again_named p done x n true e there =
     ∙ sym (or_last (is_some (defined_in p.k.regions p.region n)) (named p.k done n))
 again_named p done x n false e there = ap (λ b. is_some (defined_in p.k.regions p.region n) || b) (sym (or_none (named p.k done n)))
 
+pub token_more : {X : Type 0} (done : List ℕ) (x n : ℕ) → X ⊎ Listed done n → X ⊎ Listed (done ++ x ∷ []) n
+token_more done x n (inl old) = inl old
+token_more done x n (inr listed) = inr (listed_left done (x ∷ []) n listed)
+
 defined_by : (p : Region) (done : List ℕ) (d : Definition) (j : Known) → Turn p done j → (o : Option Definition)
     → defined_in j.regions p.region (name_at j d.token) ≡ o → Defined p done d j o
 unfolding when change give
@@ -95,6 +102,11 @@ defined_by p done d j t None e =
             ∙ ap (λ m. (is_some (defined_in p.k.regions p.region n) || named p.k done n) || nat_eq n m) same
             ∙ or_assoc (is_some (defined_in p.k.regions p.region n)) (named p.k done n) (nat_eq n (name_at p.k d.token))
             ∙ ap (λ b. is_some (defined_in p.k.regions p.region n) || b) (sym (named_more p.k done d.token n));
+        tokens = λ n x found. elim (one_or_other (defined_in j.regions p.region n) (nat_eq n name) d x
+            (sym (defined-more j p.region name n d t.there) ∙ found)) [
+              | inl old ↦ token_more done d.token x.token (t.tokens n x old)
+              | inr new ↦ inr (listed_right done (d.token ∷ []) x.token (inl (ap (λ (y : Definition). y.token) new.1)))
+            ];
       };
     }
 defined_by p done d j t (Some x) e =
@@ -108,6 +120,7 @@ defined_by p done d j t (Some x) e =
         there = t.there;
         names = λ n. t.names n ∙ again_named p done d.token n (nat_eq n (name_at p.k d.token)) refl there
             ∙ ap (λ b. is_some (defined_in p.k.regions p.region n) || b) (sym (named_more p.k done d.token n));
+        tokens = λ n y found. token_more done d.token y.token (t.tokens n y found);
       };
     }
 

@@ -61,7 +61,7 @@ pub record Quiet (k0 : Known) (region n : ℕ) (k : Known) : Type 0 where
 
 -- ---- rows at other numbers, and definitions at other tokens
 
-stays-put : {k0 : Known} {region n : ℕ} (k : Known) (m : ℕ) (r : Row) → Stays k0 region n k → Stays k0 region n (with_row k m r)
+pub stays-put : {k0 : Known} {region n : ℕ} (k : Known) (m : ℕ) (r : Row) → Stays k0 region n k → Stays k0 region n (with_row k m r)
 stays-put {n = n} k m r s = record {
   words = s.words;
   names = s.names;
@@ -69,7 +69,7 @@ stays-put {n = n} k m r s = record {
   row_there = subst (λ size. n < size) (sym (length-set k.program.rows m r)) s.row_there;
 }
 
-stays-define : {k0 : Known} {region n : ℕ} (k : Known) (name : ℕ) (d : Definition) → Stays k0 region n k
+pub stays-define : {k0 : Known} {region n : ℕ} (k : Known) (name : ℕ) (d : Definition) → Stays k0 region n k
     → Stays k0 region n (and_definition k region name d)
 stays-define {region = region} k name d s = record {
   words = s.words;
@@ -194,7 +194,7 @@ unfolding when change give
 when_no_put true m r k e = absurd (let no : true ≡ false = e in cc)
 when_no_put false m r k e = refl
 
-directed-waits : (h : HeadingTree) (directive : ℕ) (k : Known) → is_forward k directive ≡ true
+pub directed-waits : (h : HeadingTree) (directive : ℕ) (k : Known) → is_forward k directive ≡ true
     → (directed h directive k).known ≡ with_row k (heading_name h) (waiting_row (is_function h))
 unfolding directed look ◌>>=◌ ask
 directed-waits h directive k e = when_put (is_forward k directive) (heading_name h) (waiting_row (is_function h)) k e
@@ -246,11 +246,11 @@ turned {k0 = k0} {region = region} k h directive i forward (Some d) e nine ten n
     } in
     inr (subst P (sym (directed-waits h directive k forward)) a, inl refl)
 
-forward_in : (k0 k : Known) → k.words ≡ k0.words → k.names ≡ k0.names → (directive : ℕ) → is_forward k directive ≡ is_forward k0 directive
+pub forward_in : (k0 k : Known) → k.words ≡ k0.words → k.names ≡ k0.names → (directive : ℕ) → is_forward k directive ≡ is_forward k0 directive
 forward_in k0 k words names directive = ap (λ (w : List SpelledToken). is_forward (record k { words = w }) directive) words
     ∙ ap (λ (n : List (List ℕ)). is_forward (record k { words = k0.words; names = n }) directive) names
 
-asked : (P : Break → Type 0) (b : Break) (ok : Bool) → P b → Each P (if ok then [] else b ∷ [])
+pub asked : (P : Break → Type 0) (b : Break) (ok : Bool) → P b → Each P (if ok then [] else b ∷ [])
 asked P b true h = tt
 asked P b false h = (h, tt)
 

@@ -1,5 +1,5 @@
 -- What a step reads of its tree, or of the tables, is of the source's tokens.
-use Rattle.std.proofs.Common.{◌&&◌, ◌≡◌, ℕ, Bool, None, Option, Some, false, is_none, nat_eq, refl, true}
+use Rattle.std.proofs.Common.{◌&&◌, ◌≡◌, ℕ, Bool, None, Option, Some, false, is_none, refl, true}
 use Rattle.pas_tree.specs.ExpressionTrees.{AccessTree, ExpressionTree, FactorTree, SimpleTree, TermTree}
 use Rattle.pas_tree.specs.ExpressionTrees as expressed
 use Rattle.pas_tree.specs.StatementTrees.{CompoundTree, compound_body}
@@ -11,7 +11,7 @@ use Rattle.expression_checker.specs.{Actuals.file_of, Actuals.lone_file, Actuals
 use Rattle.expression_checker.specs.NamesAlone.{access_name, factor_name, is_last_factor, is_last_term, is_name, is_unrelated, name_alone, name_if, name_of_if}
 use Rattle.expression_checker.specs.declared.actuals.{ExpectedFormal.ExpectedFormal, Lone.Lone}
 use Rattle.expression_checker.specs.declared.actuals.ExpectedFormal.TheVariants as formal
-use Rattle.rule_laws.proofs.Every.{Below, Every, Of}
+use Rattle.rule_laws.proofs.{Every.Below, Every.Every, Every.Of, Touches.is_of_ends}
 
 -- ---- statements
 
@@ -75,7 +75,7 @@ lone_of-in Q k frame (formal.Variable of') name h = tt
 lone_of-in Q k frame (formal.Array copied first of' measure) name h = tt
 lone_of-in Q k frame (formal.Operand g) name h = tt
 
-pub rule_of-quiet : (f : ExpectedFormal) → nat_eq (rule_of f) 15 ≡ false
+pub rule_of-quiet : (f : ExpectedFormal) → is_of_ends (rule_of f) ≡ false
 rule_of-quiet formal.Unknown = refl
 rule_of-quiet (formal.Value of') = refl
 rule_of-quiet (formal.Variable of') = refl

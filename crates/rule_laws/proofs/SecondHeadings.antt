@@ -58,7 +58,7 @@ not_first : (m : ℕ) (o : Option ℕ) → o ≡ Some (fresh m o) → ⊥
 not_first m None e = none-some (fresh m None) e
 not_first m (Some n) e = let same : n ≡ suc (m + n) = same_Some n (fresh m (Some n)) e in omega (arith, same)
 
-has_turn : (region name : ℕ) (d : Definition) (position : ℕ) (r : RoutineTree) (k : Known) → Has region name d k
+pub has_turn : (region name : ℕ) (d : Definition) (position : ℕ) (r : RoutineTree) (k : Known) → Has region name d k
     → Has region name d (define_routine region position r k).known
 has_turn region name d position r k i =
     let o = completed_by k region (routine_heading r) (routine_body r) in

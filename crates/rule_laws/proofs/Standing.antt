@@ -25,6 +25,12 @@ pub got_end : {X : Type 0} (xs : List X) (x : X) → slice_get (xs ++ x ∷ []) 
 got_end [] x = refl
 got_end (y ∷ xs) x = got_end xs x
 
+stands_defined : (n : ℕ) (f : Frame) (j : Known) (region name : ℕ) (d : Definition) → Stands n f j → Stands n f (and_definition j region name d)
+stands_defined n f j region name d s =
+    let rows = region_at j.regions region in
+    let same = length-set j.regions region (record rows { names = rows.names ++ (name, d) ∷ [] }) in
+    record { there = s.there; below = (let b = s.below in omega (arith, b, same)) }
+
 pub standing : {G : RoutineTree → Type 0} (n : ℕ) (f : Frame) → Lasting G (Stands n f)
 standing n f = record {
   puts = λ j m r quiet s. record { there = s.there; below = s.below };
@@ -39,19 +45,13 @@ standing n f = record {
         let more = length-append j.regions (fresh_region token (length j.frames) ∷ []) in
         omega (arith, b, more);
   };
-  defines = λ j region d s. defined j region (name_at j d.token) d s;
-  requires = λ j name d behind s. defined j 0 name d s;
+  defines = λ j region d at s. stands_defined n f j region (name_at j d.token) d s;
+  requires = λ j name d behind s. stands_defined n f j 0 name d s;
   chooses = λ j list value s. record { there = s.there; below = s.below };
   records = λ j word packed region cells variants fresh s. record { there = s.there; below = s.below };
   waits = λ j r g none s. record { there = s.there; below = s.below };
   completes = λ j region first position r g e s. record { there = s.there; below = s.below };
 }
-  where
-    defined : (j : Known) (region name : ℕ) (d : Definition) → Stands n f j → Stands n f (and_definition j region name d)
-    defined j region name d s =
-        let rows = region_at j.regions region in
-        let same = length-set j.regions region (record rows { names = rows.names ++ (name, d) ∷ [] }) in
-        record { there = s.there; below = (let b = s.below in omega (arith, b, same)) }
 
 abbrev pub no_frame : Frame
 no_frame = record { region = 0; outer = None; level = 0; withs = 0 }
@@ -70,6 +70,7 @@ opened k token f e = record {
 pub standing_all : {G : RoutineTree → Type 0} (n : ℕ) (f : Frame) → Declaring G (Stands n f)
 standing_all n f = record {
   kept = standing n f;
+  ends = λ j region d s. stands_defined n f j region (name_at j d.token) d s;
   declares = λ j region value token s.
       let rows = region_at j.regions region in
       let same = length-set j.regions region (record rows { labels = rows.labels ++ (value, token) ∷ [] }) in
@@ -102,9 +103,9 @@ opened_lasts {G = G} {I = I} c n f =
             (region_before j.regions f.region (fresh_region token (length j.frames)) s.stands.below)
             ∙ s.none v;
       };
-      defines = λ j region d s. record {
-        kept = c.defines j region d s.kept;
-        stands = e.defines j region d s.stands;
+      defines = λ j region d at s. record {
+        kept = c.defines j region d at s.kept;
+        stands = e.defines j region d at s.stands;
         none = λ v. definition_labels j region _ d f.region v ∙ s.none v;
       };
       requires = λ j name d behind s. record {

@@ -58,7 +58,7 @@ nine a token = a.other 9 token (λ e. omega (arith, e)) (λ e. omega (arith, e))
 ten : {P : Break → Type 0} {name : ℕ} → Allows P name → (token : ℕ) → P (broken_at 10 token)
 ten a token = a.other 10 token (λ e. omega (arith, e)) (λ e. omega (arith, e))
 
-define_in-only : {P : Break → Type 0} (region : ℕ) (d : Definition) → P (broken_at 2 d.token) → Only P (define_in region d)
+pub define_in-only : {P : Break → Type 0} (region : ℕ) (d : Definition) → P (broken_at 2 d.token) → Only P (define_in region d)
 unfolding define_in
 define_in-only region d twice = bind-only (look-only (λ k. name_at k d.token)) (λ name. bind-only (look-only (λ k. defined_in k.regions region name))
     (λ held. bind-only (ask-only (Early 2) d.token (is_none held) twice) (λ _. when-only (is_none held) (change-only _))))

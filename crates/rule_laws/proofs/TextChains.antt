@@ -1,6 +1,7 @@
 -- The labels in front of the statements of a text that the closest block does not declare.
-use Rattle.std.proofs.Common.{◌&&◌, ◌-◌, ◌<◌, ◌^◌, ◌∙◌, ◌≡◌, ◌⊎◌, ℕ, Bool, List, None, Option, Some, ap, arith, false, inl, inr, length, not, refl, subst, sym}
-use Rattle.std.proofs.{Common.true, Common.unwrap_or, lemmas.Bool.ne_eqb}
+use Rattle.std.proofs.Common.{◌&&◌, ◌++◌, ◌-◌, ◌<◌, ◌^◌, ◌∙◌, ◌∷◌, ◌≡◌, ◌⊎◌, [], ℕ, Bool, List, None, Option, Some, ap, arith, false, inl, inr, length, not}
+use Rattle.std.proofs.Common.{refl, subst, sym, true, unwrap_or}
+use Rattle.std.proofs.lemmas.Bool.{ne_eqb}
 use Rattle.pas_lexer.specs.Lexed.{Lexed}
 use Rattle.grammar.specs.Nodes.{spell}
 use Rattle.pas_tree.specs.{HeadingPlaces.heading_name, TreeNodes.statements_node, TreeNodes.tree_node}
@@ -18,16 +19,18 @@ use Rattle.statement_checker.specs.{Labels.row_of, Statements.compound}
 use Rattle.code_checker.specs.{CheckedPrograms.broken, CheckedPrograms.check_step, Results.function_result, Results.name_in_first}
 use Rattle.code_checker.specs.Blocks.{code_block, code_routine, code_routines}
 use Rattle.rule_laws.proofs.{Breaks.contained, Breaks.in_right, Faces.fine_in, Faces.said, LabelTold.Where, LabelTold.Wrong, LabelTold.everywhere}
-use Rattle.rule_laws.proofs.{Listed.Listed, Outward.Outward, StatementLabels.reach_all-touches, TextFields.IsTold, TextFields.Text, TextHeadings.Sound}
-use Rattle.rule_laws.proofs.{TextLabels.text_declared, TextLabels.told_from, TextLabels.wrong_at, TextNames.text_block, TextRoutines.no_split, Touches.same_in}
+use Rattle.rule_laws.proofs.{Listed.Listed, Outward.Outward, PartTurns.Orderly, PartWalk.no_forward_block, StatementLabels.reach_all-touches, TextBlocks.whole}
+use Rattle.rule_laws.proofs.{TextFields.IsTold, TextFields.Text, TextHeadings.Sound, TextRoutines.no_split, TextTokens.text_length, Touches.same_in}
 use Rattle.rule_laws.proofs.Chains.{Below, Chain, Fits, IsPlain, Names, NamesAt, NamesPart, NamesRoutine, Scope, fits_left, fits_right, text_ways}
 use Rattle.rule_laws.proofs.Gives.{Gives, gives_both, gives_first, gives_none, gives_then}
 use Rattle.rule_laws.proofs.Laters.{Later, Way, found_declared, longer_frame, way_later, way_map}
+use Rattle.rule_laws.proofs.Seats.{Seat, Seats, SeatsIn, SeatsOf, SecondKind, SomeAt, SplitKind, some_map}
 use Rattle.rule_laws.proofs.TextLabels.{Begun, Coded, code_routine-touches, coded, listed_has, looked_gives, main_told, own_then, said_routine, starts}
+use Rattle.rule_laws.proofs.TextLabels.{text_declared, told_from, wrong_at}
 use Rattle.rule_laws.proofs.TextScopes.{View, World, outermost_walk, program_world}
-use Rattle.rule_laws.proofs.TextTokens.{text_law, text_length, text_tokens}
-use Rattle.rule_laws.specs.{BlockLabels.compound_labels, CaseLaws.late_at, TextParts.Within, TextParts.WithinEach, TextParts.WithinRoutine}
+use Rattle.rule_laws.specs.{BlockLabels.compound_labels, CaseLaws.late_at, ForwardHeadings.is_block, ForwardHeadings.is_second}
 use Rattle.rule_laws.specs.TextLaws.{IsNeverForward, TextsTellUndeclared, UndeclaredAreTold, has_label, labels_in_body, statement_labels_in}
+use Rattle.rule_laws.specs.TextParts.{Within, WithinEach, WithinRoutine}
 
 -- ---- what is known where the statements begin
 
@@ -59,7 +62,7 @@ further_out c b k d n view far r e = refl
 
 -- ---- the frame of a routine's block
 
-completes_said : (r : Row) (first : ℕ) → said r ≡ Row.Part (PartRow.Completing first) → r ≡ Row.Part (PartRow.Completing first)
+pub completes_said : (r : Row) (first : ℕ) → said r ≡ Row.Part (PartRow.Completing first) → r ≡ Row.Part (PartRow.Completing first)
 completes_said (Row.Type t) first e = absurd cc
 completes_said (Row.Name (NameRow.Constant of' v)) first e = absurd cc
 completes_said (Row.Name (NameRow.Text token)) first e = absurd cc
@@ -76,6 +79,16 @@ unfirst c k j x sound i plain (Row.Part (PartRow.Completing first)) e = absurd (
   | inr same ↦ sound.completing x first (completes_said (row_at k x) first (sym same ∙ ap said e)) plain
 ])
 unfirst c k j x sound i plain r e = refl
+
+-- nor by one that has not the block of a forward heading
+unsplit : (c : Chain) (k j : Known) (x : ℕ) → Orderly c.k c.t k → Coded k j → (SomeAt (SplitKind c.k) x c.t → ⊥) → (r : Row) → row_at j x ≡ r
+    → first_name r ≡ None
+unsplit c k j x s i plain (Row.Part (PartRow.Completing first)) e = absurd (elim (i.same.sayings x) [
+  | inl nothing ↦ (let never : Row.Part (PartRow.Completing first) ≡ Row.Nothing = sym (ap said e) ∙ nothing.1 in cc)
+  | inr same ↦ plain (some_map (SecondKind c.k) (SplitKind c.k) x c.t (λ before r second. inr second)
+      (s.marked.completing x first (completes_said (row_at k x) first (sym same ∙ ap said e))))
+])
+unsplit c k j x s i plain r e = refl
 
 first_found : (c : Chain) (k j : Known) (own : List ℕ) → World (outermost_walk c) k → Coded k j → IsFound k own (region_at j.regions 0).frame
 first_found c k j own w i =
@@ -115,7 +128,7 @@ own_found : (c : Chain) (k j : Known) (n : ℕ) (r : RoutineTree) → World (out
     → IsFound k (labels_in_body (routine_body r)) (own_frame j (name_in_first j (routine_name r)))
 own_found c k j n r w i plain down =
     let x = routine_name r in
-    let first = unfirst c k j x w.sound i plain (row_at j x) refl in
+    let first = unsplit c k j x w.orderly i plain (row_at j x) refl in
     let at : name_in_first j x ≡ x = ap (λ (o : Option ℕ). unwrap_or o x) first in
     subst (λ y. IsFound k (labels_in_body (routine_body r)) (own_frame j y)) (sym at) (row_found c k j n r w i down (row_at j x) refl)
 
@@ -165,28 +178,42 @@ coded_in l t = (program_step t (known_at_start l)).known
 abbrev text_of : Lexed → ProgramTree → Text
 text_of l t = record { k = known_at_start l; bs = broken l t }
 
+-- one that has not the block of a forward heading
+abbrev Alone : Lexed → List RoutineTree → RoutineTree → Type 0
+Alone l before r = is_second (known_at_start l) before r ≡ false
+
+-- has one heading, if it has a block
+block_plain : (l : Lexed) (t : ProgramTree) (before : List RoutineTree) (r : RoutineTree) → Seat t.block before r → is_block (routine_body r) ≡ true
+    → Alone l before r → IsPlain (chain_of l t) r
+block_plain l t before r seat block alone some = elim (seat.own (SplitKind (known_at_start l)) some) [
+  | inl forward ↦ no_forward_block (known_at_start l) (routine_body r) block forward
+  | inr second ↦ (let never : true ≡ false = sym second ∙ alone in cc)
+]
+
 mutual
-  chain_block : (l : Lexed) (t : ProgramTree) → World (outermost_walk (chain_of l t)) (coded_in l t) → (frame n : ℕ) (b : BlockTree)
+  chain_block : (l : Lexed) (t : ProgramTree) → World (outermost_walk (chain_of l t)) (coded_in l t) → (frame n : ℕ) (b : BlockTree) → Seats t.block b
       → ((y : ℕ) (i : Known) (g : ℕ) → Names (chain_of l t) y i g → NamesAt (chain_of l t) n b y i g)
-      → Gives (Coded (coded_in l t)) (IsTold (text_of l t)) (code_block frame b) (Within (IsPlain (chain_of l t)) (Tells l t) b)
-  chain_block l t w frame n (tree.a_block labels constants types variables routines body) down =
+      → Gives (Coded (coded_in l t)) (IsTold (text_of l t)) (code_block frame b) (Within (Alone l) (Tells l t) b)
+  chain_block l t w frame n (tree.a_block labels constants types variables routines body) seats down =
       gives_then (coded {k = coded_in l t} (reach_all-touches frame (compound_body body) (everywhere (statements_node (compound_body body)))))
-      (λ _. gives_first _ (chain_routines l t w n routines down))
+      (λ _. gives_first _ (chain_routines l t w n [] routines seats down))
 
-  chain_routines : (l : Lexed) (t : ProgramTree) → World (outermost_walk (chain_of l t)) (coded_in l t) → (n : ℕ) (rs : RoutineTrees)
+  chain_routines : (l : Lexed) (t : ProgramTree) → World (outermost_walk (chain_of l t)) (coded_in l t) → (n : ℕ) (before : List RoutineTree)
+      (rs : RoutineTrees) → SeatsIn t.block before rs
       → ((y : ℕ) (i : Known) (g : ℕ) → Names (chain_of l t) y i g → NamesPart (chain_of l t) (one_deeper n) rs y i g)
-      → Gives (Coded (coded_in l t)) (IsTold (text_of l t)) (code_routines rs) (WithinEach (IsPlain (chain_of l t)) (Tells l t) rs)
-  chain_routines l t w n tree.end_of_routines down = gives_none
-  chain_routines l t w n (tree.more_routines r rest) down = gives_both
-      (gives_first _ (chain_routine l t w (one_deeper n) r (λ y i g h. (down y i g h).0)))
-      (gives_then (coded (code_routine-touches r)) (λ _. chain_routines l t w n rest (λ y i g h. (down y i g h).1)))
+      → Gives (Coded (coded_in l t)) (IsTold (text_of l t)) (code_routines rs) (WithinEach (Alone l) (Tells l t) before rs)
+  chain_routines l t w n before tree.end_of_routines seats down = gives_none
+  chain_routines l t w n before (tree.more_routines r rest) seats down = gives_both
+      (gives_first _ (chain_routine l t w (one_deeper n) before r seats.0 (λ y i g h. (down y i g h).0)))
+      (gives_then (coded (code_routine-touches r)) (λ _. chain_routines l t w n (before ++ r ∷ []) rest seats.1 (λ y i g h. (down y i g h).1)))
 
-  chain_routine : (l : Lexed) (t : ProgramTree) → World (outermost_walk (chain_of l t)) (coded_in l t) → (n : ℕ) (r : RoutineTree)
+  chain_routine : (l : Lexed) (t : ProgramTree) → World (outermost_walk (chain_of l t)) (coded_in l t) → (n : ℕ) (before : List RoutineTree)
+      (r : RoutineTree) → SeatsOf t.block before r
       → ((y : ℕ) (i : Known) (g : ℕ) → Names (chain_of l t) y i g → NamesRoutine (chain_of l t) n r y i g)
-      → Gives (Coded (coded_in l t)) (IsTold (text_of l t)) (code_routine r) (WithinRoutine (IsPlain (chain_of l t)) (Tells l t) r)
-  chain_routine l t w n (tree.a_routine heading semicolon (tree.a_directive directive) last_semicolon) down =
+      → Gives (Coded (coded_in l t)) (IsTold (text_of l t)) (code_routine r) (WithinRoutine (Alone l) (Tells l t) before r)
+  chain_routine l t w n before (tree.a_routine heading semicolon (tree.a_directive directive) last_semicolon) seats down =
       record { of = λ j i told plain. ((λ before label after same off. absurd (no_split before label after same)), tt) }
-  chain_routine l t w n (tree.a_routine heading semicolon (tree.a_block_body b) last_semicolon) down =
+  chain_routine l t w n before (tree.a_routine heading semicolon (tree.a_block_body b) last_semicolon) seats down =
       let r = tree.a_routine heading semicolon (tree.a_block_body b) last_semicolon in
       let c = chain_of l t in
       let k = coded_in l t in
@@ -194,34 +221,33 @@ mutual
       let x = text_of l t in
       let name = heading_name heading in
       record {
-        of = λ j i told plain.
+        of = λ j i told alone.
+            let plain = block_plain l t before r seats.0 refl alone in
             (looked_gives (λ j. own_frame j (name_in_first j name)) (λ frame. code_block frame b >>= λ _. function_result (is_function heading) name)
             (λ j i. gives_first _ (gives_both
             (main_told x {k = k} (UndeclaredAreTold x.k x.bs (labels_in_body (routine_body r))) (own_frame j (name_in_first j name)) b
             (found_gives x k s.begun (λ region v d e. (s.declared region v d e).0) (labels_in_body (routine_body r)) (own_frame j (name_in_first j name))
             (own_found c k j n r w i plain (λ i g h. (down name i g h plain).0 refl))
             (own_then k j (name_in_first j name) s.begun.tidy i)))
-            (chain_block l t w (own_frame j (name_in_first j name)) n b (λ y i g h. (down y i g h plain).1))))).of j i told;
+            (chain_block l t w (own_frame j (name_in_first j name)) n b seats.1 (λ y i g h. (down y i g h plain).1))))).of j i told;
       }
 
 -- ---- a text
 
 chain_told : (l : Lexed) (t : ProgramTree) → spell (tree_node t) ≡ items_of l.tokens → length l.tokens < 2 ^ 32
-    → Within (IsPlain (chain_of l t)) (Tells l t) t.block
+    → Within (Alone l) (Tells l t) t.block
 unfolding check_step ◌>>=◌
 chain_told l t spelled few =
     let c = chain_of l t in
     let k = known_at_start l in
-    let distinct = (text_law l.tokens t spelled).1.1.1.1.0 in
-    let inside = text_tokens l t spelled in
-    let all = text_block k t.block t.block inside.1.1.1.1.0 (λ name none. none) in
+    let text = whole l t spelled in
     let long = text_length l.tokens t spelled in
-    let whole : Fits 0 (tree_node t) = record { is = omega (arith, long, few) } in
-    let own = (fits_left (fits_right (fits_right (fits_right (fits_right whole))))).is in
-    let ways = text_ways c distinct (omega (arith, own)) in
-    let w = program_world l t ways all in
+    let fits : Fits 0 (tree_node t) = record { is = omega (arith, long, few) } in
+    let own = (fits_left (fits_right (fits_right (fits_right (fits_right fits))))).is in
+    let ways = text_ways c text.distinct.1.1.1.1.0 (omega (arith, own)) in
+    let w = program_world l t ways text in
     let d = program_step t k in
-    (chain_block l t w d.value 0 t.block (λ y i g h. h)).of d.known (record { same = same_in d.known })
+    (chain_block l t w d.value 0 t.block text.seats (λ y i g h. h)).of d.known (record { same = same_in d.known })
     (λ b i. contained b (broken l t) (in_right b d.broken (code_block d.value t.block d.known).broken i))
 
 pub text_declared_law : TextsTellUndeclared

@@ -49,7 +49,7 @@ spelling k = record {
   routines = λ j r i. record { words = i.words };
   frames = λ j f i. record { words = i.words };
   regions = λ j token f i. record { words = i.words };
-  defines = λ j region d i. record { words = i.words };
+  defines = λ j region d at i. record { words = i.words };
   requires = λ j name d behind i. record { words = i.words };
   chooses = λ j list value i. record { words = i.words };
   records = λ j word packed region cells variants fresh i. record { words = i.words };
@@ -60,6 +60,7 @@ spelling k = record {
 pub spelling_all : (k : Known) → Declaring Any (Spells k)
 spelling_all k = record {
   kept = spelling k;
+  ends = λ j region d i. record { words = i.words };
   declares = λ j region value token i. record { words = i.words };
   labels = λ j token value level i. record { words = i.words };
   heads = λ j name number region named few i. record { words = i.words };

@@ -7,38 +7,33 @@ use Rattle.pas_tree.specs.{HeadingPlaces.heading_name, HeadingTrees.HeadingTree}
 use Rattle.pas_tree.specs.BlockTrees.{BlockTree, BodyTree, RoutineTree, RoutineTrees, routine_body, routine_heading}
 use Rattle.pas_tree.specs.BlockTrees as tree
 use Rattle.pas_tree.specs.HeadingTrees as headings
-use Rattle.pas_tree.specs.TreeNodes.{block_node, body_node, heading_node, routine_node, routines_node}
+use Rattle.pas_tree.specs.TreeNodes.{block_node, heading_node, routine_node, routines_node}
 use Rattle.core_program.specs.declared.rows.{NameRow.NameRow, PartRow.PartRow, Row.Row, TypeRow.TypeRow}
+use Rattle.check_steps.specs.{Words.known_at_start, Words.names_of, Words.required_names, Words.word_of, declared.words.SpelledToken.SpelledToken}
 use Rattle.check_steps.specs.Known.{Known, frame_at, name_at, row_at, with_row}
 use Rattle.check_steps.specs.Steps.{◌>>=◌, Step, ask, change, each, give, look, put, when}
-use Rattle.check_steps.specs.Words.{known_at_start, names_of, required_names, word_of}
-use Rattle.check_steps.specs.declared.{breaks.Break.Break, words.SpelledToken.SpelledToken}
 use Rattle.denoter_checker.specs.{Formals.is_function, RoutineParts.is_forward, RoutineParts.is_waiting, RoutineParts.routine_name}
 use Rattle.denoter_checker.specs.RoutineParts.{awaits, complete_or_define, completed_by, define_heading, define_routine, define_routines, defining, directed}
 use Rattle.decl_checker.specs.{Blocks.define_block, Routines.define_body, Routines.define_inside}
-use Rattle.decl_checker.specs.Programs.{define_program, main_row, program_step}
-use Rattle.code_checker.specs.CheckedPrograms.{broken, check_step}
-use Rattle.rule_laws.proofs.{Breaks.Each, Breaks.In, Breaks.contained, Breaks.in_right, Gives.Gives, Gives.gives_first, Gives.gives_then, Keeping.Closed}
-use Rattle.rule_laws.proofs.{Keeping.look-keeps, Keeping.turn-keeps, Lasting.Declaring, Lasting.Lasting, Lasting.add_routine-lasts}
-use Rattle.rule_laws.proofs.{LastsFormals.define_formals_at-lasts, LastsLabels.define_labels-lasts, LastsParameters.program_parameters-lasts}
-use Rattle.rule_laws.proofs.{LastsPrograms.define_program-lasts, LastsPrograms.open_program-lasts, LastsRoutineParts.define_heading-lasts}
-use Rattle.rule_laws.proofs.{LastsRoutineParts.define_routine-lasts, LastsRoutines.block_each, PartLaw.each_known, PartLaw.waits_told, PartSteps.part_listed}
-use Rattle.rule_laws.proofs.{PartSteps.part_steps, Tables.row_beside, Tables.row_put, TextFields.IsTold, TextFields.Text, TextNames.start_sound}
-use Rattle.rule_laws.proofs.{TextNames.text_block, TextTokens.text_law, TextTokens.text_tokens, TextWalk.Enters, TextWalk.block_walk, TextWalk.entered_gives}
+use Rattle.code_checker.specs.CheckedPrograms.{broken}
+use Rattle.rule_laws.proofs.{Breaks.Each, Breaks.In, Breaks.in_right, Gives.Gives, Gives.gives_first, Gives.gives_then, Keeping.Closed, Keeping.look-keeps}
+use Rattle.rule_laws.proofs.{Keeping.turn-keeps, Lasting.Declaring, Lasting.Lasting, LastsFormals.define_formals_at-lasts, LastsLabels.define_labels-lasts}
+use Rattle.rule_laws.proofs.{LastsRoutines.block_each, PartLaw.each_known, PartLaw.waits_told, PartSteps.part_listed, PartSteps.part_steps, Tables.row_beside}
+use Rattle.rule_laws.proofs.{Tables.row_put, TextFields.IsTold, TextFields.Text, TextNames.start_sound}
 use Rattle.rule_laws.proofs.LastsBlocks.{define_constants-lasts, define_types-lasts, define_variables-lasts}
+use Rattle.rule_laws.proofs.LastsRoutineParts.{define_heading-lasts, define_routine-lasts}
 use Rattle.rule_laws.proofs.TextHeadings.{IsOfText, Sound, completed_found, completion_sound, sound_all, sound_lasts}
-use Rattle.rule_laws.specs.{Laws.broken_at, NameLaws.block_routines, Tokens.Has, Tokens.IsDistinct}
+use Rattle.rule_laws.specs.{Laws.broken_at, NameLaws.block_routines, TextParts.OfBody, TextParts.OfRoutines, Tokens.Has, Tokens.IsDistinct}
 use Rattle.rule_laws.specs.ForwardHeadings.{are_completing, completes, has_forward, is_block, routines_in, same_kind}
-use Rattle.rule_laws.specs.TextLaws.{ForwardsAreTold, IsNeverForward, TextsTellForwards, routines_in_body}
-use Rattle.rule_laws.specs.TextParts.{OfBody, OfEach, OfRoutine, OfRoutines}
+use Rattle.rule_laws.specs.TextLaws.{ForwardsAreTold, routines_in_body}
 
 -- ---- what is known of a text's tokens wherever its declarations are looked at
 
 -- Each token has its word, its name and a row.
-record Roomy (k j : Known) : Type 0 where
-  words : j.words ≡ k.words
-  names : j.names ≡ k.names
-  room : length k.words ≤ length j.program.rows
+pub record Roomy (k j : Known) : Type 0 where
+  pub words : j.words ≡ k.words
+  pub names : j.names ≡ k.names
+  pub room : length k.words ≤ length j.program.rows
 
 put_roomy : (k j : Known) (m : ℕ) (r : Row) → Roomy k j → Roomy k (with_row j m r)
 put_roomy k j m r s = record {
@@ -47,7 +42,7 @@ put_roomy k j m r s = record {
   room = subst (λ size. length k.words ≤ size) (sym (length-set j.program.rows m r)) s.room;
 }
 
-roomy_lasts : (k : Known) (b : BlockTree) → Lasting (IsOfText k b) (Roomy k)
+pub roomy_lasts : (k : Known) (b : BlockTree) → Lasting (IsOfText k b) (Roomy k)
 roomy_lasts k b = record {
   puts = λ j m r quiet s. put_roomy k j m r s;
   stays = λ j m s. put_roomy k j m (row_at j m) s;
@@ -55,7 +50,7 @@ roomy_lasts k b = record {
   routines = λ j r s. record { words = s.words; names = s.names; room = s.room };
   frames = λ j f s. record { words = s.words; names = s.names; room = s.room };
   regions = λ j token f s. record { words = s.words; names = s.names; room = s.room };
-  defines = λ j region d s. record { words = s.words; names = s.names; room = s.room };
+  defines = λ j region d at s. record { words = s.words; names = s.names; room = s.room };
   requires = λ j name d behind s. record { words = s.words; names = s.names; room = s.room };
   chooses = λ j list value s. record { words = s.words; names = s.names; room = s.room };
   records = λ j word packed region cells variants fresh s. put_roomy k j word (Row.Type (TypeRow.Record packed region cells variants)) s;
@@ -65,11 +60,11 @@ roomy_lasts k b = record {
       put_roomy k (with_row j first row) (routine_name r) (Row.Part (PartRow.Completing first)) (put_roomy k j first row s);
 }
 
-record Both (k : Known) (b : BlockTree) (j : Known) : Type 0 where
-  sound : Sound k b j
-  roomy : Roomy k j
+pub record Both (k : Known) (b : BlockTree) (j : Known) : Type 0 where
+  pub sound : Sound k b j
+  pub roomy : Roomy k j
 
-both_last : (k : Known) (b : BlockTree) → Lasting (IsOfText k b) (Both k b)
+pub both_last : (k : Known) (b : BlockTree) → Lasting (IsOfText k b) (Both k b)
 both_last k b =
     let c = sound_lasts k b in
     let e = roomy_lasts k b in
@@ -80,7 +75,7 @@ both_last k b =
       routines = λ j r s. record { sound = c.routines j r s.sound; roomy = e.routines j r s.roomy };
       frames = λ j f s. record { sound = c.frames j f s.sound; roomy = e.frames j f s.roomy };
       regions = λ j token f s. record { sound = c.regions j token f s.sound; roomy = e.regions j token f s.roomy };
-      defines = λ j region d s. record { sound = c.defines j region d s.sound; roomy = e.defines j region d s.roomy };
+      defines = λ j region d at s. record { sound = c.defines j region d at s.sound; roomy = e.defines j region d at s.roomy };
       requires = λ j name d behind s. record { sound = c.requires j name d behind s.sound; roomy = e.requires j name d behind s.roomy };
       chooses = λ j list value s. record { sound = c.chooses j list value s.sound; roomy = e.chooses j list value s.roomy };
       records = λ j word packed region cells variants fresh s. record {
@@ -106,11 +101,15 @@ both_last k b =
       };
     }
 
-both_all : (k : Known) (b : BlockTree) → Declaring (IsOfText k b) (Both k b)
+pub both_all : (k : Known) (b : BlockTree) → Declaring (IsOfText k b) (Both k b)
 both_all k b =
     let c = sound_all k b in
     record {
       kept = both_last k b;
+      ends = λ j region d s. record {
+        sound = c.ends j region d s.sound;
+        roomy = record { words = s.roomy.words; names = s.roomy.names; room = s.roomy.room };
+      };
       declares = λ j region value token s. record {
         sound = c.declares j region value token s.sound;
         roomy = record { words = s.roomy.words; names = s.roomy.names; room = s.roomy.room };
@@ -142,7 +141,7 @@ unfolding when change give
 when_put true n r j e below = row_put j n r below
 when_put false n r j e below = absurd (let never : false ≡ true = e in cc)
 
-forward_same : (k j : Known) (directive : ℕ) → Roomy k j → is_forward j directive ≡ is_forward k directive
+pub forward_same : (k j : Known) (directive : ℕ) → Roomy k j → is_forward j directive ≡ is_forward k directive
 forward_same k j directive s =
     ap (λ (ws : List SpelledToken). is_forward (record j { words = ws }) directive) s.words
     ∙ ap (λ names. is_forward (record k { names = names }) directive) s.names
@@ -177,15 +176,15 @@ own_waits k t region position r j s forward spelled =
 
 -- ---- and on, unless a block of its name and kind comes
 
-awaits_kind : (function forward : Bool) (row : Row) → row ≡ Row.Part (PartRow.Forward forward None) → awaits function row ≡ true
+pub awaits_kind : (function forward : Bool) (row : Row) → row ≡ Row.Part (PartRow.Forward forward None) → awaits function row ≡ true
     → (if forward then function else not function) ≡ true
 awaits_kind function forward row e is = ap (awaits function) (sym e) ∙ is
 
-found_block : (j : Known) (region : ℕ) (h : HeadingTree) (body : BodyTree) (first : ℕ) → completed_by j region h body ≡ Some first → is_block body ≡ true
+pub found_block : (j : Known) (region : ℕ) (h : HeadingTree) (body : BodyTree) (first : ℕ) → completed_by j region h body ≡ Some first → is_block body ≡ true
 found_block j region h (tree.a_directive directive) first e = absurd (none-some first e)
 found_block j region h (tree.a_block_body b) first e = refl
 
-same_number : {a b : ℕ} → a ≡ b → nat_eq a b ≡ true
+pub same_number : {a b : ℕ} → a ≡ b → nat_eq a b ≡ true
 same_number h = grind (arith, nat_tests)
 
 -- a routine that would complete it has its block
@@ -230,7 +229,7 @@ others_wait k t region position r (s ∷ ss) j both waits all apart none =
 -- ---- a part
 
 -- no two of these have their names at one token
-abbrev Apart : List RoutineTree → Type 0
+abbrev pub Apart : List RoutineTree → Type 0
 Apart [] = Unit {0}
 Apart (r ∷ rs) = Each (λ (s : RoutineTree). routine_name s ≡ routine_name r → ⊥) rs × Apart rs
 
@@ -291,13 +290,14 @@ part_gives x t region rs all apart = record {
       (heading_told x.k t region before r after j i (subst (Each (IsOfText x.k t)) same all) (subst Apart same apart) forward none)));
 }
 
-block_gives : (x : Text) (t : BlockTree) (frame : ℕ) (b : BlockTree) → OfRoutines (IsOfText x.k t) b → Apart (block_routines b)
+pub block_gives : (x : Text) (t : BlockTree) (frame : ℕ) (b : BlockTree) → OfRoutines (IsOfText x.k t) b → Apart (block_routines b)
     → Gives (Both x.k t) (IsTold x) (define_block frame b) (ForwardsAreTold x.k x.bs (block_routines b))
 block_gives x t frame (tree.a_block labels consts kinds variable_part routines body) all apart =
     let c = both_last x.k t in
     let listed = block_each (IsOfText x.k t) (tree.a_block labels consts kinds variable_part routines body) all in
     gives_then (look-keeps (λ k. frame_at k frame)) (λ here. gives_then (define_labels-lasts (both_all x.k t) here labels) (λ _.
-    gives_then (define_constants-lasts c here.region consts) (λ _. gives_then (define_types-lasts c here.region kinds) (λ _.
+    gives_then (define_constants-lasts (both_all x.k t).ends here.region consts) (λ _.
+    gives_then (define_types-lasts c (both_all x.k t).ends here.region kinds) (λ _.
     gives_then (define_variables-lasts c here.region variable_part) (λ _. part_gives x t here.region routines listed apart)))))
 
 -- ---- the names of a part are different tokens
@@ -306,7 +306,7 @@ pub name_has : (h : HeadingTree) → Has (heading_node h) (heading_name h)
 name_has (headings.a_procedure (headings.procedure_heading word name formals)) = inr (inl refl)
 name_has (headings.a_function (headings.function_heading word name formals result)) = inr (inl refl)
 
-routine_has : (r : RoutineTree) → Has (routine_node r) (routine_name r)
+pub routine_has : (r : RoutineTree) → Has (routine_node r) (routine_name r)
 routine_has (tree.a_routine heading semicolon body last_semicolon) = inl (name_has heading)
 
 apart_from : (n : ℕ) (rs : RoutineTrees) → (Has (routines_node rs) n → ⊥) → Each (λ (s : RoutineTree). routine_name s ≡ n → ⊥) (routines_in rs)
@@ -314,28 +314,15 @@ apart_from n tree.end_of_routines off = tt
 apart_from n (tree.more_routines r rest) off =
     ((λ e. off (inl (subst (Has (routine_node r)) e (routine_has r)))), apart_from n rest (λ h. off (inr h)))
 
-part_apart : (rs : RoutineTrees) → IsDistinct (routines_node rs) → Apart (routines_in rs)
+pub part_apart : (rs : RoutineTrees) → IsDistinct (routines_node rs) → Apart (routines_in rs)
 part_apart tree.end_of_routines d = tt
 part_apart (tree.more_routines r rest) d =
     (apart_from (routine_name r) rest (λ h. d.2 (routine_name r) (routine_has r) h), part_apart rest d.1)
 
-block_apart : (b : BlockTree) → IsDistinct (block_node b) → Apart (block_routines b)
+pub block_apart : (b : BlockTree) → IsDistinct (block_node b) → Apart (block_routines b)
 block_apart (tree.a_block labels constants types variables routines body) d = part_apart routines d.1.1.1.1.0
 
--- so it is with the parts of blocks in blocks
-abbrev PartsApart : RoutineTree → Type 0
-PartsApart r = Apart (routines_in_body (routine_body r))
-
-body_apart : (body : BodyTree) → IsDistinct (body_node body) → Apart (routines_in_body body)
-body_apart (tree.a_directive directive) d = tt
-body_apart (tree.a_block_body b) d = block_apart b d
-
 -- ---- procedures and functions
-
--- what is given where one is entered
-abbrev Given : Text → BlockTree → RoutineTree → Type 0
-Given x t r = Apart (routines_in_body (routine_body r)) → IsNeverForward x.k t (name_at x.k (routine_name r))
-    → ForwardsAreTold x.k x.bs (routines_in_body (routine_body r))
 
 body_gives : (x : Text) (t : BlockTree) (frame : ℕ) (body : BodyTree) → OfBody (IsOfText x.k t) body → Apart (routines_in_body body)
     → Gives (Both x.k t) (IsTold x) (define_body frame body) (ForwardsAreTold x.k x.bs (routines_in_body body))
@@ -346,42 +333,12 @@ body_gives x t frame (tree.a_directive directive) all apart = record { of = λ j
     no_routine (y ∷ ys) r after e = cc
 body_gives x t frame (tree.a_block_body b) all apart = block_gives x t frame b all apart
 
-inside_gives : (x : Text) (t : BlockTree) (inner : ℕ) (h : HeadingTree) (body : BodyTree) (completion : Option RoutineTree) → OfBody (IsOfText x.k t) body
+pub inside_gives : (x : Text) (t : BlockTree) (inner : ℕ) (h : HeadingTree) (body : BodyTree) (completion : Option RoutineTree) → OfBody (IsOfText x.k t) body
     → Apart (routines_in_body body)
     → Gives (Both x.k t) (IsTold x) (define_inside inner h body completion) (ForwardsAreTold x.k x.bs (routines_in_body body))
 unfolding define_inside
 inside_gives x t inner h body completion all apart =
     gives_then (define_formals_at-lasts (both_last x.k t) inner h) (λ _. gives_first _ (body_gives x t inner body all apart))
-
-enters : (x : Text) (t : BlockTree) → Enters (IsOfText x.k t) (Both x.k t) (IsTold x) (Given x t)
-enters x t = record {
-  kept = both_all x.k t;
-  entered = λ frame rs r all. record {
-    of = λ j i w apart none. (entered_gives (both_last x.k t) x.k t (λ h s. s.sound) frame rs r none
-        (λ inner completion. inside_gives x t inner (routine_heading r) (routine_body r) completion all apart)).of j i w;
-  };
-}
-
--- as the law says it
-abbrev Wanted : Text → BlockTree → RoutineTree → Type 0
-Wanted x t r = IsNeverForward x.k t (name_at x.k (routine_name r)) → ForwardsAreTold x.k x.bs (routines_in_body (routine_body r))
-
-mutual
-  block_wanted : (x : Text) (t b : BlockTree) → IsDistinct (block_node b) → OfRoutines (Given x t) b → OfRoutines (Wanted x t) b
-  block_wanted x t (tree.a_block labels constants types variables routines body) d given = part_wanted x t routines d.1.1.1.1.0 given
-
-  part_wanted : (x : Text) (t : BlockTree) (rs : RoutineTrees) → IsDistinct (routines_node rs) → OfEach (Given x t) rs → OfEach (Wanted x t) rs
-  part_wanted x t tree.end_of_routines d given = tt
-  part_wanted x t (tree.more_routines r rest) d given = (routine_wanted x t r d.0 given.0, part_wanted x t rest d.1 given.1)
-
-  routine_wanted : (x : Text) (t : BlockTree) (r : RoutineTree) → IsDistinct (routine_node r) → OfRoutine (Given x t) r → OfRoutine (Wanted x t) r
-  routine_wanted x t (tree.a_routine heading semicolon body last_semicolon) d given =
-      let inner = d.1.1.0 in
-      (given.0 (body_apart body inner), body_wanted x t body inner given.1)
-
-  body_wanted : (x : Text) (t : BlockTree) (body : BodyTree) → IsDistinct (body_node body) → OfBody (Given x t) body → OfBody (Wanted x t) body
-  body_wanted x t (tree.a_directive directive) d given = tt
-  body_wanted x t (tree.a_block_body b) d given = block_wanted x t b d given
 
 -- ---- a text
 
@@ -389,7 +346,7 @@ length_blank : (n : ℕ) (r : Row) → length (replicate n r) ≡ n
 length_blank zero r = refl
 length_blank (suc n) r = ap suc (length_blank n r)
 
-start_both : (l : Lexed) (b : BlockTree) → Both (known_at_start l) b (known_at_start l)
+pub start_both : (l : Lexed) (b : BlockTree) → Both (known_at_start l) b (known_at_start l)
 start_both l b = record {
   sound = start_sound l b;
   roomy = record {
@@ -402,24 +359,3 @@ start_both l b = record {
         omega (arith, words, rows);
   };
 }
-
-pub text_forward_law : TextsTellForwards
-unfolding check_step program_step define_program
-text_forward_law l t spelled =
-    let k = known_at_start l in
-    let x : Text = record { k = k; bs = broken l t } in
-    let c = both_last k t.block in
-    let inside = text_tokens l t spelled in
-    let distinct = (text_law l.tokens t spelled).1.1.1.1.0 in
-    let all = text_block k t.block t.block inside.1.1.1.1.0 (λ name none. none) in
-    let listed = block_each (IsOfText k t.block) t.block all in
-    let own : Gives (Both k t.block) (IsTold x) (program_step t) (ForwardsAreTold k x.bs (block_routines t.block)) =
-    gives_then (open_program-lasts c) (λ frame. gives_first _ (gives_then (look-keeps (λ k. (frame_at k frame).region)) (λ region.
-    gives_then (program_parameters-lasts c region t.parameters) (λ _. block_gives x t.block frame t.block all (block_apart t.block distinct))))) in
-    let inner : Gives (Both k t.block) (IsTold x) (program_step t) (OfRoutines (Given x t.block) t.block) =
-    gives_then (open_program-lasts c) (λ frame. gives_then (define_program-lasts (both_all k t.block) frame t listed) (λ _.
-    gives_then (add_routine-lasts c (main_row t.name)) (λ number. gives_first _ (block_walk (enters x t.block) frame number 1 t.block all)))) in
-    let told : (b : Break) → In b (check_step t k).broken → IsTold x b = λ b i. contained b (broken l t) i in (
-      (gives_first _ own).of k (start_both l t.block) told,
-      block_wanted x t.block t.block distinct ((gives_first _ inner).of k (start_both l t.block) told),
-    )

@@ -11,7 +11,7 @@ use Rattle.check_steps.specs.Regions.{RegionRows, defined_in, fresh_region, regi
 use Rattle.check_steps.specs.declared.{regions.Definition.Definition, regions.Frame.Frame, words.SpelledToken.SpelledToken}
 use Rattle.denoter_checker.specs.{Formals.is_function, RoutineParts.awaiting, RoutineParts.awaits, RoutineParts.completed_by, RoutineParts.routine_name}
 use Rattle.rule_laws.proofs.{Faces.row_either, Regions.region_either, Regions.region_more, Tables.lookup-last, Tables.one_or_other}
-use Rattle.rule_laws.proofs.Lasting.{Declaring, Lasting, is_quiet, with_completion}
+use Rattle.rule_laws.proofs.Lasting.{Declaring, Ends, Lasting, is_quiet, with_completion}
 use Rattle.rule_laws.specs.{ForwardHeadings.is_block, TextLaws.IsNeverForward}
 
 -- ---- definitions, after a change
@@ -99,13 +99,13 @@ put_sound k b j m r forward completing s = record {
   ];
 }
 
-no_forward : (r : Row) (function : Bool) (block : Option ℕ) → is_quiet r ≡ true → r ≡ Row.Part (PartRow.Forward function block) → ⊥
+pub no_forward : (r : Row) (function : Bool) (block : Option ℕ) → is_quiet r ≡ true → r ≡ Row.Part (PartRow.Forward function block) → ⊥
 no_forward r function block quiet e = let never : false ≡ true = sym (ap is_quiet e) ∙ quiet in cc
 
-no_completing : (r : Row) (first : ℕ) → is_quiet r ≡ true → r ≡ Row.Part (PartRow.Completing first) → ⊥
+pub no_completing : (r : Row) (first : ℕ) → is_quiet r ≡ true → r ≡ Row.Part (PartRow.Completing first) → ⊥
 no_completing r first quiet e = let never : false ≡ true = sym (ap is_quiet e) ∙ quiet in cc
 
-same_row : (j : Known) (m n : ℕ) → row_at (with_row j m (row_at j m)) n ≡ row_at j n
+pub same_row : (j : Known) (m n : ℕ) → row_at (with_row j m (row_at j m)) n ≡ row_at j n
 same_row j m n = elim (row_either j m n (row_at j m)) [
   | inl old ↦ old
   | inr new ↦ new.1 ∙ ap (row_at j) (sym new.0)
@@ -113,11 +113,11 @@ same_row j m n = elim (row_either j m n (row_at j m)) [
 
 -- ---- completions
 
-record Awaited (function : Bool) (r : Row) : Type 0 where
-  kind : Bool
-  is : r ≡ Row.Part (PartRow.Forward kind None)
+pub record Awaited (function : Bool) (r : Row) : Type 0 where
+  pub kind : Bool
+  pub is : r ≡ Row.Part (PartRow.Forward kind None)
 
-awaited : (function : Bool) (r : Row) → awaits function r ≡ true → Awaited function r
+pub awaited : (function : Bool) (r : Row) → awaits function r ≡ true → Awaited function r
 awaited function (Row.Part (PartRow.Forward kind None)) e = record { kind = kind; is = refl }
 awaited function r e = absurd (let never : false ≡ true = e in cc)
 
@@ -169,10 +169,10 @@ completion_sound k b j region first r e s =
       ];
     }
 
-row_completing : (function : Bool) (position first : ℕ) → Row.Part (PartRow.Forward function (Some position)) ≡ Row.Part (PartRow.Completing first) → ⊥
+pub row_completing : (function : Bool) (position first : ℕ) → Row.Part (PartRow.Forward function (Some position)) ≡ Row.Part (PartRow.Completing first) → ⊥
 row_completing function position first e = cc
 
-row_forward : (first : ℕ) (function : Bool) (block : Option ℕ) → Row.Part (PartRow.Completing first) ≡ Row.Part (PartRow.Forward function block) → ⊥
+pub row_forward : (first : ℕ) (function : Bool) (block : Option ℕ) → Row.Part (PartRow.Completing first) ≡ Row.Part (PartRow.Forward function block) → ⊥
 row_forward first function block e = cc
 
 complete_sound : (k : Known) (b : BlockTree) (j : Known) (region first position : ℕ) (r : RoutineTree)
@@ -187,14 +187,25 @@ complete_sound k b j region first position r e s =
     (put_sound k b j first row (λ function block x. c.forward)
     (λ at x. absurd (row_completing (is_function (routine_heading r)) position at x)) s)
 
-waits_row : (function : Bool) (first : ℕ) → Row.Part (PartRow.Forward function None) ≡ Row.Part (PartRow.Completing first) → ⊥
+pub waits_row : (function : Bool) (first : ℕ) → Row.Part (PartRow.Forward function None) ≡ Row.Part (PartRow.Completing first) → ⊥
 waits_row function first e = cc
 
-no_record : (packed : Bool) (region cells : ℕ) (variants : Option ℕ) {r : PartRow} → Row.Type (TypeRow.Record packed region cells variants) ≡ Row.Part r → ⊥
+pub no_record : (packed : Bool) (region cells : ℕ) (variants : Option ℕ) {r : PartRow} → Row.Type (TypeRow.Record packed region cells variants) ≡ Row.Part r → ⊥
 no_record packed region cells variants e = cc
 
-no_name : {n : NameRow} {r : PartRow} → Row.Name n ≡ Row.Part r → ⊥
+pub no_name : {n : NameRow} {r : PartRow} → Row.Name n ≡ Row.Part r → ⊥
 no_name e = cc
+
+defined_sound : (k : Known) (b : BlockTree) → Ends (Sound k b)
+defined_sound k b j region d s = record {
+  words = s.words;
+  own = λ r n e found. elim (defined_either j region (name_at j d.token) d r n e found) [
+    | inl old ↦ s.own r n e old
+    | inr new ↦ inl (ap (λ (x : Definition). name_at k x.token) (sym new.1) ∙ sym (spelled_as k j d.token s.words) ∙ sym new.0)
+  ];
+  forward = s.forward;
+  completing = s.completing;
+}
 
 pub sound_lasts : (k : Known) (b : BlockTree) → Lasting (IsOfText k b) (Sound k b)
 sound_lasts k b = record {
@@ -205,15 +216,7 @@ sound_lasts k b = record {
   routines = λ j r s. record { words = s.words; own = s.own; forward = s.forward; completing = s.completing };
   frames = λ j f s. record { words = s.words; own = s.own; forward = s.forward; completing = s.completing };
   regions = λ j token f s. alike k b j (and_region j token f) refl (λ r n d e. region_defined j token f r n d e) (λ n. refl) s;
-  defines = λ j region d s. record {
-    words = s.words;
-    own = λ r n e found. elim (defined_either j region (name_at j d.token) d r n e found) [
-      | inl old ↦ s.own r n e old
-      | inr new ↦ inl (ap (λ (x : Definition). name_at k x.token) (sym new.1) ∙ sym (spelled_as k j d.token s.words) ∙ sym new.0)
-    ];
-    forward = s.forward;
-    completing = s.completing;
-  };
+  defines = λ j region d at s. defined_sound k b j region d s;
   requires = λ j name d behind s. record {
     words = s.words;
     own = λ r n e found. elim (defined_either j 0 name d r n e found) [
@@ -238,6 +241,7 @@ sound_lasts k b = record {
 pub sound_all : (k : Known) (b : BlockTree) → Declaring (IsOfText k b) (Sound k b)
 sound_all k b = record {
   kept = sound_lasts k b;
+  ends = defined_sound k b;
   declares = λ j region value token s.
       alike k b j (and_label j region value token) refl (λ r n d e. sym (label_defined j region value token r n) ∙ e) (λ n. refl) s;
   labels = λ j token value level s. put_sound k b j token (Row.Name (NameRow.Label false value level 0)) (λ function block e. absurd (no_name e))

@@ -25,7 +25,7 @@ use Rattle.rule_laws.proofs.Gives.{Gives, gives_both, gives_first, gives_none, g
 use Rattle.rule_laws.proofs.LabelTold.{Anywhere, Inside, IsWhere, Seen, Where, Wrong, anywhere, everywhere}
 use Rattle.rule_laws.proofs.Listed.{Listed, each_listed, listed_left, listed_right}
 use Rattle.rule_laws.proofs.TextTables.{IsHome, Labelled, Labelling, Programs, Tidy, defines_first, labelling, outer_frame, program_walked}
-use Rattle.rule_laws.proofs.Touches.{Same, Touches, bind-touches, enter_block-touches, give-touches, late-touches, look-touches, same_in, same_then}
+use Rattle.rule_laws.proofs.Touches.{Same, Touches, bind-touches, enter_block-touches, give-touches, look-touches, result-touches, same_in, same_then}
 use Rattle.rule_laws.specs.{BlockLabels.compound_labels, CaseLaws.late_at, NameLaws.block_labels, RegionNames.labels_of}
 use Rattle.rule_laws.specs.TextLaws.{MarksAreTold, TextsTellMarks, UndeclaredAreTold, all_labels, all_labels_in, has_label, labels_in_body, labels_in_routine}
 use Rattle.rule_laws.specs.TextLaws.{labels_in_routines, statement_labels, statement_labels_in}
@@ -46,10 +46,10 @@ statement_part-touches frame span c = bind-touches (enter_block-touches span) (�
 
 function_result-touches : (function : Bool) (name : ℕ) → Touches Anywhere loose (function_result function name)
 unfolding function_result
-function_result-touches function name = bind-touches (look-touches (λ k. has_result k function name)) (λ fine. late-touches 12 name fine refl (anywhere name))
+function_result-touches function name = bind-touches (look-touches (λ k. has_result k function name)) (λ fine. result-touches refl name fine (anywhere name))
 
 mutual
-  code_block-touches : (frame : ℕ) (b : BlockTree) → Touches Anywhere loose (code_block frame b)
+  pub code_block-touches : (frame : ℕ) (b : BlockTree) → Touches Anywhere loose (code_block frame b)
   code_block-touches frame (tree.a_block labels constants types variables routines body) =
       bind-touches (reach_all-touches frame (compound_body body) (everywhere (statements_node (compound_body body)))) (λ _.
       bind-touches (code_routines-touches routines) (λ _.
@@ -333,7 +333,8 @@ starts l t =
       declared = p.walked.valued.declared;
     }
 
-starts_outward : (l : Lexed) (t : ProgramTree) → Starts l t → Outward (program_step t (known_at_start l)).known.frames (program_step t (known_at_start l)).value
+pub starts_outward : (l : Lexed) (t : ProgramTree) → Starts l t
+    → Outward (program_step t (known_at_start l)).known.frames (program_step t (known_at_start l)).value
 starts_outward l t s = s.programs.walked.outward (program_step t (known_at_start l)).value refl
 
 -- what the statements of a text give

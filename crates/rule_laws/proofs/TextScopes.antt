@@ -19,21 +19,23 @@ use Rattle.decl_checker.specs.Programs.{define_program, main_row, open_program, 
 use Rattle.decl_checker.specs.Routines.{add_heading, block, body_in, define_body, define_completion, define_inside, enter_at, enter_heading, first_heading}
 use Rattle.decl_checker.specs.Routines.{first_name, heading_row, one_deeper, open_routine, own_frame, routine, routines_in}
 use Rattle.rule_laws.proofs.{Breaks.Each, Faces.row_either, LastsFormals.define_formals_at-lasts, LastsHeadings.signature-lasts}
-use Rattle.rule_laws.proofs.{LastsParameters.program_parameters-lasts, LastsPrograms.define_program-lasts, LastsPrograms.open_program-lasts}
-use Rattle.rule_laws.proofs.{LastsRequired.all_names-lasts, LastsRequired.ordinal_types-lasts, LastsRoutineParts.define_routines-lasts}
-use Rattle.rule_laws.proofs.{LastsRoutines.after_completion, LastsRoutines.block_each, LastsRoutines.enter_heading-lasts, LastsStatements.compound_uses-lasts}
-use Rattle.rule_laws.proofs.{Listed.Listed, Listed.each_at, Listed.each_listed, Regions.label_either, Regions.label_frame, Regions.last_region, TextFields.Any}
-use Rattle.rule_laws.proofs.{TextFields.any_each, TextNames.start_sound, TextTables.OfOther, TextTables.each_next, TextTables.outer_frame, Touches.Longer}
+use Rattle.rule_laws.proofs.{LastsParameters.program_parameters-lasts, LastsPrograms.open_program-lasts, LastsRequired.all_names-lasts}
+use Rattle.rule_laws.proofs.{LastsRequired.ordinal_types-lasts, LastsRoutineParts.define_routines-lasts, LastsRoutines.after_completion}
+use Rattle.rule_laws.proofs.{LastsStatements.compound_uses-lasts, Listed.Listed, Listed.each_at, Listed.each_listed, PartTurns.NoRoutine, PartTurns.Orderly}
+use Rattle.rule_laws.proofs.{PartTurns.orderly_lasts, Regions.label_either, Regions.label_frame, Regions.last_region, TextFields.Any, TextFields.any_each}
+use Rattle.rule_laws.proofs.{TextHeadings.IsOfText, TextTables.OfOther, TextTables.each_next, TextTables.outer_frame, Touches.Longer}
 use Rattle.rule_laws.proofs.Chains.{AndPlain, Below, Chain, IsLevel, IsPlain, Names, Scope, Site, Sites, SitesBody, SitesPart, SitesRoutine, Ways}
 use Rattle.rule_laws.proofs.Keeping.{Keeps, ask-keeps, bind-keeps, give-keeps, look-keeps, put-keeps}
-use Rattle.rule_laws.proofs.Lasting.{Lasting, declare_in-keeps, each_of-lasts, is_quiet, with_completion}
+use Rattle.rule_laws.proofs.Lasting.{Ends, Lasting, declare_in-keeps, each_of-lasts, is_quiet, with_completion}
 use Rattle.rule_laws.proofs.LastsBlocks.{define_constants-lasts, define_types-lasts, define_variables-lasts, parts-lasts, put_body-lasts}
 use Rattle.rule_laws.proofs.Laters.{Held, Kept, Later, Way, got_below, held_here, held_on, held_up, kept_definition, kept_frame, kept_label, kept_less}
 use Rattle.rule_laws.proofs.Laters.{kept_program, kept_region, longer_length, way_later, way_map, way_new}
+use Rattle.rule_laws.proofs.PartWalk.{Fresh, fresh_is_clean, heading_stays, routine_stated}
+use Rattle.rule_laws.proofs.Seats.{ForwardKind, Seats, SeatsIn, SeatsInside, SeatsOf, SecondKind, SomeAt, SplitKind, some_map}
 use Rattle.rule_laws.proofs.Standing.{Stands, got_still, no_frame, opened, stands_at}
-use Rattle.rule_laws.proofs.TextHeadings.{IsOfText, Sound, sound_all, sound_lasts}
-use Rattle.rule_laws.specs.{ForwardHeadings.routines_in as listed, NameLaws.block_labels, RegionNames.labels_of, TextLaws.IsNeverForward}
-use Rattle.rule_laws.specs.{TextLaws.labels_in_body, TextParts.OfBody, TextParts.OfEach, TextParts.OfRoutine, TextParts.OfRoutines}
+use Rattle.rule_laws.proofs.TextBlocks.{Whole, program_stays, start_orderly}
+use Rattle.rule_laws.specs.{ForwardHeadings.routines_in as listed, NameLaws.block_labels, RegionNames.labels_of, TextLaws.labels_in_body}
+use Rattle.rule_laws.specs.TextParts.{OfBody, OfEach, OfRoutine, OfRoutines}
 
 -- ---- the tables of a text
 
@@ -138,7 +140,7 @@ view_lasts p b = record {
   routines = λ j r s. view_same p b j (and_routine j r) (kept_program (length j.regions) j (and_routine j r) refl refl) (λ x. refl) s;
   frames = λ j f s. view_same p b j (and_frame j f) (kept_frame j f) (λ x. refl) s;
   regions = λ j token f s. view_same p b j (and_region j token f) (kept_region j token f) (λ x. refl) s;
-  defines = λ j region d s. view_same p b j (and_definition j region (name_at j d.token) d) (kept_definition j region (name_at j d.token) d) (λ x. refl) s;
+  defines = λ j region d at s. view_same p b j (and_definition j region (name_at j d.token) d) (kept_definition j region (name_at j d.token) d) (λ x. refl) s;
   requires = λ j name d behind s. view_same p b j (and_definition j 0 name d) (kept_definition j 0 name d) (λ x. refl) s;
   chooses = λ j list v s. view_same p b j (and_choice j list v) (kept_program (length j.regions) j (and_choice j list v) refl refl) (λ x. refl) s;
   records = λ j word packed region cells variants fresh s. view_row p b j word (Row.Type (TypeRow.Record packed region cells variants))
@@ -176,6 +178,12 @@ opening_in : (p : Walk) (b n : ℕ) (f : Frame) (Q : ℕ → Type 0) (i j : Know
     → Opening p b n f Q i → Opening p b n f Q j
 opening_in p b n f Q i j regions frames view s = opening_on p b n f Q i j (kept_program (length i.regions) i j regions frames) view s
 
+opening_ends : (p : Walk) (b n : ℕ) (f : Frame) (Q : ℕ → Type 0) → Ends (Opening p b n f Q)
+opening_ends p b n f Q j region d s =
+    let i = and_definition j region (name_at j d.token) d in
+    let later = kept_definition j region (name_at j d.token) d in
+    opening_on p b n f Q j i later (view_same p b j i later (λ x. refl) s.view) s
+
 opening_lasts : {G : RoutineTree → Type 0} (p : Walk) (b n : ℕ) (f : Frame) (Q : ℕ → Type 0) → Lasting G (Opening p b n f Q)
 opening_lasts {G = G} p b n f Q =
     let c : Lasting G (View p b) = view_lasts p b in
@@ -186,8 +194,7 @@ opening_lasts {G = G} p b n f Q =
       routines = λ j r s. opening_in p b n f Q j (and_routine j r) refl refl (c.routines j r s.view) s;
       frames = λ j g s. opening_on p b n f Q j (and_frame j g) (kept_frame j g) (c.frames j g s.view) s;
       regions = λ j token g s. opening_on p b n f Q j (and_region j token g) (kept_region j token g) (c.regions j token g s.view) s;
-      defines = λ j region d s. opening_on p b n f Q j (and_definition j region (name_at j d.token) d)
-          (kept_definition j region (name_at j d.token) d) (c.defines j region d s.view) s;
+      defines = λ j region d at s. opening_ends p b n f Q j region d s;
       requires = λ j name d behind s. opening_on p b n f Q j (and_definition j 0 name d) (kept_definition j 0 name d) (c.requires j name d behind s.view) s;
       chooses = λ j list v s. opening_in p b n f Q j (and_choice j list v) refl refl (c.chooses j list v s.view) s;
       records = λ j word packed region cells variants fresh s.
@@ -265,8 +272,8 @@ define_block-opening p b n f Q (tree.a_block labels consts kinds variable_part r
       subst (λ (here : Frame). Opening p b n f Q ((define_labels here labels >>= λ _. define_constants here.region consts >>= λ _.
       define_types here.region kinds >>= λ _. define_variables here.region variable_part >>= λ _. define_routines here.region routines) j).known)
       (sym (stands_at n f j s.stands))
-      ((bind-keeps (define_labels-opening p b n f Q labels all) (λ _. bind-keeps (define_constants-lasts c f.region consts) (λ _.
-      bind-keeps (define_types-lasts c f.region kinds) (λ _. bind-keeps (define_variables-lasts c f.region variable_part) (λ _.
+      ((bind-keeps (define_labels-opening p b n f Q labels all) (λ _. bind-keeps (define_constants-lasts (opening_ends p b n f Q) f.region consts) (λ _.
+      bind-keeps (define_types-lasts c (opening_ends p b n f Q) f.region kinds) (λ _. bind-keeps (define_variables-lasts c f.region variable_part) (λ _.
       define_routines-lasts c f.region routines (any_each (listed routines))))))).of j s);
 }
 
@@ -469,17 +476,19 @@ got_at [] n below = absurd (omega (arith, below))
 got_at (y ∷ ys) zero below = record { frame = y; is = refl }
 got_at (y ∷ ys) (suc n) below = let g = got_at ys n (omega (arith, below)) in record { frame = g.frame; is = g.is }
 
--- a heading that completes another has the name of a forward heading
-completes_some : (k : Known) (t : BlockTree) (j : Known) (x first : ℕ) (r : Row) → Sound k t j → row_at j x ≡ r → first_name r ≡ Some first
-    → IsNeverForward k t (name_at k x) → ⊥
-completes_some k t j x first (Row.Part (PartRow.Completing m)) s e is none = s.completing x m e none
-completes_some k t j x first r s e is none = none-some first is
+-- one that completes another has the block of a forward heading
+completes_some : (k : Known) (t : BlockTree) (j : Known) (x first : ℕ) (r : Row) → Orderly k t j → row_at j x ≡ r → first_name r ≡ Some first
+    → SomeAt (SplitKind k) x t
+completes_some k t j x first (Row.Part (PartRow.Completing m)) s e is =
+    some_map (SecondKind k) (SplitKind k) x t (λ before r second. inr second) (s.marked.completing x m e)
+completes_some k t j x first r s e is = absurd (none-some first is)
 
--- and one that another completes
-stands_alone : (k : Known) (t : BlockTree) (j : Known) (rs : RoutineTrees) (x : ℕ) (r : Row) → Sound k t j → row_at j x ≡ r
-    → IsNeverForward k t (name_at k x) → routine_if_any rs (block_in r) ≡ None
-stands_alone k t j rs x (Row.Part (PartRow.Forward function o)) s e none = absurd ((s.forward x function o e).directed none)
-stands_alone k t j rs x r s e none = refl
+-- and one that another completes is forward
+stands_alone : (k : Known) (t : BlockTree) (j : Known) (rs : RoutineTrees) (x : ℕ) (r : Row) → Orderly k t j → row_at j x ≡ r
+    → (SomeAt (SplitKind k) x t → ⊥) → routine_if_any rs (block_in r) ≡ None
+stands_alone k t j rs x (Row.Part (PartRow.Forward function o)) s e plain = absurd (plain
+    (some_map (ForwardKind k function) (SplitKind k) x t (λ before r forward. inl forward.0) (s.marked.forward x function o e)))
+stands_alone k t j rs x r s e plain = refl
 
 abbrev SiteParts : Chain → Type 0 → ℕ → RoutineTree → Type 0
 SiteParts c On n r =
@@ -502,14 +511,14 @@ site_any c On n rs (Some at) h = site_at c On n rs at h
 
 at_view : (p : Walk) (On : Type 0) (b : ℕ) (q : Option ℕ) (around a : ℕ) (rs : RoutineTrees) (r : RoutineTree) (j : Known)
     → first_name (row_at j (routine_name r)) ≡ q → p.S around a → (On → p.T around a) → SitesPart p.c On a rs → SiteParts p.c On a r
-    → Sound p.c.k p.c.t j → View p b j → let d = enter_at q around rs r j in Enter p (AndPlain p.c On r) (routine_body r) d.value.frame d.known
+    → Orderly p.c.k p.c.t j → View p b j → let d = enter_at q around rs r j in Enter p (AndPlain p.c On r) (routine_body r) d.value.frame d.known
 unfolding first_heading look ◌>>=◌
 at_view p On b None around a rs r j is around-in path-in part sites sound s =
     opened_view p (AndPlain p.c On r) b around a r (completion_of j rs r) j around-in (λ on. path-in on.0) sites.0 sites.1
     (site_any p.c On a rs (block_in (row_at j (routine_name r))) part)
     (λ on. stands_alone p.c.k p.c.t j rs (routine_name r) (row_at j (routine_name r)) sound refl on.1) s
 at_view p On b (Some first) around a rs r j is around-in path-in part sites sound s =
-    let off : IsPlain p.c r → ⊥ = completes_some p.c.k p.c.t j (routine_name r) first (row_at j (routine_name r)) sound refl is in
+    let off : IsPlain p.c r → ⊥ = λ plain. plain (completes_some p.c.k p.c.t j (routine_name r) first (row_at j (routine_name r)) sound refl is) in
     let got = got_at j.frames (own_frame j first) (own_there p b j first (row_at j first) refl s) in
     record {
       level = got.frame.level;
@@ -536,7 +545,7 @@ at_view p On b (Some first) around a rs r j is around-in path-in part sites soun
     }
 
 enter_view : (p : Walk) (On : Type 0) (b around a : ℕ) (rs : RoutineTrees) (r : RoutineTree) (j : Known) → p.S around a → (On → p.T around a)
-    → SitesPart p.c On a rs → SiteParts p.c On a r → Sound p.c.k p.c.t j → View p b j
+    → SitesPart p.c On a rs → SiteParts p.c On a r → Orderly p.c.k p.c.t j → View p b j
     → let d = enter_heading around rs r j in Enter p (AndPlain p.c On r) (routine_body r) d.value.frame d.known
 unfolding enter_heading look ◌>>=◌
 enter_view p On b around a rs r j around-in path-in part sites sound s =
@@ -545,47 +554,43 @@ enter_view p On b around a rs r j around-in path-in part sites sound s =
 -- ---- blocks
 
 pub record World (p : Walk) (j : Known) : Type 0 where
-  pub sound : Sound p.c.k p.c.t j
+  pub orderly : Orderly p.c.k p.c.t j
   pub bound : ℕ
   pub view : View p bound j
 
-world_lasts : (p : Walk) → Lasting (IsOfText p.c.k p.c.t) (World p)
+world_lasts : (p : Walk) → Lasting NoRoutine (World p)
 world_lasts p =
-    let G = IsOfText p.c.k p.c.t in
-    let c = sound_lasts p.c.k p.c.t in
+    let G = NoRoutine in
+    let c = orderly_lasts p.c.k p.c.t in
     let e : (b : ℕ) → Lasting G (View p b) = λ b. view_lasts p b in
     record {
-      puts = λ j m r quiet s. record { sound = c.puts j m r quiet s.sound; bound = s.bound; view = (e s.bound).puts j m r quiet s.view };
-      stays = λ j m s. record { sound = c.stays j m s.sound; bound = s.bound; view = (e s.bound).stays j m s.view };
-      bodies = λ j n r same s. record { sound = c.bodies j n r same s.sound; bound = s.bound; view = (e s.bound).bodies j n r same s.view };
-      routines = λ j r s. record { sound = c.routines j r s.sound; bound = s.bound; view = (e s.bound).routines j r s.view };
-      frames = λ j f s. record { sound = c.frames j f s.sound; bound = s.bound; view = (e s.bound).frames j f s.view };
-      regions = λ j token f s. record { sound = c.regions j token f s.sound; bound = s.bound; view = (e s.bound).regions j token f s.view };
-      defines = λ j region d s. record { sound = c.defines j region d s.sound; bound = s.bound; view = (e s.bound).defines j region d s.view };
+      puts = λ j m r quiet s. record { orderly = c.puts j m r quiet s.orderly; bound = s.bound; view = (e s.bound).puts j m r quiet s.view };
+      stays = λ j m s. record { orderly = c.stays j m s.orderly; bound = s.bound; view = (e s.bound).stays j m s.view };
+      bodies = λ j n r same s. record { orderly = c.bodies j n r same s.orderly; bound = s.bound; view = (e s.bound).bodies j n r same s.view };
+      routines = λ j r s. record { orderly = c.routines j r s.orderly; bound = s.bound; view = (e s.bound).routines j r s.view };
+      frames = λ j f s. record { orderly = c.frames j f s.orderly; bound = s.bound; view = (e s.bound).frames j f s.view };
+      regions = λ j token f s. record { orderly = c.regions j token f s.orderly; bound = s.bound; view = (e s.bound).regions j token f s.view };
+      defines = λ j region d at s. record { orderly = c.defines j region d at s.orderly; bound = s.bound; view = (e s.bound).defines j region d at s.view };
       requires = λ j name d behind s. record {
-        sound = c.requires j name d behind s.sound;
+        orderly = c.requires j name d behind s.orderly;
         bound = s.bound;
         view = (e s.bound).requires j name d behind s.view;
       };
-      chooses = λ j list v s. record { sound = c.chooses j list v s.sound; bound = s.bound; view = (e s.bound).chooses j list v s.view };
+      chooses = λ j list v s. record { orderly = c.chooses j list v s.orderly; bound = s.bound; view = (e s.bound).chooses j list v s.view };
       records = λ j word packed region cells variants fresh s. record {
-        sound = c.records j word packed region cells variants (record {
+        orderly = c.records j word packed region cells variants (record {
           before = fresh.before;
-          held = fresh.held.sound;
+          held = fresh.held.orderly;
           opened = fresh.opened;
           there = fresh.there;
           none = fresh.none;
-        }) s.sound;
+        }) s.orderly;
         bound = s.bound;
         view = view_row p s.bound j word (Row.Type (TypeRow.Record packed region cells variants)) (λ marked v l ways x. absurd (no_type x))
             (λ assigned n at x. absurd (no_type x)) s.view;
       };
-      waits = λ j r g none s. record { sound = c.waits j r g none s.sound; bound = s.bound; view = (e s.bound).waits j r g none s.view };
-      completes = λ j region first position r g x s. record {
-        sound = c.completes j region first position r g x s.sound;
-        bound = s.bound;
-        view = (e s.bound).completes j region first position r g x s.view;
-      };
+      waits = λ j r g none s. absurd g;
+      completes = λ j region first position r g x s. absurd g;
     }
 
 -- a procedure or function is left
@@ -599,7 +604,7 @@ outside p On g n b j s = record {
   many = s.many;
 }
 
-then_world : {p : Walk} {On : Type 0} {body : BodyTree} (m : Step Entered) (f : Entered → Step (Unit {0})) → Keeps (Sound p.c.k p.c.t) m
+then_world : {p : Walk} {On : Type 0} {body : BodyTree} (m : Step Entered) (f : Entered → Step (Unit {0})) → Keeps (Orderly p.c.k p.c.t) m
     → ((j : Known) → World p j → Enter p On body (m j).value.frame (m j).known)
     → ((e : Entered) (level : ℕ) → SitesBody p.c On level body → Keeps (World (inner p On e.frame level)) (f e)) → Keeps (World p) (m >>= f)
 unfolding ◌>>=◌
@@ -607,39 +612,43 @@ then_world {p = p} {On = On} m f kept enters inside = record {
   of = λ j s.
       let d = m j in
       let x = enters j s in
-      let w = (inside d.value x.level x.sites).of d.known (record { sound = kept.of j s.sound; bound = x.bound; view = x.view }) in
-      record { sound = w.sound; bound = w.bound; view = outside p On d.value.frame x.level w.bound (f d.value d.known).known w.view };
+      let w = (inside d.value x.level x.sites).of d.known (record { orderly = kept.of j s.orderly; bound = x.bound; view = x.view }) in
+      record { orderly = w.orderly; bound = w.bound; view = outside p On d.value.frame x.level w.bound (f d.value d.known).known w.view };
 }
 
 mutual
   block_world : (p : Walk) (On : Type 0) (a frame number place : ℕ) (b : BlockTree) → p.S frame a → (On → p.T frame a) → Sites p.c On a b
-      → OfRoutines (IsOfText p.c.k p.c.t) b → Keeps (World p) (block frame number place b)
-  block_world p On a frame number place (tree.a_block labels constants types variables routines body) frame-in path-in sites all =
+      → OfRoutines (IsOfText p.c.k p.c.t) b → Seats p.c.t b → Keeps (World p) (block frame number place b)
+  block_world p On a frame number place (tree.a_block labels constants types variables routines body) frame-in path-in sites all seats =
       bind-keeps (parts-lasts (world_lasts p) frame place (tree.a_block labels constants types variables routines body)) (λ end.
       bind-keeps (put_body-lasts (world_lasts p) number end (compound_word body)) (λ _.
-      bind-keeps (part_world p On a frame routines routines frame-in path-in sites sites all all) (λ _. compound_uses-lasts (world_lasts p) frame body)))
+      bind-keeps (part_world p On a frame [] routines routines frame-in path-in sites sites all seats all seats)
+      (λ _. compound_uses-lasts (world_lasts p) frame body)))
 
-  part_world : (p : Walk) (On : Type 0) (a frame : ℕ) (rs part : RoutineTrees) → p.S frame a → (On → p.T frame a) → SitesPart p.c On a rs
-      → SitesPart p.c On a part → OfEach (IsOfText p.c.k p.c.t) rs → OfEach (IsOfText p.c.k p.c.t) part → Keeps (World p) (routines_in frame rs part)
-  part_world p On a frame rs tree.end_of_routines frame-in path-in sites part-sites all part-all = give-keeps tt
-  part_world p On a frame rs (tree.more_routines r rest) frame-in path-in sites part-sites all part-all =
-      bind-keeps (routine_world p On a frame rs r frame-in path-in sites part-sites.0 all part-all.0)
-      (λ _. part_world p On a frame rs rest frame-in path-in sites part-sites.1 all part-all.1)
+  part_world : (p : Walk) (On : Type 0) (a frame : ℕ) (before : List RoutineTree) (rs part : RoutineTrees) → p.S frame a → (On → p.T frame a)
+      → SitesPart p.c On a rs → SitesPart p.c On a part → OfEach (IsOfText p.c.k p.c.t) rs → SeatsIn p.c.t [] rs → OfEach (IsOfText p.c.k p.c.t) part
+      → SeatsIn p.c.t before part → Keeps (World p) (routines_in frame rs part)
+  part_world p On a frame before rs tree.end_of_routines frame-in path-in sites part-sites all seats part-all part-seats = give-keeps tt
+  part_world p On a frame before rs (tree.more_routines r rest) frame-in path-in sites part-sites all seats part-all part-seats =
+      bind-keeps (routine_world p On a frame before rs r frame-in path-in sites part-sites.0 all seats part-all.0 part-seats.0)
+      (λ _. part_world p On a frame (before ++ r ∷ []) rs rest frame-in path-in sites part-sites.1 all seats part-all.1 part-seats.1)
 
-  routine_world : (p : Walk) (On : Type 0) (a frame : ℕ) (rs : RoutineTrees) (r : RoutineTree) → p.S frame a → (On → p.T frame a) → SitesPart p.c On a rs
-      → SitesRoutine p.c On a r → OfEach (IsOfText p.c.k p.c.t) rs → OfRoutine (IsOfText p.c.k p.c.t) r → Keeps (World p) (routine frame rs r)
-  routine_world p On a frame rs (tree.a_routine heading semicolon body last_semicolon) frame-in path-in sites own all r-all =
+  routine_world : (p : Walk) (On : Type 0) (a frame : ℕ) (before : List RoutineTree) (rs : RoutineTrees) (r : RoutineTree) → p.S frame a
+      → (On → p.T frame a) → SitesPart p.c On a rs → SitesRoutine p.c On a r → OfEach (IsOfText p.c.k p.c.t) rs → SeatsIn p.c.t [] rs
+      → OfRoutine (IsOfText p.c.k p.c.t) r → SeatsOf p.c.t before r → Keeps (World p) (routine frame rs r)
+  routine_world p On a frame before rs (tree.a_routine heading semicolon body last_semicolon) frame-in path-in sites own all seats r-all r-seats =
       let r = tree.a_routine heading semicolon body last_semicolon in
       let P = AndPlain p.c On r in
       then_world {p = p} {On = P} {body = body} (enter_heading frame rs r) (λ e. body_in e body)
-      (enter_heading-lasts (sound_all p.c.k p.c.t) frame rs r all r-all.1)
-      (λ j s. enter_view p On s.bound frame a rs r j frame-in path-in sites own s.sound s.view)
-      (λ e level inside. body_world (inner p P e.frame level) P level e body (inr (refl, refl)) (λ on. inr (refl, refl, on)) inside r-all.1)
+      (heading_stays p.c.k p.c.t frame before rs r all seats (routine_stated p.c.k p.c.t before r r-all r-seats))
+      (λ j s. enter_view p On s.bound frame a rs r j frame-in path-in sites own s.orderly s.view)
+      (λ e level inside. body_world (inner p P e.frame level) P level e body (inr (refl, refl)) (λ on. inr (refl, refl, on)) inside r-all.1 r-seats.1)
 
   body_world : (p : Walk) (On : Type 0) (a : ℕ) (e : Entered) (body : BodyTree) → p.S e.frame a → (On → p.T e.frame a) → SitesBody p.c On a body
-      → OfBody (IsOfText p.c.k p.c.t) body → Keeps (World p) (body_in e body)
-  body_world p On a e (tree.a_directive directive) frame-in path-in sites all = give-keeps tt
-  body_world p On a e (tree.a_block_body b) frame-in path-in sites all = block_world p On a e.frame e.number e.place b frame-in path-in sites all
+      → OfBody (IsOfText p.c.k p.c.t) body → SeatsInside p.c.t body → Keeps (World p) (body_in e body)
+  body_world p On a e (tree.a_directive directive) frame-in path-in sites all seats = give-keeps tt
+  body_world p On a e (tree.a_block_body b) frame-in path-in sites all seats =
+      block_world p On a e.frame e.number e.place b frame-in path-in sites all seats
 
 -- ---- programs
 
@@ -697,9 +706,9 @@ defined_opening p b n f Q t all = bind-keeps (look-keeps (λ k. (frame_at k n).r
     bind-keeps (program_parameters-lasts (opening_lasts {G = Any} p b n f Q) region t.parameters) (λ _. define_block-opening p b n f Q t.block all))
 
 pub program_world : (l : Lexed) (t : ProgramTree) → let c : Chain = record { k = known_at_start l; t = t.block } in
-    Ways c → OfRoutines (IsOfText c.k c.t) t.block → World (outermost_walk c) (program_step t (known_at_start l)).known
+    Ways c → Whole l t → World (outermost_walk c) (program_step t (known_at_start l)).known
 unfolding program_step open_program extend give ◌>>=◌
-program_world l t ways all =
+program_world l t ways text =
     let c : Chain = record { k = known_at_start l; t = t.block } in
     let p = outermost_walk c in
     let o = open_outermost (known_at_start l) in
@@ -723,13 +732,13 @@ program_world l t ways all =
     let way = way_new Never Q e n 0 f two.stands.there two.stands.below outer less (way_later Never 0 h.before e h.later h.is.way) two.mine in
     let path : Way (λ d. Below c 1 d) n e = way_map (λ d. Q d ⊎ Never d) (λ d. Below c 1 d) n e (λ d x. own_below c ways d x) way in
     let view = closed p 1 n f Q e (Unit {0}) 0 refl (λ on. path) two in
-    let listed_all = block_each (IsOfText c.k c.t) t.block all in
-    let sound_start = (open_program-lasts (sound_lasts c.k c.t)).of (known_at_start l) (start_sound l t.block) in
-    let sound_one = (define_program-lasts (sound_all c.k c.t) n t listed_all).of i sound_start in
-    let sound = (sound_lasts c.k c.t).routines a.known (main_row t.name) sound_one in
+    let sound_start = (open_program-lasts (orderly_lasts c.k c.t)).of (known_at_start l) (start_orderly l t.block) in
+    let fresh : Fresh t.block n f i = record { stands = opened j 0 f refl; clean = fresh_is_clean t.block j 0 f } in
+    let sound_one = program_stays c.k t n f i text.distinct text.stated sound_start fresh in
+    let sound = (orderly_lasts c.k c.t).routines a.known (main_row t.name) sound_one in
     let end = (block_world (inner p (Unit {0}) n 0) (Unit {0}) 0 n (length a.known.program.routines) 1 t.block (inr (refl, refl))
-    (λ on. inr (refl, refl, on)) ways.sites all).of e (record { sound = sound; bound = length e.regions; view = view }) in
-    record { sound = end.sound; bound = end.bound; view = outside p (Unit {0}) n 0 end.bound _ end.view }
+    (λ on. inr (refl, refl, on)) ways.sites text.all text.seats).of e (record { orderly = sound; bound = length e.regions; view = view }) in
+    record { orderly = end.orderly; bound = end.bound; view = outside p (Unit {0}) n 0 end.bound _ end.view }
   where
     own_below : (c : Chain) → Ways c → (d : ℕ) → Listed (block_labels c.t) d ⊎ Never d → Below c 1 d
     own_below c ways d (inl h) l level = let same = ways.fixed d l h level in omega (arith, same)

@@ -26,7 +26,7 @@ use Rattle.rule_laws.proofs.{LastsRequired.ordinal_types-lasts, LastsRoutinePart
 use Rattle.rule_laws.proofs.{LastsRoutines.routine_own, LastsStatements.compound_uses-lasts, Outward.Outward, Outward.outward_first, Outward.outward_more}
 use Rattle.rule_laws.proofs.{Outward.outward_new, TextFields.Any, TextFields.any_each, Touches.Longer, Touches.longer_still, Touches.no_longer}
 use Rattle.rule_laws.proofs.Keeping.{Keeps, ask-keeps, bind-keeps, give-keeps, look-keeps, put-keeps}
-use Rattle.rule_laws.proofs.Lasting.{Lasting, declare_in-keeps, each_of-lasts, is_quiet}
+use Rattle.rule_laws.proofs.Lasting.{Declaring, Ends, Lasting, declare_in-keeps, each_of-lasts, is_quiet}
 use Rattle.rule_laws.proofs.LastsBlocks.{define_constants-lasts, define_types-lasts, define_variables-lasts, parts-lasts, put_body-lasts}
 use Rattle.rule_laws.proofs.Regions.{definition_frame, definition_labels, label_either, label_frame, label_labels, last_region, region_before, region_labels}
 use Rattle.rule_laws.proofs.Standing.{Stands, opened, standing, standing_all, stands_at}
@@ -157,7 +157,7 @@ tidy_lasts = record {
     first = home_framed j f 0 s.first;
   };
   regions = λ j token f s. region_tidy j token f s;
-  defines = λ j region d s. definition_tidy j region (name_at j d.token) d s;
+  defines = λ j region d at s. definition_tidy j region (name_at j d.token) d s;
   requires = λ j name d behind s. definition_tidy j 0 name d s;
   chooses = λ j list value s. record {
     typed = λ n region e. (let x = s.typed n region e in record { there = x.there; none = x.none });
@@ -232,7 +232,7 @@ valued_lasts y = record {
     below = λ region v d less e. s.below region v d less (region_labels j token g region v d e);
     frames = one_more y.frames j.frames g s.frames;
   };
-  defines = λ j at d s. valued_definition y j at (name_at j d.token) d s;
+  defines = λ j region d at s. valued_definition y j region (name_at j d.token) d s;
   requires = λ j name d behind s. valued_definition y j 0 name d s;
   chooses = λ j list value s. record { words = s.words; declared = s.declared; many = s.many; below = s.below; frames = s.frames };
   records = λ j word packed region cells variants fresh s. valued_row y j word (Row.Type (TypeRow.Record packed region cells variants)) s;
@@ -263,7 +263,7 @@ walked_lasts {G = G} y S =
         valued = e.regions j token f s.valued;
         outward = λ g g-in. outward_more j.frames f g (s.outward g g-in);
       };
-      defines = λ j region d s. record { tidy = c.defines j region d s.tidy; valued = e.defines j region d s.valued; outward = s.outward };
+      defines = λ j region d at s. record { tidy = c.defines j region d at s.tidy; valued = e.defines j region d at s.valued; outward = s.outward };
       requires = λ j name d behind s. record { tidy = c.requires j name d behind s.tidy; valued = e.requires j name d behind s.valued; outward = s.outward };
       chooses = λ j list value s. record { tidy = c.chooses j list value s.tidy; valued = e.chooses j list value s.valued; outward = s.outward };
       records = λ j word packed region cells variants fresh s. record {
@@ -302,6 +302,19 @@ put_free j m r at none free n e = elim (row_either j m n r) [
   | inr new ↦ none (sym (ap (λ q. fields_in (type_in q)) new.1) ∙ e)
 ]
 
+open_ends : (y : Labelling) (S : ℕ → Type 0) (n : ℕ) (f : Frame) → Ends (Open y S n f)
+open_ends y S n f j region d s = record {
+  walked = record {
+    tidy = definition_tidy j region (name_at j d.token) d s.walked.tidy;
+    valued = valued_definition y j region (name_at j d.token) d s.walked.valued;
+    outward = s.walked.outward;
+  };
+  stands = (let e : Declaring Any (Stands n f) = standing_all n f in e.ends j region d s.stands);
+  own = definition_frame j region (name_at j d.token) d f.region ∙ s.own;
+  beyond = s.beyond;
+  free = s.free;
+}
+
 open_lasts : {G : RoutineTree → Type 0} (y : Labelling) (S : ℕ → Type 0) (n : ℕ) (f : Frame) → Lasting G (Open y S n f)
 open_lasts {G = G} y S n f =
     let c : Lasting G (Walked y S) = walked_lasts y S in
@@ -337,13 +350,7 @@ open_lasts {G = G} y S n f =
         beyond = s.beyond;
         free = s.free;
       };
-      defines = λ j region d s. record {
-        walked = c.defines j region d s.walked;
-        stands = e.defines j region d s.stands;
-        own = definition_frame j region (name_at j d.token) d f.region ∙ s.own;
-        beyond = s.beyond;
-        free = s.free;
-      };
+      defines = λ j region d at s. open_ends y S n f j region d s;
       requires = λ j name d behind s. record {
         walked = c.requires j name d behind s.walked;
         stands = e.requires j name d behind s.stands;
@@ -502,8 +509,8 @@ define_block-open y S n f (tree.a_block labels consts kinds variable_part routin
       subst (λ (here : Frame). Open y S n f ((define_labels here labels >>= λ _. define_constants here.region consts >>= λ _.
       define_types here.region kinds >>= λ _. define_variables here.region variable_part >>= λ _. define_routines here.region routines) j).known)
       (sym (stands_at n f j s.stands))
-      ((bind-keeps (define_labels-open y S n f labels all) (λ _. bind-keeps (define_constants-lasts c f.region consts) (λ _.
-      bind-keeps (define_types-lasts c f.region kinds) (λ _. bind-keeps (define_variables-lasts c f.region variable_part) (λ _.
+      ((bind-keeps (define_labels-open y S n f labels all) (λ _. bind-keeps (define_constants-lasts (open_ends y S n f) f.region consts) (λ _.
+      bind-keeps (define_types-lasts c (open_ends y S n f) f.region kinds) (λ _. bind-keeps (define_variables-lasts c f.region variable_part) (λ _.
       define_routines-lasts c f.region routines (any_each (listed routines))))))).of j s);
 }
 
@@ -525,7 +532,7 @@ of_own P tree.end_of_routines n h = tt
 of_own P (tree.more_routines r rest) zero h = routine_own P r h.0
 of_own P (tree.more_routines r rest) (suc n) h = of_own P rest n h.1
 
-of_any : (P : RoutineTree → Type 0) (rs : RoutineTrees) (at : Option ℕ) → OfEach P rs → OfOther P (routine_if_any rs at)
+pub of_any : (P : RoutineTree → Type 0) (rs : RoutineTrees) (at : Option ℕ) → OfEach P rs → OfOther P (routine_if_any rs at)
 of_any P rs None h = tt
 of_any P rs (Some n) h = of_own P rs n h
 

@@ -2,9 +2,10 @@
 use Rattle.std.proofs.Common.{◌++◌, ◌+◌, ◌<◌, ◌∙◌, ◌∷◌, ◌≡◌, ◌≤◌, [], ℕ, List, ap, arith, inl, inr, length, refl, subst, suc, sym}
 use Rattle.std.proofs.lemmas.List.{length-append, length-map}
 use Rattle.pas_lexer.specs.{Lexed.Lexed, declared.kinds.Token.Token}
-use Rattle.grammar.specs.Nodes.{Item, Leaf, Node, Nothing, Pair, spell}
+use Rattle.grammar.specs.Nodes.{Item, Leaf, Node, Nothing, Pair, leaf, spell}
 use Rattle.grammar.specs.declared.terminals.Terminal.{Terminal}
-use Rattle.pas_tree.specs.{BlockTrees.ProgramTree, TreeNodes.tree_node}
+use Rattle.grammar.specs.declared.terminals.Terminal.TheVariants as terminal
+use Rattle.pas_tree.specs.{BlockTrees.ProgramTree, TreeNodes.block_node, TreeNodes.parameters_node, TreeNodes.tree_node}
 use Rattle.pas_phrases.specs.Items.{items_from, numbered}
 use Rattle.pas_parser.specs.{Formed.items_of, Kinds.terminal_of, Kinds.terminals_of}
 use Rattle.check_steps.specs.Words.{known_at_start, names_of, word_of}
@@ -71,6 +72,52 @@ differ (Pair a b) n c =
 
 pub text_law : TokensDiffer
 text_law tokens t e = differ (tree_node t) 0 (subst (Counted 0) (sym e) (all_counted (terminals_of tokens)))
+
+-- ---- in the order of the text
+
+-- each token stands after those on its left
+abbrev pub IsOrdered : Node → Type 0
+IsOrdered (Leaf item) = Unit {0}
+IsOrdered Nothing = Unit {0}
+IsOrdered (Pair a b) = IsOrdered a × IsOrdered b × ((m n : ℕ) → Has a m → Has b n → m < n)
+
+ordered : (x : Node) (n : ℕ) → Counted n (spell x) → IsOrdered x
+ordered (Leaf item) n c = tt
+ordered Nothing n c = tt
+ordered (Pair a b) n c =
+    let parts = halves n (spell a) (spell b) c in (
+      ordered a n parts.0,
+      ordered b (n + length (spell a)) parts.1,
+      λ m i h g.
+          let one = (between a n m parts.0 h).before in
+          let two = (between b (n + length (spell a)) i parts.1 g).from in
+          omega (arith, one, two),
+    )
+
+pub text_ordered : (tokens : List Token) (t : ProgramTree) → spell (tree_node t) ≡ items_of tokens → IsOrdered (tree_node t)
+text_ordered tokens t e = ordered (tree_node t) 0 (subst (Counted 0) (sym e) (all_counted (terminals_of tokens)))
+
+-- a token of the program's block stands before the one after it
+pub before_dot : (tokens : List Token) (t : ProgramTree) → spell (tree_node t) ≡ items_of tokens → (m : ℕ) → Has (block_node t.block) m → m < t.dot
+before_dot tokens t e m h =
+    let dot = leaf terminal.Dot t.dot in
+    let last = leaf terminal.End t.last in
+    let block = block_node t.block in
+    let ends = Pair block (Pair dot last) in
+    let word = leaf terminal.WProgram t.word in
+    let name = leaf terminal.Name t.name in
+    let formals = parameters_node t.parameters in
+    let semicolon = leaf terminal.Semicolon t.semicolon in
+    let n = 0 + length (spell word) + length (spell name) + length (spell formals) + length (spell semicolon) in
+    let a = (halves 0 (spell word) (spell (Pair name (Pair formals (Pair semicolon ends))))
+    (subst (Counted 0) (sym e) (all_counted (terminals_of tokens)))).1 in
+    let b = (halves (0 + length (spell word)) (spell name) (spell (Pair formals (Pair semicolon ends))) a).1 in
+    let c = (halves (0 + length (spell word) + length (spell name)) (spell formals) (spell (Pair semicolon ends)) b).1 in
+    let d = (halves (0 + length (spell word) + length (spell name) + length (spell formals)) (spell semicolon) (spell ends) c).1 in
+    let parts = halves n (spell block) (spell (Pair dot last)) d in
+    let i = (between block n m parts.0 h).before in
+    let at : t.dot ≡ n + length (spell block) = parts.1.0 in
+    omega (arith, i, at)
 
 -- ---- and they are among the first ones
 

@@ -2,13 +2,15 @@
 use Rattle.std.proofs.Common.{ℕ, None, Option, Some}
 use Rattle.grammar.specs.Nodes.{Node}
 use Rattle.pas_tree.specs.{Constants.constant_node, Constants.signed_node, DenoterPlaces.first_of_constant, DenoterTrees.SectionTrees, Denoters.tag_rest_node}
+use Rattle.pas_tree.specs.{HeadingPlaces.heading_name, HeadingTrees.HeadingTree}
 use Rattle.pas_tree.specs.DenoterTrees as denoted
 use Rattle.pas_tree.specs.ExpressionPlaces.{first_of_expression, first_of_factor, first_of_members, first_of_simple, first_of_term}
 use Rattle.pas_tree.specs.ExpressionTrees.{ExpressionTree, FactorTree, MembersTree, SimpleTree, TermTree}
 use Rattle.pas_tree.specs.ExpressionTrees as expressed
+use Rattle.pas_tree.specs.HeadingTrees as headings
 use Rattle.pas_tree.specs.OperatorPlaces.{adding_token, direction_token, multiplying_token, relational_token, sign_token}
 use Rattle.pas_tree.specs.Operators.{adding_node, direction_node, multiplying_node, relational_node, sign_leaf, sign_node}
-use Rattle.pas_tree.specs.TreeNodes.{expression_node, factor_node, members_node, sections_node, simple_node, term_node}
+use Rattle.pas_tree.specs.TreeNodes.{expression_node, factor_node, heading_node, members_node, sections_node, simple_node, term_node}
 use Rattle.pas_tree.specs.declared.{constants.Constant.Constant, denoters.TagField.TagField, operators.MultiplyingOperator.MultiplyingOperator}
 use Rattle.pas_tree.specs.declared.operators.{AddingOperator.AddingOperator, Direction.Direction, RelationalOperator.RelationalOperator, Sign.Sign}
 use Rattle.rule_laws.proofs.Every.{Every, Of}
@@ -57,9 +59,13 @@ first_of_constant-in (Constant.Name (Some s) n) h = sign_token-in s h.0
 first_of_constant-in (Constant.Text n) h = h
 
 -- what stands after the sections of a fixed part
-sections_end : (Q : ℕ → Type 0) (r : SectionTrees) (end : Node) → Every Q (sections_node r end) → Every Q end
+pub sections_end : (Q : ℕ → Type 0) (r : SectionTrees) (end : Node) → Every Q (sections_node r end) → Every Q end
 sections_end Q denoted.end_of_sections end h = h
 sections_end Q (denoted.more_sections semicolon section rest) end h = sections_end Q rest end h.1.1
+
+pub heading_name-in : {Q : ℕ → Type 0} (h : HeadingTree) → Every Q (heading_node h) → Of Q (heading_name h)
+heading_name-in (headings.a_procedure (headings.procedure_heading word name formals)) h = h.1.0
+heading_name-in (headings.a_function (headings.function_heading word name formals result)) h = h.1.0
 
 pub tag_name-in : (Q : ℕ → Type 0) (f : Option TagField) (name : ℕ) → Every Q (tag_rest_node f name) → Of Q name
 tag_name-in Q None name h = h.0

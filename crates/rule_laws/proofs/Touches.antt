@@ -14,10 +14,20 @@ use Rattle.rule_laws.proofs.Faces.{Shown, Shows, face, fine_in, row_either, said
 
 -- ---- where rules are broken
 
--- At one of these tokens, but for threats by routines; and where it is `strict` it is not rule 15.
+-- a rule that definitions alone break
+abbrev pub is_of_definitions : Broken → Bool
+is_of_definitions (Early rule) = nat_eq rule 2 || nat_eq rule 8
+is_of_definitions b = false
+
+-- a rule that is told of labels in front of statements, or at the end of a function's block
+abbrev pub is_of_ends : ℕ → Bool
+is_of_ends rule = nat_eq rule 15 || nat_eq rule 12
+
+-- At one of these tokens, but for threats by routines; no rule of definitions; and where it is `strict` neither rule 15 nor 12.
 pub record Told (Q : ℕ → Type 0) (strict : Shown) (b : Break) : Type 0 where
   pub at : Of Q b.token ⊎ (number b.broken ≡ 20)
-  pub quiet : strict.marks ≡ true → nat_eq (number b.broken) 15 ≡ false
+  pub quiet : strict.marks ≡ true → is_of_ends (number b.broken) ≡ false
+  pub used : is_of_definitions b.broken ≡ false
 
 -- ---- what stays
 
@@ -47,6 +57,7 @@ pub record Same (Q : ℕ → Type 0) (strict : Shown) (k j : Known) : Type 0 whe
   pub chosen : (list : ℕ) → (Of Q list → ⊥) → (v : ℤ) → is_chosen j list v ≡ is_chosen k list v
   pub spent : (n level : ℕ) → fine_in level (row_at k n) ≡ false → fine_in level (row_at j n) ≡ false
   pub given : strict.results ≡ true → (n : ℕ) → assigned_in (row_at k n) ≡ false → assigned_in (row_at j n) ≡ false
+  pub grows : (list : ℕ) (v : ℤ) → is_chosen k list v ≡ true → is_chosen j list v ≡ true
 
 pub record Touches (Q : ℕ → Type 0) (strict : Shown) {A : Type 0} (m : Step A) : Type 0 where
   pub same : (k : Known) → Same Q strict k (m k).known
@@ -78,6 +89,7 @@ same_in k = record {
   chosen = λ list h v. refl;
   spent = λ n level e. e;
   given = λ _ n e. e;
+  grows = λ list v e. e;
 }
 
 beside_after : {Q : ℕ → Type 0} {strict : Shown} (k j : Known) → Same Q strict k j → (n : ℕ) → IsBeside Q k n → IsBeside Q j n
@@ -108,6 +120,7 @@ same_then k j i a b = record {
   chosen = λ list h v. b.chosen list h v ∙ a.chosen list h v;
   spent = λ n level e. b.spent n level (a.spent n level e);
   given = λ strictly n e. b.given strictly n (a.given strictly n e);
+  grows = λ list v e. b.grows list v (a.grows list v e);
 }
 
 -- ---- rows put
@@ -160,6 +173,7 @@ same_put {Q = Q} {strict = strict} k m r here none = record {
   chosen = λ list h v. refl;
   spent = λ n level e. put_spent k m n level r (λ _ x. unsaid_fine level r none) e;
   given = λ _ n e. put_given k m n r (λ _ x. unsaid_given r none) e;
+  grows = λ list v e. e;
 }
 
 -- the last token's row
@@ -177,6 +191,7 @@ same_end {Q = Q} {strict = strict} k r none = let m = length k.words - 1 in reco
   chosen = λ list h v. refl;
   spent = λ n level e. put_spent k m n level r (λ _ x. unsaid_fine level r none) e;
   given = λ _ n e. put_given k m n r (λ _ x. unsaid_given r none) e;
+  grows = λ list v e. e;
 }
 
 pub same_changed : {Q : ℕ → Type 0} {strict : Shown} (k : Known) (m : ℕ) (g : Row → Row) → Shows strict g → Same Q strict k (with_row k m (g (row_at k m)))
@@ -193,6 +208,7 @@ same_changed {Q = Q} {strict = strict} k m g s = let r = g (row_at k m) in recor
   chosen = λ list h v. refl;
   spent = λ n level e. put_spent k m n level r (λ at x. s.spends level (row_at k m) (ap (λ i. fine_in level (row_at k i)) (sym at) ∙ x)) e;
   given = λ strictly n e. put_given k m n r (λ at x. s.gives strictly (row_at k m) (ap (λ i. assigned_in (row_at k i)) (sym at) ∙ x)) e;
+  grows = λ list v e. e;
 }
 
 -- ---- lists of values that choose
@@ -225,6 +241,12 @@ pub other_chosen : (k : Known) (list' list : ℕ) (v' v : ℤ) → (list ≡ lis
 other_chosen k list' list v' v apart =
     unchosen k.choices (list, v) (list', v') (list_any (same_choice (list', v')) k.choices) (other_list (list, v) (list', v') apart)
 
+-- one value more leaves those that are there
+still_chosen : (cs : List (ℕ × ℤ)) (a b : ℕ × ℤ) (t : Bool) → list_any (same_choice a) cs ≡ true
+    → list_any (same_choice a) (if t then cs else cs ++ b ∷ []) ≡ true
+still_chosen cs a b true there = there
+still_chosen cs a b false there = any-last (same_choice a) cs b ∙ ap (λ t. t || same_choice a b) there
+
 same_choices : {Q : ℕ → Type 0} {strict : Shown} (k : Known) (list : ℕ) (v : ℤ) → Of Q list → Same Q strict k (and_choice k list v)
 same_choices {Q = Q} k list v here = record {
   words = refl;
@@ -239,6 +261,7 @@ same_choices {Q = Q} k list v here = record {
   chosen = λ l h w. other_chosen k list l v w (λ e. h (subst (Of Q) (sym e) here));
   spent = λ n level e. e;
   given = λ _ n e. e;
+  grows = λ l w e. still_chosen k.choices (l, w) (list, v) (list_any (same_choice (list, v)) k.choices) e;
 }
 
 -- ---- steps
@@ -271,23 +294,36 @@ unfolding ask
 asks what token true told = record { same = λ k. same_in k; told = λ k. tt }
 asks what token false told = record { same = λ k. same_in k; told = λ k. (told, tt) }
 
-pub early-touches : {Q : ℕ → Type 0} {strict : Shown} (rule token : ℕ) (ok : Bool) → nat_eq rule 15 ≡ false → Of Q token
+neither : (a b : Bool) → (a || b) ≡ false → (a ≡ false) × (b ≡ false)
+neither false b e = (refl, e)
+neither true b e = absurd (let never : true ≡ false = e in cc)
+
+pub early-touches : {Q : ℕ → Type 0} {strict : Shown} (rule token : ℕ) (ok : Bool) → (is_of_ends rule || is_of_definitions (Early rule)) ≡ false → Of Q token
     → Touches Q strict (early rule token ok)
-early-touches rule token ok quiet there = asks (Early rule) token ok (record { at = inl there; quiet = λ e. quiet })
+early-touches rule token ok quiet there =
+    let q = neither (is_of_ends rule) (is_of_definitions (Early rule)) quiet in
+    asks (Early rule) token ok (record { at = inl there; quiet = λ e. q.0; used = q.1 })
 
-pub late-touches : {Q : ℕ → Type 0} {strict : Shown} (rule token : ℕ) (ok : Bool) → nat_eq rule 15 ≡ false → Of Q token
+pub late-touches : {Q : ℕ → Type 0} {strict : Shown} (rule token : ℕ) (ok : Bool) → is_of_ends rule ≡ false → Of Q token
     → Touches Q strict (late rule token ok)
-late-touches rule token ok quiet there = asks (Late rule) token ok (record { at = inl there; quiet = λ e. quiet })
+late-touches rule token ok quiet there = asks (Late rule) token ok (record { at = inl there; quiet = λ e. quiet; used = refl })
 
--- rule 15 is not quiet, and a threat by a routine may stand elsewhere
+-- rules 15 and 12 are not quiet, and a threat by a routine may stand elsewhere
+ends-touches : {Q : ℕ → Type 0} {strict : Shown} → strict.marks ≡ false → (rule token : ℕ) (ok : Bool) → Of Q token → Touches Q strict (late rule token ok)
+ends-touches lax rule token ok there =
+    asks (Late rule) token ok (record { at = inl there; quiet = λ e. absurd (let never : false ≡ true = sym lax ∙ e in cc); used = refl })
+
 pub label-touches : {Q : ℕ → Type 0} {strict : Shown} → strict.marks ≡ false → (token : ℕ) (ok : Bool) → Of Q token → Touches Q strict (late 15 token ok)
-label-touches lax token ok there = asks (Late 15) token ok (record { at = inl there; quiet = λ e. absurd (let never : false ≡ true = sym lax ∙ e in cc) })
+label-touches lax token ok there = ends-touches lax 15 token ok there
+
+pub result-touches : {Q : ℕ → Type 0} {strict : Shown} → strict.marks ≡ false → (token : ℕ) (ok : Bool) → Of Q token → Touches Q strict (late 12 token ok)
+result-touches lax token ok there = ends-touches lax 12 token ok there
 
 pub threat-told : {Q : ℕ → Type 0} {strict : Shown} (token : ℕ) (ok : Bool) → Touches Q strict (late 20 token ok)
-threat-told token ok = asks (Late 20) token ok (record { at = inr refl; quiet = λ e. refl })
+threat-told token ok = asks (Late 20) token ok (record { at = inr refl; quiet = λ e. refl; used = refl })
 
 pub too_big-touches : {Q : ℕ → Type 0} {strict : Shown} (token : ℕ) (ok : Bool) → Of Q token → Touches Q strict (too_big token ok)
-too_big-touches token ok there = asks TooBig token ok (record { at = inl there; quiet = λ e. refl })
+too_big-touches token ok there = asks TooBig token ok (record { at = inl there; quiet = λ e. refl; used = refl })
 
 pub put-touches : {Q : ℕ → Type 0} {strict : Shown} (number : ℕ) (r : Row) → Of Q number → said r ≡ Row.Nothing → Touches Q strict (put number r)
 unfolding change
@@ -316,6 +352,7 @@ open_frame-touches lax f = record {
     chosen = λ list h v. refl;
     spent = λ n level e. e;
     given = λ _ n e. e;
+    grows = λ list v e. e;
   };
   told = λ k. tt;
 }
@@ -344,6 +381,7 @@ unseen {strict = strict} k j words program regions frames choices = record {
   chosen = λ list h v. ap (λ (cs : List (ℕ × ℤ)). list_any (same_choice (list, v)) cs) choices;
   spent = λ n level e. ap (λ p. fine_in level (row_in p n)) program ∙ e;
   given = λ _ n e. ap (λ p. assigned_in (row_in p n)) program ∙ e;
+  grows = λ list v e. ap (λ (cs : List (ℕ × ℤ)). list_any (same_choice (list, v)) cs) choices ∙ e;
 }
 
 pub hold-touches : {Q : ℕ → Type 0} {strict : Shown} (variable : ℕ) → Touches Q strict (hold variable)

@@ -1,7 +1,7 @@
--- Statements assign to no function whose name none of their names alone on the left is.
-use Rattle.std.proofs.Common.{◌++◌, ◌<◌, ◌||◌, ◌∙◌, ◌∷◌, ◌≡◌, ◌⊎◌, [], ℕ, Bool, List, None, Option, Some, ap, arith, false, inl, inr, length, length-set, map}
-use Rattle.std.proofs.Common.{nat_eq, refl, set, slice_get, subst, suc, sym, true, zero}
-use Rattle.std.proofs.lemmas.{Bool.Decides.nat_tests, List.length-append, Option.none-some, Option.same_Some}
+-- Statements assign to no function that none of their names alone on the left can stand for.
+use Rattle.std.proofs.Common.{if◌then◌else◌, ◌++◌, ◌<◌, ◌||◌, ◌∙◌, ◌∷◌, ◌≡◌, ◌≤◌, ◌⊎◌, [], ℕ, Bool, List, None, Option, Some, ap, arith, false, inl, inr}
+use Rattle.std.proofs.Common.{length, length-set, map, nat_eq, nat_le, refl, set, slice_get, subst, suc, sym, true, zero}
+use Rattle.std.proofs.lemmas.{Bool.leb-true, Bool.Decides.nat_tests, List.length-append, Option.none-some, Option.same_Some}
 use Rattle.grammar.specs.Nodes.{row}
 use Rattle.pas_tree.specs.{BlockTrees.BlockTree, BlockTrees.RoutineTree, BlockTrees.routine_heading, ExpressionTrees.AccessTree, Operators.direction_node}
 use Rattle.pas_tree.specs.{StatementTrees.StatementTree, StatementTrees.StatementTrees, StatementTrees.StatementsTree, declared.statements.Label.Label}
@@ -22,12 +22,12 @@ use Rattle.statement_checker.specs.Statements.{branch_step, branching, case_stat
 use Rattle.statement_checker.specs.Statements.{labelled_by, more_branches, more_statements, plain, repeat_statement, sequence, statement_step}
 use Rattle.rule_laws.proofs.{DenoterVariants.choices-touches, ExpressionExpressions.expression-touches, LabelTold.Anywhere, LabelTold.anywhere}
 use Rattle.rule_laws.proofs.{LabelTold.everywhere, Lasting.Declaring, Lasting.Lasting, Lasting.is_quiet, Listed.Listed, Listed.listed_left, Listed.listed_right}
-use Rattle.rule_laws.proofs.{ResultScopes.usable_found, ResultTargets.row_result, Standing.got_still, StatementChoices.case_row-touches}
-use Rattle.rule_laws.proofs.{StatementLabels.reach_label-touches, StatementParts.selected-touches, StatementParts.target_access-touches}
-use Rattle.rule_laws.proofs.{StatementRecords.put_with-touches, StatementStatements.next_records-touches, TextHeadings.Sound, TextLabels.said_routine}
+use Rattle.rule_laws.proofs.{ResultScopes.usable_found, ResultTargets.row_result, Standing.got_still, StatementAssignments.assigned-touches}
+use Rattle.rule_laws.proofs.{StatementAssignments.blockless_target-touches, StatementChoices.case_row-touches, StatementLabels.reach_label-touches}
+use Rattle.rule_laws.proofs.{StatementParts.selected-touches, StatementParts.target_access-touches, StatementRecords.put_with-touches}
+use Rattle.rule_laws.proofs.{StatementStatements.next_records-touches, TextHeadings.Sound, TextLabels.said_routine, Timely.Timely}
 use Rattle.rule_laws.proofs.Faces.{Shown, loose, row_either, said, value_shows}
 use Rattle.rule_laws.proofs.Keeping.{Keeps, ask-keeps, bind-keeps, give-keeps, look-keeps, when-keeps}
-use Rattle.rule_laws.proofs.StatementAssignments.{assigned-touches, blockless_target-touches}
 use Rattle.rule_laws.proofs.StatementLabels.{jump-touches, labelled-touches, leave-touches, leave_all-touches, mark-touches, reach_all-touches}
 use Rattle.rule_laws.proofs.StatementParts.{call_statement-touches, condition_row-touches, first_record-touches, for_begins-touches, for_ends-touches}
 use Rattle.rule_laws.proofs.StatementSequences.{add_element-touches, compound_row-touches, empty-touches, if_else_row-touches, if_row-touches}
@@ -137,7 +137,7 @@ headed_lasts = record {
   routines = λ j r s. more_headed j r s;
   frames = λ j f s. record { at = s.at };
   regions = λ j token f s. record { at = s.at };
-  defines = λ j region d s. record { at = s.at };
+  defines = λ j region d at s. record { at = s.at };
   requires = λ j name d behind s. record { at = s.at };
   chooses = λ j list v s. record { at = s.at };
   records = λ j word packed region cells variants fresh s. put_headed j word (Row.Type (TypeRow.Record packed region cells variants))
@@ -153,6 +153,7 @@ headed_lasts = record {
 pub headed_all : {G : RoutineTree → Type 0} → Declaring G Headed
 headed_all = record {
   kept = headed_lasts;
+  ends = λ j region d s. record { at = s.at };
   declares = λ j region value token s. record { at = s.at };
   labels = λ j token value level s. put_headed j token (Row.Name (NameRow.Label false value level 0)) (λ assigned number region e. absurd (no_label e)) s;
   heads = λ j name number region named few s. put_headed j name (Row.Name (NameRow.Routine false number region)) (λ assigned n at e. record {
@@ -168,21 +169,30 @@ headed_all = record {
 abbrev giving : Shown
 giving = record { frames = false; marks = false; results = true }
 
--- The text and its tables where the statements begin, and some names.
-pub record Lefts : Type 0 where
+-- The text and its tables where the statements begin, what may stand alone on the left, and at which tokens stand
+-- functions to which nothing is assigned.
+pub record Lefts : Type 1 where
   pub k : Known
   pub t : BlockTree
   pub c : Known
-  pub names : List ℕ
+  pub lefts : ℕ → Type 0
+  pub free : ℕ → Type 0
+
+-- A token that has another name, or stands before this one, can't stand for what is defined here.
+abbrev pub IsApart : Known → ℕ → ℕ → Type 0
+IsApart k n x = name_at k n ≡ name_at k x → n < x
 
 pub record Ready (y : Lefts) : Type 0 where
   pub sound : Sound y.k y.t y.c
   pub headed : Headed y.c
+  pub timely : Timely y.k y.c
+  pub there : (x : ℕ) → y.free x → x < length y.k.words
+  pub apart : (n x : ℕ) → y.lefts n → y.free x → IsApart y.k n x
 
--- Nothing is assigned so far to a function with another name.
+-- Nothing is assigned so far to these functions.
 pub record Bare (y : Lefts) (j : Known) : Type 0 where
   pub same : Same Anywhere loose y.c j
-  pub none : (x : ℕ) → x < length y.k.words → has_name y.k y.names x ≡ false → assigned_in (row_at j x) ≡ false
+  pub none : (x : ℕ) → y.free x → assigned_in (row_at j x) ≡ false
 
 -- tables that are the same but for any row
 loosen : {strict : Shown} (k j : Known) → Same Anywhere strict k j → Same Anywhere loose k j
@@ -199,31 +209,31 @@ loosen k j s = record {
   chosen = s.chosen;
   spent = s.spent;
   given = λ e n x. absurd (let never : false ≡ true = e in cc);
+  grows = s.grows;
 }
 
 pub bare_of : (y : Lefts) {A : Type 0} {m : Step A} → Touches Anywhere giving m → Keeps (Bare y) m
 bare_of y {m = m} touches = record {
   of = λ j b. record {
     same = same_then y.c j (m j).known b.same (loosen j (m j).known (touches.same j));
-    none = λ x below off. (touches.same j).given refl x (b.none x below off);
+    none = λ x free. (touches.same j).given refl x (b.none x free);
   };
 }
 
 -- ---- the left of an assignment
 
-result_bare : (y : Lefts) (name : ℕ) → ((x : ℕ) → x < length y.k.words → has_name y.k y.names x ≡ false → x ≡ name → ⊥)
-    → Keeps (Bare y) (result_assigned name)
+result_bare : (y : Lefts) (name : ℕ) → ((x : ℕ) → y.free x → x ≡ name → ⊥) → Keeps (Bare y) (result_assigned name)
 unfolding result_assigned look ◌>>=◌ change
 result_bare y name apart = record {
   of = λ j b. record {
     same = same_then y.c j (with_row j name (with_value (row_at j name))) b.same
         ((changed-touches {Q = Anywhere} {strict = loose} name with_value (value_shows loose refl)).same j);
-    none = λ x below off. put_given j name x (with_value (row_at j name)) (λ at e. absurd (apart x below off at)) (b.none x below off);
+    none = λ x free. put_given j name x (with_value (row_at j name)) (λ at e. absurd (apart x free at)) (b.none x free);
   };
 }
 
-target_bare : (y : Lefts) (frame name : ℕ) (r : FunctionResult)
-    → ((x : ℕ) → x < length y.k.words → has_name y.k y.names x ≡ false → x ≡ r.function → ⊥) → Keeps (Bare y) (result_target frame name r)
+target_bare : (y : Lefts) (frame name : ℕ) (r : FunctionResult) → ((x : ℕ) → y.free x → x ≡ r.function → ⊥)
+    → Keeps (Bare y) (result_target frame name r)
 unfolding result_target
 target_bare y frame name r apart = bind-keeps (look-keeps (λ k. is_inside k frame r.function)) (λ fine. bind-keeps (ask-keeps _ name fine) (λ _.
     bind-keeps (when-keeps fine (result_bare y r.function apart)) (λ _.
@@ -256,10 +266,19 @@ defined_by k (suc n) (Some frame) v f e =
     defined_or k frame (frame_at k frame).region v (defined_in k.regions (frame_at k frame).region v) (find_from n k (frame_at k frame).outer v) f refl
     (λ same. defined_by k n (frame_at k frame).outer v f same) e
 
+-- it may be used there
+usable_end : (at : ℕ) (o : Option Found) (f : Found) → usable at o ≡ Some f → f.definition.end ≤ at
+usable_end at None f e = absurd (none-some f e)
+usable_end at (Some g) f e = by (nat_le g.definition.end at) refl e
+  where
+    by : (ok : Bool) → nat_le g.definition.end at ≡ ok → (if ok then Some g else None) ≡ Some f → f.definition.end ≤ at
+    by true fits same = subst (λ (x : Found). x.definition.end ≤ at) (same_Some g f same) (leb-true g.definition.end at fits)
+    by false fits same = absurd (none-some f same)
+
 same_number : {a b : ℕ} → a ≡ b → nat_eq a b ≡ true
 same_number h = grind (arith, nat_tests)
 
-named_has : (k : Known) (xs : List ℕ) (n x : ℕ) → Listed xs n → name_at k n ≡ name_at k x → has_name k xs x ≡ true
+pub named_has : (k : Known) (xs : List ℕ) (n x : ℕ) → Listed xs n → name_at k n ≡ name_at k x → has_name k xs x ≡ true
 named_has k [] n x h same = absurd h
 named_has k (a ∷ xs) n x (inl e) same = first (nat_eq (name_at k x) (name_at k a)) (has_name k xs x) (same_number (sym same ∙ ap (name_at k) (sym e)))
   where
@@ -272,12 +291,11 @@ named_has k (a ∷ xs) n x (inr h) same = later (nat_eq (name_at k x) (name_at k
     later true c e = refl
     later false c e = e
 
--- What a name of these stands for on the left is no function with another name.
-apart_by : (y : Lefts) → Ready y → (j : Known) → Bare y j → (frame name : ℕ) (r : FunctionResult) → Listed y.names name → (o : Option Found)
-    → usable name (find j frame (name_at j name)) ≡ o → target_of j frame o ≡ Target.Result r
-    → (x : ℕ) → x < length y.k.words → has_name y.k y.names x ≡ false → x ≡ r.function → ⊥
-apart_by y ready j b frame name r listed None found e x below off same = absurd (let never : Target.Access ≡ Target.Result r = e in cc)
-apart_by y ready j b frame name r listed (Some f) found e x below off same =
+-- What a name of these stands for on the left is none of these functions.
+apart_by : (y : Lefts) → Ready y → (j : Known) → Bare y j → (frame name : ℕ) (r : FunctionResult) → y.lefts name → (o : Option Found)
+    → usable name (find j frame (name_at j name)) ≡ o → target_of j frame o ≡ Target.Result r → (x : ℕ) → y.free x → x ≡ r.function → ⊥
+apart_by y ready j b frame name r listed None found e x free same = absurd (let never : Target.Access ≡ Target.Result r = e in cc)
+apart_by y ready j b frame name r listed (Some f) found e x free same =
     let token = f.definition.token in
     let o = row_result j frame (row_at j token) r e in
     let c = y.c in
@@ -293,23 +311,29 @@ apart_by y ready j b frame name r listed (Some f) found e x below off same =
           let own : defined_in c.regions d.region (name_at j name) ≡ Some f.definition
           = ap (λ (rs : List RegionRows). defined_in rs d.region (name_at j name)) (sym b.same.regions) ∙ d.is in
           let words = ap (λ (ws : List SpelledToken). name_at (record y.k { words = ws }) name) (b.same.words ∙ ready.sound.words) in
+          let below = ready.there x free in
           elim (ready.sound.own d.region (name_at j name) f.definition own) [
             | inl spelled ↦
-                let alike : name_at y.k name ≡ name_at y.k x = sym words ∙ sym spelled ∙ ap (name_at y.k) (sym at) in
-                (let never : true ≡ false = sym (named_has y.k y.names name x listed alike) ∙ off in cc)
+                let before = ready.apart name x listed free (sym words ∙ sym spelled ∙ ap (name_at y.k) (sym at)) in
+                elim (ready.timely.ahead d.region (name_at j name) f.definition own) [
+                  | inl ahead ↦
+                      let late = usable_end name (find j frame (name_at j name)) f found in
+                      omega (arith, ahead, late, before, at)
+                  | inr behind ↦ omega (arith, behind, below, at)
+                ]
             | inr behind ↦ omega (arith, behind, below, at)
           ]
     ]
 
 left_apart : (y : Lefts) → Ready y → (j : Known) → Bare y j → (frame name : ℕ) (alone : Bool) (r : FunctionResult)
-    → ((n : ℕ) → Listed (name_alone alone name) n → Listed y.names n) → target_at j frame name alone ≡ Target.Result r
-    → (x : ℕ) → x < length y.k.words → has_name y.k y.names x ≡ false → x ≡ r.function → ⊥
-left_apart y ready j b frame name true r listed e x below off same =
-    apart_by y ready j b frame name r (listed name (inl refl)) (usable name (find j frame (name_at j name))) refl e x below off same
-left_apart y ready j b frame name false r listed e x below off same = absurd (let never : Target.Access ≡ Target.Result r = e in cc)
+    → ((n : ℕ) → Listed (name_alone alone name) n → y.lefts n) → target_at j frame name alone ≡ Target.Result r → (x : ℕ) → y.free x
+    → x ≡ r.function → ⊥
+left_apart y ready j b frame name true r listed e x free same =
+    apart_by y ready j b frame name r (listed name (inl refl)) (usable name (find j frame (name_at j name))) refl e x free same
+left_apart y ready j b frame name false r listed e x free same = absurd (let never : Target.Access ≡ Target.Result r = e in cc)
 
 assigned_to_bare : (y : Lefts) → Ready y → (frame : ℕ) (a : AccessTree)
-    → ((n : ℕ) → Listed (name_alone (is_name a.selectors) a.name) n → Listed y.names n) → Keeps (Bare y) (assigned_to frame a)
+    → ((n : ℕ) → Listed (name_alone (is_name a.selectors) a.name) n → y.lefts n) → Keeps (Bare y) (assigned_to frame a)
 unfolding assigned_to look ◌>>=◌
 assigned_to_bare y ready frame a listed = record { of = λ j b. by j b (target_at j frame a.name (is_name a.selectors)) refl }
   where
@@ -318,7 +342,7 @@ assigned_to_bare y ready frame a listed = record { of = λ j b. by j b (target_a
     by j b (Target.Result r) e = (target_bare y frame a.name r (left_apart y ready j b frame a.name (is_name a.selectors) r listed e)).of j b
     by j b Target.Blockless e = (bare_of y (blockless_target-touches a.name (anywhere a.name))).of j b
 
-assignment_bare : (y : Lefts) → Ready y → (frame : ℕ) (label : Option ℕ) (a : AssignmentTree) → ((n : ℕ) → Listed (left_name a) n → Listed y.names n)
+assignment_bare : (y : Lefts) → Ready y → (frame : ℕ) (label : Option ℕ) (a : AssignmentTree) → ((n : ℕ) → Listed (left_name a) n → y.lefts n)
     → Keeps (Bare y) (assignment frame label a)
 unfolding assignment
 assignment_bare y ready frame label a listed = bind-keeps (assigned_to_bare y ready frame a.target listed) (λ to.
@@ -327,9 +351,9 @@ assignment_bare y ready frame label a listed = bind-keeps (assigned_to_bare y re
 
 -- ---- statements
 
--- these names are among the names
+-- these names may stand alone on the left
 abbrev pub Among : Lefts → List ℕ → Type 0
-Among y xs = (n : ℕ) → Listed xs n → Listed y.names n
+Among y xs = (n : ℕ) → Listed xs n → y.lefts n
 
 pub among_left : (y : Lefts) (xs ys : List ℕ) → Among y (xs ++ ys) → Among y xs
 among_left y xs ys h n i = h n (listed_left xs ys n i)

@@ -1,6 +1,7 @@
 pub mod BlockLabels
 pub mod CaseConstants
 pub mod CaseLaws
+pub mod FormalRoutines
 pub mod ForwardHeadings
 pub mod FunctionAssignments
 pub mod FunctionResults
@@ -8,8 +9,11 @@ pub mod LabelLaws
 pub mod Laws
 pub mod LeftNames
 pub mod NameLaws
+pub mod OnlyLaws
 pub mod RegionNames
 pub mod ResultLaws
+pub mod TextCases
+pub mod SomeBlocks
 pub mod TextLaws
 pub mod TextParts
 pub mod Tokens

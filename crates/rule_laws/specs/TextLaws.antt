@@ -1,6 +1,6 @@
--- What a whole text breaks of rules 2, 8 and 15; and its tokens.
-use Rattle.std.specs.Prelude.{◌++◌, ◌<◌, ◌^◌, ◌∷◌, ◌≡◌, ◌⊎◌, [], ℕ, Bool, Contains, List, false, length, map, nat_eq}
-use Rattle.std.specs.{Prelude.true, List.list_any}
+-- What a whole text breaks of rules 2, 8, 12 and 15; and its tokens.
+use Rattle.std.specs.Prelude.{◌++◌, ◌<◌, ◌^◌, ◌∷◌, ◌≡◌, ◌⊎◌, [], ℕ, Bool, Contains, List, false, length, nat_eq, true}
+use Rattle.std.specs.List.{list_any}
 use Rattle.pas_lexer.specs.{Lexed.Lexed, declared.kinds.Token.Token}
 use Rattle.grammar.specs.Nodes.{spell}
 use Rattle.pas_tree.specs.{BlockTrees.routine_heading, TreeNodes.tree_node}
@@ -12,10 +12,10 @@ use Rattle.check_steps.specs.Known.{Known, label_at, name_at}
 use Rattle.denoter_checker.specs.{Formals.is_function, RoutineParts.routine_name, declared.defines.Wanted.Wanted}
 use Rattle.code_checker.specs.CheckedPrograms.{broken}
 use Rattle.rule_laws.specs.{BlockLabels.compound_labels, CaseLaws.late_at, Laws.broken_at, LeftNames.block_lefts}
-use Rattle.rule_laws.specs.{NameLaws.block_labels, NameLaws.block_routines, Tokens.IsDistinct}
-use Rattle.rule_laws.specs.ForwardHeadings.{are_completing, has_forward, is_block}
+use Rattle.rule_laws.specs.{LeftNames.body_lefts, NameLaws.block_labels, NameLaws.block_routines, Tokens.IsDistinct}
+use Rattle.rule_laws.specs.ForwardHeadings.{are_completing, has_forward, is_block, is_named, is_second}
 use Rattle.rule_laws.specs.RegionNames.{block_names, field_names, heading_names, labels_of}
-use Rattle.rule_laws.specs.TextParts.{OfRecordsIn, OfRoutines, Within}
+use Rattle.rule_laws.specs.TextParts.{OfRecordsIn, OfRoutines, OfRoutinesAfter, Within}
 
 -- No token stands twice in a tree that spells the tokens of a source, nor in any part of it.
 abbrev pub TokensDiffer : Type 0
@@ -52,27 +52,24 @@ abbrev pub IsNeverForward : Known → BlockTree → ℕ → Type 0
 IsNeverForward k b name =
     OfRoutines (λ r. is_block (routine_body r) ≡ false → name_at k (routine_name r) ≡ name → ⊥) b
 
--- Of these names of procedures and functions, which stand in a region after other names, each breaks rule 2 that has
--- the name of one before it, unless a forward heading of the text has it, too.
-abbrev pub HeadingsAreTold : Known → BlockTree → List Break → (names headings : List ℕ) → Type 0
-HeadingsAreTold k text bs names headings = (before : List ℕ) (name : ℕ) (after : List ℕ)
-    → headings ≡ before ++ name ∷ after → IsNeverForward k text (name_at k name)
-    → has_name k (names ++ before) name ≡ true → Contains bs (broken_at 2 name)
+-- Of the procedures and functions of a part each breaks rule 2 that has one of these names; and each that has the name
+-- of one before it, unless it has the block of the first of its name.
+abbrev pub HeadingsAreTold : Known → List Break → List ℕ → List RoutineTree → Type 0
+HeadingsAreTold k bs names rs = (before : List RoutineTree) (r : RoutineTree) (after : List RoutineTree)
+    → rs ≡ before ++ r ∷ after
+    → (has_name k names (routine_name r) ≡ true) ⊎ ((is_named k before r ≡ true) × (is_second k before r ≡ false))
+    → Contains bs (broken_at 2 (routine_name r))
 
 -- so it is with the names and the labels of a region
-pub record RegionIsTold (k : Known) (text : BlockTree) (bs : List Break) (all_names all_headings all_labels : List ℕ)
-    : Type 0 where
+pub record RegionIsTold (k : Known) (bs : List Break) (all_names : List ℕ) (part : List RoutineTree)
+    (all_labels : List ℕ) : Type 0 where
   pub names : SecondsAreTold k bs all_names
-  pub headings : HeadingsAreTold k text bs all_names all_headings
+  pub headings : HeadingsAreTold k bs all_names part
   pub labels : LabelsAreTold k bs all_labels
 
--- the names of a block's own procedures and functions
-abbrev pub routine_names : BlockTree → List ℕ
-routine_names b = map routine_name (block_routines b)
-
-abbrev pub headings_in_body : BodyTree → List ℕ
-headings_in_body (tree.a_directive directive) = []
-headings_in_body (tree.a_block_body b) = routine_names b
+abbrev pub routines_in_body : BodyTree → List RoutineTree
+routines_in_body (tree.a_directive directive) = []
+routines_in_body (tree.a_block_body b) = block_routines b
 
 abbrev pub names_in_body : BodyTree → List ℕ
 names_in_body (tree.a_directive directive) = []
@@ -87,14 +84,13 @@ labels_in_body (tree.a_directive directive) = []
 labels_in_body (tree.a_block_body b) = block_labels b
 
 -- So it is with the constants, types, variables, procedures, functions and labels of the program's block, and with
--- those of each procedure and function and its formal parameters, but for what has the name of a forward heading.
+-- those of each procedure and function and its formal parameters, but for one that has the block of a forward heading.
 abbrev pub TextsTellNames : Type 0
 TextsTellNames = (l : Lexed) (t : ProgramTree) → spell (tree_node t) ≡ items_of l.tokens
     → let k = known_at_start l in let b = t.block in
-    RegionIsTold k b (broken l t) (block_names b) (routine_names b) (block_labels b)
-    × OfRoutines (λ r. IsNeverForward k b (name_at k (routine_name r))
-    → RegionIsTold k b (broken l t) (names_of_routine r) (headings_in_body (routine_body r))
-    (labels_in_body (routine_body r))) b
+    RegionIsTold k (broken l t) (block_names b) (block_routines b) (block_labels b)
+    × OfRoutinesAfter (λ before r. is_second k before r ≡ false → RegionIsTold k (broken l t) (names_of_routine r)
+    (routines_in_body (routine_body r)) (labels_in_body (routine_body r))) b
 
 -- ---- forward headings (6.6.1)
 
@@ -104,17 +100,13 @@ ForwardsAreTold k bs rs = (before : List RoutineTree) (r : RoutineTree) (after :
     → rs ≡ before ++ r ∷ after → has_forward k (routine_body r) ≡ true
     → Contains bs (broken_at 8 (routine_name r)) ⊎ (are_completing k r after ≡ true)
 
-abbrev pub routines_in_body : BodyTree → List RoutineTree
-routines_in_body (tree.a_directive directive) = []
-routines_in_body (tree.a_block_body b) = block_routines b
-
--- So it is in the program's block, and in the block of each procedure and function, but for what has the name of a
+-- So it is in the program's block, and in that of each procedure and function, but for one that has the block of a
 -- forward heading.
 abbrev pub TextsTellForwards : Type 0
 TextsTellForwards = (l : Lexed) (t : ProgramTree) → spell (tree_node t) ≡ items_of l.tokens
     → let k = known_at_start l in let b = t.block in
     ForwardsAreTold k (broken l t) (block_routines b)
-    × OfRoutines (λ r. IsNeverForward k b (name_at k (routine_name r))
+    × OfRoutinesAfter (λ before r. is_second k before r ≡ false
     → ForwardsAreTold k (broken l t) (routines_in_body (routine_body r))) b
 
 -- ---- labels of statements (6.8.1)
@@ -163,22 +155,45 @@ UndeclaredAreTold k bs declared labels = (before : List ℕ) (label : ℕ) (afte
 -- So it is with the labels in front of the statements of the program's block and those of its label part; with the
 -- labels in front of the statements of the block of each procedure and function and those of all label parts of the
 -- text; and, in a text of fewer tokens than 2 ^ 32, with those of the block of each procedure and function and those of
--- its own label part, where it and all procedures and functions around it have names that no forward heading has.
+-- its own label part, where neither it nor one around it has the block of a forward heading.
 abbrev pub TextsTellUndeclared : Type 0
 TextsTellUndeclared = (l : Lexed) (t : ProgramTree) → let k = known_at_start l in let b = t.block in
     UndeclaredAreTold k (broken l t) (block_labels b) (statement_labels b)
     × OfRoutines (λ r. UndeclaredAreTold k (broken l t) (all_labels b) (statement_labels_in (routine_body r))) b
     × (spell (tree_node t) ≡ items_of l.tokens → length l.tokens < 2 ^ 32
-    → Within (λ r. IsNeverForward k b (name_at k (routine_name r)))
+    → Within (λ before r. is_second k before r ≡ false)
     (λ r. UndeclaredAreTold k (broken l t) (labels_in_body (routine_body r)) (statement_labels_in (routine_body r))) b)
 
 -- ---- functions without a value (6.6.2)
 
--- Each function that has a block breaks rule 12 whose name no assignment of the text has alone on its left, but for one
--- that has the name of a forward heading.
+-- the semicolon after a procedure or function
+abbrev pub routine_end : RoutineTree → ℕ
+routine_end (tree.a_routine heading semicolon body last_semicolon) = last_semicolon
+
+-- a token before all headings of this name that a directive follows
+abbrev pub IsBeforeForwards : Known → BlockTree → (name token : ℕ) → Type 0
+IsBeforeForwards k text name token =
+    OfRoutines (λ r. is_block (routine_body r) ≡ false → name_at k (routine_name r) ≡ name
+    → token < routine_name r) text
+
+-- Each assignment before this end that has the name of a heading alone on its left stands before that heading, and
+-- before all headings of the name that a directive follows.
+abbrev pub IsUnnamedSince : Known → BlockTree → (end heading : ℕ) → Type 0
+IsUnnamedSince k text end heading =
+    (left : ℕ) → Contains (block_lefts text) left → left < end → name_at k left ≡ name_at k heading
+    → (left < heading) × IsBeforeForwards k text (name_at k heading) left
+
+-- A function's name stands alone on the left of no assignment of its block, and of the procedures and functions in it,
+-- and no forward heading has it; or it stands so nowhere from the first forward heading of this name, or from its own,
+-- to the end of the block.
+abbrev pub IsUnnamed : Known → BlockTree → RoutineTree → Type 0
+IsUnnamed k text r = (IsNeverForward k text (name_at k (routine_name r))
+    × (has_name k (body_lefts (routine_body r)) (routine_name r) ≡ false))
+    ⊎ IsUnnamedSince k text (routine_end r) (routine_name r)
+
+-- Such a function breaks rule 12, if it has a block, at the name in the heading of the block.
 abbrev pub TextsTellResults : Type 0
 TextsTellResults = (l : Lexed) (t : ProgramTree) → spell (tree_node t) ≡ items_of l.tokens
-    → let k = known_at_start l in let b = t.block in
-    OfRoutines (λ r. is_function (routine_heading r) ≡ true → is_block (routine_body r) ≡ true
-    → IsNeverForward k b (name_at k (routine_name r)) → has_name k (block_lefts b) (routine_name r) ≡ false
-    → Contains (broken l t) (late_at 12 (routine_name r))) b
+    → let k = known_at_start l in
+    OfRoutines (λ r. is_function (routine_heading r) ≡ true → is_block (routine_body r) ≡ true → IsUnnamed k t.block r
+    → Contains (broken l t) (late_at 12 (routine_name r))) t.block

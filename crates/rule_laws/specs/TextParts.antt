@@ -1,5 +1,5 @@
 -- What holds of each procedure and function in a block, and of each record type that is written there (6.2.1, 6.4.3.3).
-use Rattle.std.specs.Prelude.{◌∷◌, [], List, None, Option, Some}
+use Rattle.std.specs.Prelude.{◌++◌, ◌∷◌, [], List, None, Option, Some}
 use Rattle.pas_tree.specs.BlockTrees.{BlockTree, BodyTree, RoutineTree, RoutineTrees, TypeDefinitionTree, TypePartTree}
 use Rattle.pas_tree.specs.BlockTrees.{VariableDeclarationTree, VariablePartTree}
 use Rattle.pas_tree.specs.BlockTrees as blocks
@@ -28,20 +28,42 @@ abbrev mutual
   OfBody P (blocks.a_block_body b) = OfRoutines P b
 
 abbrev mutual
-  -- this holds of each of them that is of some kind and stands inside of such alone
-  pub Within : (N P : RoutineTree → Type 0) → BlockTree → Type 0
-  Within N P (blocks.a_block labels constants types variables routines body) = WithinEach N P routines
+  -- this holds of each procedure and function of a block after those before it in its part, and so of those inside
+  -- of them
+  pub OfRoutinesAfter : (List RoutineTree → RoutineTree → Type 0) → BlockTree → Type 0
+  OfRoutinesAfter P (blocks.a_block labels constants types variables routines body) = OfEachAfter P [] routines
 
-  pub WithinEach : (N P : RoutineTree → Type 0) → RoutineTrees → Type 0
-  WithinEach N P blocks.end_of_routines = Unit {0}
-  WithinEach N P (blocks.more_routines r rest) = WithinRoutine N P r × WithinEach N P rest
+  pub OfEachAfter : (List RoutineTree → RoutineTree → Type 0) → List RoutineTree → RoutineTrees → Type 0
+  OfEachAfter P before blocks.end_of_routines = Unit {0}
+  OfEachAfter P before (blocks.more_routines r rest) =
+      OfRoutineAfter P before r × OfEachAfter P (before ++ r ∷ []) rest
 
-  pub WithinRoutine : (N P : RoutineTree → Type 0) → RoutineTree → Type 0
-  WithinRoutine N P (blocks.a_routine heading semicolon body last_semicolon) =
-      N (blocks.a_routine heading semicolon body last_semicolon)
+  pub OfRoutineAfter : (List RoutineTree → RoutineTree → Type 0) → List RoutineTree → RoutineTree → Type 0
+  OfRoutineAfter P before (blocks.a_routine heading semicolon body last_semicolon) =
+      P before (blocks.a_routine heading semicolon body last_semicolon) × OfBodyAfter P body
+
+  pub OfBodyAfter : (List RoutineTree → RoutineTree → Type 0) → BodyTree → Type 0
+  OfBodyAfter P (blocks.a_directive directive) = Unit {0}
+  OfBodyAfter P (blocks.a_block_body b) = OfRoutinesAfter P b
+
+abbrev mutual
+  -- this holds of each of them that is of some kind, after those before it, and stands inside of such alone
+  pub Within : (N : List RoutineTree → RoutineTree → Type 0) (P : RoutineTree → Type 0) → BlockTree → Type 0
+  Within N P (blocks.a_block labels constants types variables routines body) = WithinEach N P [] routines
+
+  pub WithinEach : (N : List RoutineTree → RoutineTree → Type 0) (P : RoutineTree → Type 0) → List RoutineTree
+      → RoutineTrees → Type 0
+  WithinEach N P before blocks.end_of_routines = Unit {0}
+  WithinEach N P before (blocks.more_routines r rest) =
+      WithinRoutine N P before r × WithinEach N P (before ++ r ∷ []) rest
+
+  pub WithinRoutine : (N : List RoutineTree → RoutineTree → Type 0) (P : RoutineTree → Type 0) → List RoutineTree
+      → RoutineTree → Type 0
+  WithinRoutine N P before (blocks.a_routine heading semicolon body last_semicolon) =
+      N before (blocks.a_routine heading semicolon body last_semicolon)
       → P (blocks.a_routine heading semicolon body last_semicolon) × WithinBody N P body
 
-  pub WithinBody : (N P : RoutineTree → Type 0) → BodyTree → Type 0
+  pub WithinBody : (N : List RoutineTree → RoutineTree → Type 0) (P : RoutineTree → Type 0) → BodyTree → Type 0
   WithinBody N P (blocks.a_directive directive) = Unit {0}
   WithinBody N P (blocks.a_block_body b) = Within N P b
 

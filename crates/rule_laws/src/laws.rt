@@ -1,9 +1,10 @@
 //! The laws, each the contract of a call that does nothing.
 
-ghost use Rattle.rule_laws.specs.{LabelLaws.BlocksTellLabels, Laws.PartsTellRuleEight};
+ghost use Rattle.rule_laws.specs.{LabelLaws.BlocksTellLabels, Laws.PartsTellRuleEight, TextCases.TextsTellCases};
 ghost use Rattle.rule_laws.specs.CaseLaws.{CasesTellEqualConstants, VariantsTellEqualConstants};
 ghost use Rattle.rule_laws.specs.NameLaws.{BlocksTellNames, HeadingsTellFormals, LabelPartsTellLabels};
 ghost use Rattle.rule_laws.specs.NameLaws.{PartsTellSecondHeadings, ProgramsTellParameters, RecordsTellFields};
+ghost use Rattle.rule_laws.specs.OnlyLaws.{TextsBreakEight, TextsBreakFifteen, TextsBreakTwelve, TextsBreakTwo};
 ghost use Rattle.rule_laws.specs.ResultLaws.{FunctionsTellAssignments};
 ghost use Rattle.rule_laws.specs.TextLaws.{TextsTellFields, TextsTellForwards, TextsTellMarks, TextsTellNames};
 ghost use Rattle.rule_laws.specs.TextLaws.{TextsTellResults, TextsTellUndeclared, TokensDiffer};
@@ -59,15 +60,27 @@ pub fn fields_of_a_text_differ()
 {}
 
 /// So of the constants, types, variables, procedures, functions and labels of the program's block, and of those of each
-/// procedure and function together with its formal parameters, but for what has the name of a forward heading.
+/// procedure and function together with its formal parameters, but for one that has the block of a forward heading.
 pub fn names_of_a_text_differ()
     ensures { TextsTellNames }
 {}
 
+/// A text breaks rule 2 nowhere else: at a name or label alone that one before it in its region is equal to, which may
+/// be a formal parameter of a heading that a directive follows.
+pub fn second_names_alone_break_rule_two()
+    ensures { TextsBreakTwo }
+{}
+
 /// In a text, each forward heading of the program's block breaks rule 8 or has its block later in the part; and so each
-/// of the block of a procedure or function, but for one that has the name of a forward heading.
+/// of the block of a procedure or function, but for one that has the block of a forward heading.
 pub fn forward_headings_of_a_text_have_blocks()
     ensures { TextsTellForwards }
+{}
+
+/// A text breaks rule 8 nowhere else: at a name of a forward heading alone, which breaks rule 2, too, or has no block
+/// later in the part.
+pub fn forward_headings_alone_lack_blocks()
+    ensures { TextsBreakEight }
 {}
 
 /// In a text, of the labels in front of the statements of the program's block, and of the block of each procedure and
@@ -76,17 +89,35 @@ pub fn labels_of_statements_differ()
     ensures { TextsTellMarks }
 {}
 
+/// A text breaks rule 15 nowhere else: at labels in front of statements alone.
+pub fn labels_alone_break_rule_fifteen()
+    ensures { TextsBreakFifteen }
+{}
+
 /// In a text each label in front of a statement breaks rule 15 whose value the label part of its block doesn't have,
-/// but in the blocks of procedures and functions with the names of forward headings, and inside of these: there each
-/// whose value no label part of the text has.
+/// but in the blocks of forward headings, and inside of these: there each whose value no label part of the text has.
 pub fn labels_of_statements_are_declared()
     ensures { TextsTellUndeclared }
 {}
 
-/// In a text each function that has a block breaks rule 12 whose name no assignment of the text has alone on its left,
-/// but for one that has the name of a forward heading.
+/// In a text each function that has a block breaks rule 12 whose name no assignment of the block, and of the procedures
+/// and functions in it, has alone on its left, if no forward heading has the name; and each whose name none has so from
+/// the first forward heading of this name, or from its own, to the end of the block.
 pub fn functions_of_a_text_are_assigned()
     ensures { TextsTellResults }
+{}
+
+/// In a text that breaks no rule, and whose tables are whole, the row of each case statement stands at its word. Where
+/// the selector is a variable, a call of a function or an integer that is computed, each of its constants, seen from a
+/// frame of its block, is found, is of the host type of the selector if its value is known, and is equal to none before
+/// it.
+pub fn case_constants_of_a_text_differ()
+    ensures { TextsTellCases }
+{}
+
+/// A text breaks rule 12 nowhere else: at names of functions alone that have blocks.
+pub fn functions_alone_break_rule_twelve()
+    ensures { TextsBreakTwelve }
 {}
 
 /// So of the formal parameters of a heading.
