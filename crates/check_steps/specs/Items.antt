@@ -4,17 +4,21 @@ use Rattle.core_program.specs.declared.rows.{ItemRow.ItemRow, Row.Row}
 use Rattle.check_steps.specs.Known.{row_at}
 use Rattle.check_steps.specs.Steps.{◌>>=◌, Step, give, look, put}
 
+-- an array as the actual of a conformant parameter, whose list goes on at this number
+abbrev pub array_on : ItemRow → ℕ → ItemRow
+array_on (ItemRow.ArrayPlace first access of' end) next = ItemRow.ArrayPlace first access of' next
+array_on (ItemRow.ArrayValue first v of' end) next = ItemRow.ArrayValue first v of' next
+array_on i next = i
+
 -- an actual parameter, whose list goes on at this number
 abbrev pub actual_on : ItemRow → ℕ → ItemRow
 actual_on (ItemRow.Value v of' end) next = ItemRow.Value v of' next
 actual_on (ItemRow.Place access end) next = ItemRow.Place access next
-actual_on (ItemRow.ArrayPlace first access of' end) next = ItemRow.ArrayPlace first access of' next
-actual_on (ItemRow.ArrayValue first v of' end) next = ItemRow.ArrayValue first v of' next
 actual_on (ItemRow.Routine routine levels end) next = ItemRow.Routine routine levels next
 actual_on (ItemRow.RoutineFormal formal levels end) next = ItemRow.RoutineFormal formal levels next
 actual_on (ItemRow.Written v of' end) next = ItemRow.Written v of' next
 actual_on (ItemRow.WrittenWide v of' width end) next = ItemRow.WrittenWide v of' width next
-actual_on i next = i
+actual_on i next = array_on i next
 
 -- an item, whose list goes on at this number; lists of formal parameters are made from their end
 abbrev pub going_on : ItemRow → ℕ → ItemRow

@@ -1,18 +1,16 @@
 //! Lists of items, each of which names the next one.
 
 ghost use Rattle.std.specs.Prelude.{◌≡◌};
-ghost use Rattle.check_steps.specs.Items.{actual_on, add_item, going_on, link, row_on};
+ghost use Rattle.check_steps.specs.Items.{actual_on, add_item, array_on, going_on, link, row_on};
 ghost use Rattle.check_steps.specs.Steps.{Does};
 
 use crate::work::Work;
 use core_program::rows::{ItemRow, Row};
 
-fn actual_on(item: ItemRow, next: u32) -> ItemRow
-    ensures { result ≡ actual_on item next }
+fn array_on(item: ItemRow, next: u32) -> ItemRow
+    ensures { result ≡ array_on item next }
 {
     match item {
-        ItemRow::Value { value, of, .. } => ItemRow::Value { value, of, next },
-        ItemRow::Place { access, .. } => ItemRow::Place { access, next },
         ItemRow::ArrayPlace {
             first,
             access,
@@ -35,6 +33,16 @@ fn actual_on(item: ItemRow, next: u32) -> ItemRow
             of,
             next,
         },
+        _ => item,
+    }
+}
+
+fn actual_on(item: ItemRow, next: u32) -> ItemRow
+    ensures { result ≡ actual_on item next }
+{
+    match item {
+        ItemRow::Value { value, of, .. } => ItemRow::Value { value, of, next },
+        ItemRow::Place { access, .. } => ItemRow::Place { access, next },
         ItemRow::Routine {
             routine,
             levels,
@@ -61,7 +69,7 @@ fn actual_on(item: ItemRow, next: u32) -> ItemRow
             width,
             next,
         },
-        _ => item,
+        _ => array_on(item, next),
     }
 }
 

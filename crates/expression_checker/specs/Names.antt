@@ -60,14 +60,18 @@ abbrev pub field_meaning : Known → Found → ℕ → Location → Meaning
 field_meaning k f of' l =
     Meaning.Variable (AccessRow.Within (with_position k f.frame) f.definition.token of') of' l
 
+-- a variable or parameter of a mode and a type, at a place of the frame to which so many links lead
+abbrev pub variable_meaning : Known → Mode → (of' place levels : ℕ) → Meaning
+variable_meaning k m of' place levels =
+    Meaning.Variable (variable_row (is_conformant (type_at k of')) m place levels of') of' Location.Variable
+
 -- what a name stands for by its row, seen from a frame
 abbrev pub meaning_in : Known → ℕ → Found → Row → Meaning
 meaning_in k frame f (Row.Name (NameRow.Constant of' v)) = Meaning.Constant (Some (ConstantValue.Ordinal of' v))
 meaning_in k frame f (Row.Name (NameRow.Text token)) = Meaning.Constant (Some (ConstantValue.Text token))
 meaning_in k frame f Row.Nothing = Meaning.Constant None
 meaning_in k frame f (Row.Name (NameRow.Variable m of' place level)) =
-    Meaning.Variable (variable_row (is_conformant (type_at k of')) m place (levels_to k frame level) of') of'
-    Location.Variable
+    variable_meaning k m of' place (levels_to k frame level)
 meaning_in k frame f (Row.Name (NameRow.Bound of' place level)) =
     Meaning.Bound (AccessRow.Variable place (levels_to k frame level) of') of'
 meaning_in k frame f (Row.Name (NameRow.Field of' offset holder)) =

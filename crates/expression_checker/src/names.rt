@@ -4,7 +4,7 @@ ghost use Rattle.std.specs.Prelude.{◌≡◌};
 ghost use Rattle.check_steps.specs.Steps.{Does};
 ghost use Rattle.expression_checker.specs.Names.{accessed_as, bound_at, component_if, field_meaning, holder_in};
 ghost use Rattle.expression_checker.specs.Names.{is_packed, is_packed_record, is_variable, levels_to, meaning_in};
-ghost use Rattle.expression_checker.specs.Names.{meaning_of, variable, variable_row, with_position};
+ghost use Rattle.expression_checker.specs.Names.{meaning_of, variable, variable_meaning, variable_row, with_position};
 
 use crate::typed::{Location, Typed, typed_value, unknown_at};
 use check_steps::{Found, Tables, Work};
@@ -120,6 +120,16 @@ fn field_meaning(tables: &Tables, found: Found, of: u32, location: Location) -> 
     }
 }
 
+fn variable_meaning(tables: &Tables, mode: Mode, of: u32, place: u32, levels: u32) -> Meaning
+    ensures { result ≡ variable_meaning tables.now mode of place levels }
+{
+    Meaning::Variable {
+        row: variable_row(is_conformant(tables.type_row(of)), mode, place, levels, of),
+        of,
+        location: Location::Variable,
+    }
+}
+
 fn meaning_in(tables: &Tables, frame: u32, found: Found, row: Row) -> Meaning
     ensures { result ≡ meaning_in tables.now frame found row }
 {
@@ -138,17 +148,7 @@ fn meaning_in(tables: &Tables, frame: u32, found: Found, row: Row) -> Meaning
                 place,
                 level,
             },
-        ) => Meaning::Variable {
-            row: variable_row(
-                is_conformant(tables.type_row(of)),
-                mode,
-                place,
-                levels_to(tables, frame, level),
-                of,
-            ),
-            of,
-            location: Location::Variable,
-        },
+        ) => variable_meaning(tables, mode, of, place, levels_to(tables, frame, level)),
         Row::Name(NameRow::Bound { of, place, level }) => Meaning::Bound {
             row: AccessRow::Variable {
                 place,

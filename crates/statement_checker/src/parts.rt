@@ -4,7 +4,6 @@ ghost use Rattle.std.specs.Prelude.{◌≡◌, IfOk};
 ghost use Rattle.pas_tree.specs.ExpressionTrees.{access_tree, expression_tree};
 ghost use Rattle.pas_tree.specs.StatementTrees.{actual_tree, actuals_tree, assignment_tree, held_actuals_tree};
 ghost use Rattle.check_steps.specs.Steps.{Does, each};
-ghost use Rattle.expression_checker.specs.Expressions.{passing_to};
 ghost use Rattle.statement_checker.specs.Parts.{actuals_in, assigned_to, assignment, bounded, call_alone, call_as};
 ghost use Rattle.statement_checker.specs.Parts.{call_statement, call_with, condition_row, declared_call, first_record};
 ghost use Rattle.statement_checker.specs.Parts.{for_begins, for_ends, next_passed, next_record, passed_actual};
@@ -26,10 +25,9 @@ use core_program::rows::LIST_END;
 use denoter_checker::variants::Choosing;
 use expression_checker::actuals::access_name;
 use expression_checker::callees::check_counted;
-use expression_checker::expressions::{check_access, check_actual, check_expression};
+use expression_checker::expressions::{check_access, check_actual, check_expression, passing_to};
 use expression_checker::threats::check_threat_alone;
-use expression_checker::typed::unknown_at;
-use expression_checker::{Called, Callee, Passing, Typed};
+use expression_checker::{Callee, Passing, Typed};
 use pas_tree::expressions::{Access, Expression};
 use pas_tree::first_of_expression;
 use pas_tree::operators::Direction;
@@ -210,16 +208,6 @@ fn actuals_in(a: &Actuals) -> usize
     ensures { result ≡ actuals_in (actuals_tree a.now) }
 {
     a.others.len() + 1
-}
-
-fn passing_to(called: Called, name: u32) -> Passing
-    ensures { result ≡ passing_to called name }
-{
-    Passing {
-        last: name,
-        formals: called.formals,
-        value: unknown_at(name),
-    }
 }
 
 #[tactic(auto, using(check_steps::proofs::Runs::steps, crate::proofs::Walks::passed_each), unfolding(crate::specs::Parts::call_with))]

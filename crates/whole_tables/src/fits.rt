@@ -252,6 +252,23 @@ fn are_scalars(program: &ProgramTables, left: u32, right: u32) -> bool
     is_scalar(program, left) && is_scalar(program, right)
 }
 
+fn component_fits(
+    program: &ProgramTables,
+    at: u32,
+    access: u32,
+    index: u32,
+    array: u32,
+    of: u32,
+) -> bool
+    ensures { result ≡ fits.access_fits program.now at (AccessRow.Component access index array of) }
+{
+    is_bounded(program, access)
+        && access < at
+        && is_scalar(program, index)
+        && is_conformant(program, array)
+        && is_type(program, of)
+}
+
 fn access_fits(program: &ProgramTables, at: u32, row: AccessRow) -> bool
     ensures { result ≡ fits.access_fits program.now at row }
 {
@@ -264,13 +281,7 @@ fn access_fits(program: &ProgramTables, at: u32, row: AccessRow) -> bool
             index,
             array,
             of,
-        } => {
-            is_bounded(program, access)
-                && access < at
-                && is_scalar(program, index)
-                && is_conformant(program, array)
-                && is_type(program, of)
-        }
+        } => component_fits(program, at, access, index, array, of),
         AccessRow::Within { field, of, .. } => {
             is_field_row(program.row(field)) && is_type(program, of)
         }
