@@ -5,7 +5,7 @@ use crate::escapes::{append_unescaped, unescaped};
 use crate::files::File;
 use crate::rows::{Judged, append_all, append_shown, is_row};
 use crate::sections::Section;
-use code_checker::{ProgramFault, check_tokens, declare_source};
+use code_checker::{SourceFault, SourceRefusal, check_tokens, declare_source};
 use pas_lexer::{MAX_SOURCE_BYTES, Tokens, lex};
 use std::alloc::{AllocError, Global};
 
@@ -138,9 +138,15 @@ fn append_checked(
 ) -> Result<(), AllocError> {
     match (check_tokens(alloc, tokens).err(), judge) {
         (None, _) => append_all(&[b"taken"], seen),
-        (Some(ProgramFault::Rule { .. } | ProgramFault::TooBig { .. }), Judge::Grammar) => {
-            append_all(&[b"taken"], seen)
-        }
+        (
+            Some(
+                SourceFault::Refused {
+                    why: SourceRefusal::Rule(_) | SourceRefusal::TooBig,
+                    ..
+                },
+            ),
+            Judge::Grammar,
+        ) => append_all(&[b"taken"], seen),
         (Some(fault), _) => append_shown(&fault, seen),
     }
 }

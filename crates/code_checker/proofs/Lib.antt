@@ -36,7 +36,7 @@ pub mod KindTypes
 pub mod Nodes
 pub mod OneText
 pub mod Parts
-pub mod ProgramOfATree
+pub mod PiecesAreTold
 pub mod Refusals
 pub mod Standing
 pub mod StatementActuals

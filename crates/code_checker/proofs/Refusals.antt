@@ -11,7 +11,8 @@ use Rattle.check_steps.specs.declared.breaks.{Break.Break, CheckFault.CheckFault
 use Rattle.check_steps.specs.declared.breaks.Broken.{Broken, TheVariants.Early, TheVariants.Late, TheVariants.TooBig}
 use Rattle.code_checker.proofs.OneText.{one_text}
 use Rattle.code_checker.specs.{CheckedPrograms.broken, Declarations.IsTextOf, OneProgram.RefusedOnce, Places.TokenBegins}
-use Rattle.code_checker.specs.declared.programs.ProgramFault.{ProgramFault}
+use Rattle.code_checker.specs.declared.faults.SourceFault.TheVariants.{Memory, Refused}
+use Rattle.code_checker.specs.declared.faults.SourceRefusal.TheVariants as reason
 
 -- ---- first ones
 
@@ -79,35 +80,40 @@ no_tree : (t : Lexed) (x : Tree) → (IsText t.tokens → ⊥) → IsTextOf t x 
 no_tree t x none a = none (tree_node x, a.formed, a.spelled)
 
 pub refused_once : RefusedOnce
-refused_once t (ProgramFault.NotProgram line byte) (ProgramFault.NotProgram line' byte') (m, x, at) (n, y, at') p q =
+refused_once t (Refused reason.NotProgram line byte) (Refused reason.NotProgram line' byte') (m, x, at) (n, y, at') p q =
     let e : m ≡ n = least_once (IsHopeless pascal program_rule (items_of t.tokens)) m n x.1.1.1 y.1.1.1 in
     let place = at_once t m n line byte line' byte' e at at' in
-    λ i. ProgramFault.NotProgram (place.0 i) (place.1 i)
-refused_once t (ProgramFault.TooDeep line byte) (ProgramFault.TooDeep line' byte') (m, x, at) (n, y, at') p q =
+    λ i. Refused reason.NotProgram (place.0 i) (place.1 i)
+refused_once t (Refused reason.TooDeep line byte) (Refused reason.TooDeep line' byte') (m, x, at) (n, y, at') p q =
     let e : m ≡ n = least_once (IsTooDeep pascal 200 program_rule (items_of t.tokens)) m n x.1.1 y.1.1 in
     let place = at_once t m n line byte line' byte' e at at' in
-    λ i. ProgramFault.TooDeep (place.0 i) (place.1 i)
-refused_once t (ProgramFault.NotProgram line byte) (ProgramFault.TooDeep line' byte') (m, x, at) (n, y, at') p q = absurd (x.1.1.0 n y.1.1.0)
-refused_once t (ProgramFault.TooDeep line byte) (ProgramFault.NotProgram line' byte') (m, x, at) (n, y, at') p q = absurd (y.1.1.0 m x.1.1.0)
-refused_once t (ProgramFault.NotProgram line byte) (ProgramFault.Rule rule line' byte') (m, x, at) (z, a, b) p q = absurd (no_tree t z x.0 a)
-refused_once t (ProgramFault.NotProgram line byte) (ProgramFault.TooBig line' byte') (m, x, at) (z, a, b) p q = absurd (no_tree t z x.0 a)
-refused_once t (ProgramFault.TooDeep line byte) (ProgramFault.Rule rule line' byte') (m, x, at) (z, a, b) p q = absurd (no_tree t z x.0 a)
-refused_once t (ProgramFault.TooDeep line byte) (ProgramFault.TooBig line' byte') (m, x, at) (z, a, b) p q = absurd (no_tree t z x.0 a)
-refused_once t (ProgramFault.Rule rule line byte) (ProgramFault.NotProgram line' byte') (z, a, b) (n, y, at) p q = absurd (no_tree t z y.0 a)
-refused_once t (ProgramFault.Rule rule line byte) (ProgramFault.TooDeep line' byte') (z, a, b) (n, y, at) p q = absurd (no_tree t z y.0 a)
-refused_once t (ProgramFault.TooBig line byte) (ProgramFault.NotProgram line' byte') (z, a, b) (n, y, at) p q = absurd (no_tree t z y.0 a)
-refused_once t (ProgramFault.TooBig line byte) (ProgramFault.TooDeep line' byte') (z, a, b) (n, y, at) p q = absurd (no_tree t z y.0 a)
-refused_once t (ProgramFault.Rule rule line byte) (ProgramFault.Rule rule' line' byte') (x, a, (m, g, at)) (y, b, (n, h, at')) p q =
+    λ i. Refused reason.TooDeep (place.0 i) (place.1 i)
+refused_once t (Refused reason.NotProgram line byte) (Refused reason.TooDeep line' byte') (m, x, at) (n, y, at') p q = absurd (x.1.1.0 n y.1.1.0)
+refused_once t (Refused reason.TooDeep line byte) (Refused reason.NotProgram line' byte') (m, x, at) (n, y, at') p q = absurd (y.1.1.0 m x.1.1.0)
+refused_once t (Refused reason.NotProgram line byte) (Refused (reason.Rule rule) line' byte') (m, x, at) (z, a, b) p q = absurd (no_tree t z x.0 a)
+refused_once t (Refused reason.NotProgram line byte) (Refused reason.TooBig line' byte') (m, x, at) (z, a, b) p q = absurd (no_tree t z x.0 a)
+refused_once t (Refused reason.TooDeep line byte) (Refused (reason.Rule rule) line' byte') (m, x, at) (z, a, b) p q = absurd (no_tree t z x.0 a)
+refused_once t (Refused reason.TooDeep line byte) (Refused reason.TooBig line' byte') (m, x, at) (z, a, b) p q = absurd (no_tree t z x.0 a)
+refused_once t (Refused (reason.Rule rule) line byte) (Refused reason.NotProgram line' byte') (z, a, b) (n, y, at) p q = absurd (no_tree t z y.0 a)
+refused_once t (Refused (reason.Rule rule) line byte) (Refused reason.TooDeep line' byte') (z, a, b) (n, y, at) p q = absurd (no_tree t z y.0 a)
+refused_once t (Refused reason.TooBig line byte) (Refused reason.NotProgram line' byte') (z, a, b) (n, y, at) p q = absurd (no_tree t z y.0 a)
+refused_once t (Refused reason.TooBig line byte) (Refused reason.TooDeep line' byte') (z, a, b) (n, y, at) p q = absurd (no_tree t z y.0 a)
+refused_once t (Refused (reason.Rule rule) line byte) (Refused (reason.Rule rule') line' byte') (x, a, (m, g, at)) (y, b, (n, h, at')) p q =
     let e = answered_once t x y (CheckFault.Rule rule m) (CheckFault.Rule rule' n) a b g h in
     let place = at_once t m n line byte line' byte' (ap token_at e) at at' in
-    λ i. ProgramFault.Rule (rule_in (e i)) (place.0 i) (place.1 i)
-refused_once t (ProgramFault.TooBig line byte) (ProgramFault.TooBig line' byte') (x, a, (m, g, at)) (y, b, (n, h, at')) p q =
+    λ i. Refused (reason.Rule (rule_in (e i))) (place.0 i) (place.1 i)
+refused_once t (Refused reason.TooBig line byte) (Refused reason.TooBig line' byte') (x, a, (m, g, at)) (y, b, (n, h, at')) p q =
     let e = answered_once t x y (CheckFault.TooBig m) (CheckFault.TooBig n) a b g h in
     let place = at_once t m n line byte line' byte' (ap token_at e) at at' in
-    λ i. ProgramFault.TooBig (place.0 i) (place.1 i)
-refused_once t (ProgramFault.Rule rule line byte) (ProgramFault.TooBig line' byte') (x, a, (m, g, at)) (y, b, (n, h, at')) p q =
+    λ i. Refused reason.TooBig (place.0 i) (place.1 i)
+refused_once t (Refused (reason.Rule rule) line byte) (Refused reason.TooBig line' byte') (x, a, (m, g, at)) (y, b, (n, h, at')) p q =
     let e = answered_once t x y (CheckFault.Rule rule m) (CheckFault.TooBig n) a b g h in absurd (omega (arith, ap kind_of e))
-refused_once t (ProgramFault.TooBig line byte) (ProgramFault.Rule rule line' byte') (x, a, (m, g, at)) (y, b, (n, h, at')) p q =
+refused_once t (Refused reason.TooBig line byte) (Refused (reason.Rule rule) line' byte') (x, a, (m, g, at)) (y, b, (n, h, at')) p q =
     let e = answered_once t x y (CheckFault.TooBig m) (CheckFault.Rule rule n) a b g h in absurd (omega (arith, ap kind_of e))
-refused_once t ProgramFault.Memory f h g p q = absurd (p refl)
-refused_once t e ProgramFault.Memory h g p q = absurd (q refl)
+refused_once t Memory f h g p q = absurd (p refl)
+refused_once t e Memory h g p q = absurd (q refl)
+refused_once t (Refused reason.NotProgram line byte) (Refused why line' byte') h g p q = absurd g
+refused_once t (Refused reason.TooDeep line byte) (Refused why line' byte') h g p q = absurd g
+refused_once t (Refused (reason.Rule rule) line byte) (Refused why line' byte') h g p q = absurd g
+refused_once t (Refused reason.TooBig line byte) (Refused why line' byte') h g p q = absurd g
+refused_once t (Refused why line byte) (Refused why' line' byte') h g p q = absurd h

@@ -4,6 +4,7 @@ pub mod CodePlaces
 pub mod Declarations
 pub mod Laws
 pub mod OneProgram
+pub mod Pieces
 pub mod Places
 pub mod Programs
 pub mod Results

@@ -7,7 +7,7 @@ use Rattle.check_steps.specs.Known.{Known}
 use Rattle.decl_checker.specs.Programs as declarations
 use Rattle.code_checker.specs.{Declarations.IsDeclared, Declarations.IsTextOf, Programs.IsChecked, Programs.IsUnchecked}
 use Rattle.code_checker.specs.CheckedPrograms as program
-use Rattle.code_checker.specs.declared.programs.ProgramFault.{ProgramFault, TheVariants.Memory}
+use Rattle.code_checker.specs.declared.faults.SourceFault.{SourceFault, TheVariants.Memory}
 
 -- Over these tokens two trees break the same rules and denote the same program, and so do their declarations alone.
 pub record AreOneProgram (t : Lexed) (a b : Tree) : Type 0 where
@@ -26,7 +26,7 @@ AtMostOneProgram = (t : Lexed) (p q : ProgramRows) → IsChecked t p → IsCheck
 
 -- Tokens that are the text of a program are refused only where memory runs out.
 abbrev pub NeverBoth : Type 0
-NeverBoth = (t : Lexed) (p : ProgramRows) (f : ProgramFault) → IsChecked t p → IsUnchecked t f → f ≡ Memory
+NeverBoth = (t : Lexed) (p : ProgramRows) (f : SourceFault) → IsChecked t p → IsUnchecked t f → f ≡ Memory
 
 -- A source has at most one set of tables.
 abbrev pub DeclaredOnce : Type 0
@@ -35,4 +35,4 @@ DeclaredOnce = (source : List ℕ) (j k : Known) → IsDeclared source j → IsD
 -- Tokens are refused for one reason, at one place, unless memory runs out.
 abbrev pub RefusedOnce : Type 0
 RefusedOnce =
-    (t : Lexed) (e f : ProgramFault) → IsUnchecked t e → IsUnchecked t f → e ≢ Memory → f ≢ Memory → e ≡ f
+    (t : Lexed) (e f : SourceFault) → IsUnchecked t e → IsUnchecked t f → e ≢ Memory → f ≢ Memory → e ≡ f

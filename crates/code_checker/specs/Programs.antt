@@ -6,8 +6,9 @@ use Rattle.pas_phrases.specs.declared.fault.ParseFault.{ParseFault}
 use Rattle.pas_parser.specs.{Exact.IsExact, Formed.IsText}
 use Rattle.core_program.specs.ProgramRows.{ProgramRows}
 use Rattle.check_steps.specs.{Breaks.FaultIs, declared.breaks.CheckFault.CheckFault}
-use Rattle.code_checker.specs.{Declarations.IsTextOf, Places.TokenBegins, declared.programs.ProgramFault.ProgramFault}
+use Rattle.code_checker.specs.{Declarations.IsTextOf, Places.TokenBegins, declared.faults.SourceRefusal.SourceRefusal}
 use Rattle.code_checker.specs.CheckedPrograms.{broken, program_of}
+use Rattle.code_checker.specs.declared.faults.SourceFault.{SourceFault, TheVariants.Memory, TheVariants.Refused}
 
 -- ---- programs
 
@@ -31,23 +32,18 @@ abbrev pub IsBrokenAt : Lexed → Tree → (ℕ → CheckFault) → (line byte :
 IsBrokenAt t x what line byte =
     (token : ℕ) × FaultIs (broken t (program_tree x)) (what token) × TokenBegins t token line byte
 
--- why a tree denotes no program
-abbrev pub IsNotDenotedBy : Lexed → Tree → ProgramFault → Type 0
-IsNotDenotedBy t x (ProgramFault.NotProgram line byte) = ⊥
-IsNotDenotedBy t x (ProgramFault.TooDeep line byte) = ⊥
-IsNotDenotedBy t x (ProgramFault.Rule rule line byte) = IsBrokenAt t x (CheckFault.Rule rule) line byte
-IsNotDenotedBy t x (ProgramFault.TooBig line byte) = IsBrokenAt t x CheckFault.TooBig line byte
-IsNotDenotedBy t x ProgramFault.Memory = Unit {0}
-
--- Why and where tokens are no program: no tree of the grammar spells them; or one does, and a rule is broken; or none
--- is, and something is too big.
-abbrev pub IsUnchecked : Lexed → ProgramFault → Type 0
-IsUnchecked t (ProgramFault.NotProgram line byte) =
+-- Why and where tokens are refused: no tree of the grammar spells them; or one does, and a rule is broken; or none is,
+-- and something is too big.
+abbrev pub RefusesText : Lexed → SourceRefusal → (line byte : ℕ) → Type 0
+RefusesText t SourceRefusal.NotProgram line byte =
     (number : ℕ) × HasNoTree t (ParseFault.NotProgram number) × TokenBegins t number line byte
-IsUnchecked t (ProgramFault.TooDeep line byte) =
+RefusesText t SourceRefusal.TooDeep line byte =
     (number : ℕ) × HasNoTree t (ParseFault.TooDeep number) × TokenBegins t number line byte
-IsUnchecked t (ProgramFault.Rule rule line byte) =
+RefusesText t (SourceRefusal.Rule rule) line byte =
     (x : Tree) × IsTextOf t x × IsBrokenAt t x (CheckFault.Rule rule) line byte
-IsUnchecked t (ProgramFault.TooBig line byte) =
-    (x : Tree) × IsTextOf t x × IsBrokenAt t x CheckFault.TooBig line byte
-IsUnchecked t ProgramFault.Memory = Unit {0}
+RefusesText t SourceRefusal.TooBig line byte = (x : Tree) × IsTextOf t x × IsBrokenAt t x CheckFault.TooBig line byte
+RefusesText t _ line byte = ⊥
+
+abbrev pub IsUnchecked : Lexed → SourceFault → Type 0
+IsUnchecked t (Refused why line byte) = RefusesText t why line byte
+IsUnchecked t Memory = Unit {0}

@@ -8,12 +8,16 @@ pub mod blocks;
 pub mod checked_programs;
 pub mod code_places;
 mod declarations;
+mod faults;
 mod laws;
+mod pieces;
 mod places;
 mod programs;
 pub mod results;
 
 pub use checked_programs::check;
 pub use declarations::declare_source;
+pub use faults::{SourceFault, SourceRefusal, fault_of_piece};
 pub use laws::{broken_rules_stand, declarations_count, one_text_one_program, too_big_comes_last};
-pub use programs::{ProgramFault, check_tokens};
+pub use pieces::read_tokens;
+pub use programs::check_tokens;

@@ -5,11 +5,11 @@ use Rattle.pas_lexer.specs.Division.{FailsAt, FailsFor, IsFault, IsLexed, lex_fa
 use Rattle.pas_phrases.specs.declared.fault.ParseFault.{ParseFault}
 use Rattle.core_program.specs.ProgramRows.{ProgramRows}
 use Rattle.check_steps.specs.declared.breaks.CheckFault.{CheckFault}
-use Rattle.code_checker.specs.{Declarations.HasTokens, Programs.IsChecked, Programs.IsUnchecked, declared.programs.ProgramFault.ProgramFault}
-use Rattle.code_checker.specs.OneProgram.{AtMostOneProgram, NeverBoth, RefusedOnce}
+use Rattle.code_checker.specs.{Declarations.HasTokens, OneProgram.AtMostOneProgram, OneProgram.NeverBoth, OneProgram.RefusedOnce, Programs.IsChecked}
+use Rattle.code_checker.specs.{Programs.RefusesText, declared.faults.SourceFault.SourceFault, declared.faults.SourceRefusal.SourceRefusal}
 use Rattle.reference_oracle.specs.{Reading.IsOfBytes, Reading.IsSourceOf, Reading.IsUnreadReference, declared.faults.RefFault.RefFault}
 use Rattle.dialog_replies.specs.declared.references.Reading.{Reading}
-use Rattle.debuggee.specs.{Program.fault_of_check, References.IsReading, References.fault_of_reference, References.told_of}
+use Rattle.debuggee.specs.References.{IsReading, fault_of_reference, told_of}
 
 -- what is known of the pieces of a source, and of texts
 pub record Known : Type 0 where
@@ -45,8 +45,8 @@ failed source LexFault.Memory x other = absurd (other refl)
 data Way (bytes : List ℕ) : Reading ProgramRows → Type 0 where
   checked : (p : ProgramRows) → IsSourceOf bytes p → Way bytes (Reading.Program p)
   unlexed : (why : List ℕ) (f : LexFault) → Failed bytes f → told_of (fault_of_reference bytes (RefFault.Lex f)) ≡ Some why → Way bytes (Reading.Refused why)
-  unchecked : (why : List ℕ) (t : Lexed) → HasTokens bytes t → (f : ProgramFault) → IsUnchecked t f → f ≢ ProgramFault.Memory
-      → told_of (fault_of_check f) ≡ Some why → Way bytes (Reading.Refused why)
+  unchecked : (why : List ℕ) (t : Lexed) → HasTokens bytes t → (f : SourceRefusal) (line byte : ℕ) → RefusesText t f line byte
+      → told_of (SourceFault.Refused f line byte) ≡ Some why → Way bytes (Reading.Refused why)
 
 none_some : {why : List ℕ} → ◌≡◌ {A = Option (List ℕ)} None (Some why) → ⊥
 none_some e = let x : ⊥ = cc in x
@@ -55,14 +55,14 @@ refused_way : (bytes why : List ℕ) (f : RefFault) → IsUnreadReference bytes 
     → Way bytes (Reading.Refused why)
 refused_way bytes why (RefFault.Lex f) x told = unlexed why f (failed bytes f x.0 x.1) told
 refused_way bytes why (RefFault.Parse (ParseFault.NotProgram token) line byte) (t, has, at) told =
-    unchecked why t has (ProgramFault.NotProgram line byte) (token, at.0, at.1) (λ e. let x : ⊥ = cc in x) told
+    unchecked why t has SourceRefusal.NotProgram line byte (token, at.0, at.1) told
 refused_way bytes why (RefFault.Parse (ParseFault.TooDeep token) line byte) (t, has, at) told =
-    unchecked why t has (ProgramFault.TooDeep line byte) (token, at.0, at.1) (λ e. let x : ⊥ = cc in x) told
+    unchecked why t has SourceRefusal.TooDeep line byte (token, at.0, at.1) told
 refused_way bytes why (RefFault.Parse ParseFault.Memory line byte) x told = absurd (none_some told)
 refused_way bytes why (RefFault.Check (CheckFault.Rule rule token) line byte) (t, has, (tree, text, at)) told =
-    unchecked why t has (ProgramFault.Rule rule line byte) (tree, text, (token, at.0, at.1)) (λ e. let x : ⊥ = cc in x) told
+    unchecked why t has (SourceRefusal.Rule rule) line byte (tree, text, (token, at.0, at.1)) told
 refused_way bytes why (RefFault.Check (CheckFault.TooBig token) line byte) (t, has, (tree, text, at)) told =
-    unchecked why t has (ProgramFault.TooBig line byte) (tree, text, (token, at.0, at.1)) (λ e. let x : ⊥ = cc in x) told
+    unchecked why t has SourceRefusal.TooBig line byte (tree, text, (token, at.0, at.1)) told
 refused_way bytes why (RefFault.Check CheckFault.Memory line byte) x told = absurd (none_some told)
 refused_way bytes why RefFault.Memory x told = absurd (none_some told)
 
@@ -91,10 +91,15 @@ module _ (known : Known) (bytes : List ℕ) where
     source = (a.kept ∙ sym b.kept) i;
   }
 
-  not_checked : (p : ProgramRows) → IsSourceOf bytes p → (t : Lexed) → HasTokens bytes t → (f : ProgramFault) → IsUnchecked t f
-      → f ≢ ProgramFault.Memory → ⊥
-  not_checked p (u, has, is) t also f unread other =
-      other (known.never_both t p f (subst (λ (x : Lexed). IsChecked x p) (same_tokens u t has also) is) unread)
+  -- want of memory is told as no reason at a place
+  placed : (f : SourceRefusal) (line byte : ℕ) → SourceFault.Refused f line byte ≢ SourceFault.Memory
+  placed f line byte e = let x : ⊥ = cc in x
+
+  not_checked : (p : ProgramRows) → IsSourceOf bytes p → (t : Lexed) → HasTokens bytes t → (f : SourceRefusal) (line byte : ℕ)
+      → RefusesText t f line byte → ⊥
+  not_checked p (u, has, is) t also f line byte refuses =
+      placed f line byte
+      (known.never_both t p (SourceFault.Refused f line byte) (subst (λ (x : Lexed). IsChecked x p) (same_tokens u t has also) is) refuses)
 
   same_program : (p q : ProgramRows) → IsSourceOf bytes p → IsSourceOf bytes q → p ≡ q
   same_program p q (t, has, is) (u, also, so) =
@@ -103,17 +108,18 @@ module _ (known : Known) (bytes : List ℕ) where
   same_way : (x y : Reading ProgramRows) → Way bytes x → Way bytes y → x ≡ y
   same_way x y (checked p a) (checked q b) = ap Reading.Program (same_program p q a b)
   same_way x y (checked p a) (unlexed why f b told) = absurd (not_lexed f b a.0 a.1)
-  same_way x y (checked p a) (unchecked why t has f unread other told) = absurd (not_checked p a t has f unread other)
+  same_way x y (checked p a) (unchecked why t has f line byte refuses told) = absurd (not_checked p a t has f line byte refuses)
   same_way x y (unlexed why f b told) (checked p a) = absurd (not_lexed f b a.0 a.1)
   same_way x y (unlexed why f a told) (unlexed because g b also) =
       ap Reading.Refused (same_some (sym told ∙ ap (λ (h : LexFault). told_of (fault_of_reference bytes (RefFault.Lex h))) (same_fault f g a b) ∙ also))
-  same_way x y (unlexed why f b told) (unchecked because t has g unread other also) = absurd (not_lexed f b t has)
-  same_way x y (unchecked why t has f unread other told) (checked p a) = absurd (not_checked p a t has f unread other)
-  same_way x y (unchecked why t has f unread other told) (unlexed because g b also) = absurd (not_lexed g b t has)
-  same_way x y (unchecked why t has f unread other told) (unchecked because u too g so some also) =
-      let here = subst (λ (v : Lexed). IsUnchecked v f) (same_tokens t u has too) unread in
-      ap Reading.Refused
-      (same_some (sym told ∙ ap (λ (h : ProgramFault). told_of (fault_of_check h)) (known.refused_once u f g here so other some) ∙ also))
+  same_way x y (unlexed why f b told) (unchecked because t has g line byte refuses also) = absurd (not_lexed f b t has)
+  same_way x y (unchecked why t has f line byte refuses told) (checked p a) = absurd (not_checked p a t has f line byte refuses)
+  same_way x y (unchecked why t has f line byte refuses told) (unlexed because g b also) = absurd (not_lexed g b t has)
+  same_way x y (unchecked why t has f line byte refuses told) (unchecked because u too g line' byte' again also) =
+      let here = subst (λ (v : Lexed). RefusesText v f line byte) (same_tokens t u has too) refuses in
+      let same = known.refused_once u (SourceFault.Refused f line byte) (SourceFault.Refused g line' byte') here again
+      (placed f line byte) (placed g line' byte') in
+      ap Reading.Refused (same_some (sym told ∙ ap told_of same ∙ also))
 
   pub one_reading : (x y : Reading ProgramRows) → IsReading bytes x → IsReading bytes y → x ≡ y
   one_reading x y a b = same_way x y (way bytes x a) (way bytes y b)

@@ -1,9 +1,10 @@
 -- What is refused is what is owed at its status.
 use Rattle.std.proofs.Common.{◌≡◌, ◌⊎◌, ℕ, Bor, Err, List, None, Ok, Option, Result, Some, inl, inr, refl, subst, sym}
 use Rattle.edge_ports.specs.{Counts.CountsFetch, Files.FileMap, Files.HoldsLonger, Files.LacksFile, declared.ports.FetchFault.FetchFault}
+use Rattle.code_checker.specs.declared.faults.SourceFault.{SourceFault}
 use Rattle.session_file.specs.{Reading.session_of, declared.session.LoadFault.LoadFault, declared.session.Session.Session}
 use Rattle.ask_session.specs.Outside.{Outside}
-use Rattle.debuggee.specs.{Program.IsRefused, declared.source.SourceFault.SourceFault}
+use Rattle.debuggee.specs.Program.{IsRefused}
 use Rattle.debug_cli.specs.{Goes.Owes, Limits.session_bytes, Meaning.Meant, Meaning.Requested, Meaning.Source, Refusals.IsRefusal, Refusals.file_told}
 use Rattle.debug_cli.specs.{Refusals.session_told, Texts.file_line, Texts.session_line, declared.refusals.Refusal.Refusal, declared.status.Status.Status}
 use Rattle.debug_cli.specs.Named.{FileSought, IsFetchFault, IsFetched, IsSought, IsSource, Supplied}

@@ -6,13 +6,13 @@ use Rattle.edge_ports.specs.Files.{FileMap, HoldsFile, HoldsLonger, LacksFile}
 use Rattle.edge_ports.specs.declared.ports.FetchFault.{FetchFault}
 use Rattle.pas_lexer.specs.{Lexed.Lexed, Limits.source_bytes}
 use Rattle.core_program.specs.ProgramRows.{ProgramRows}
+use Rattle.code_checker.specs.declared.faults.SourceRefusal.{SourceRefusal}
 use Rattle.session_file.specs.Reading.{session_of}
 use Rattle.session_file.specs.declared.session.{LoadFault.LoadFault, Session.Session}
 use Rattle.dialog_replies.specs.{Subject.Subject, declared.start.Start.Start}
 use Rattle.made_program.specs.{Lines.made_lines, Source.made_source}
 use Rattle.debuggee.specs.{Execution.execution_of, Limits.input_bytes, Limits.most_steps, Subjects.subject_of}
 use Rattle.debuggee.specs.Program.{IsProgram, NoProgram, Refuses}
-use Rattle.debuggee.specs.declared.refusal.SourceRefusal.{SourceRefusal}
 use Rattle.debug_cli.specs.Limits.{session_bytes}
 use Rattle.debug_cli.specs.Meaning.{Made, Meant, Requested, Source, meant}
 

@@ -2,9 +2,10 @@
 use Rattle.std.specs.Prelude.{◌≡◌, ◌⊎◌, ℕ, Err, IfSome, List, None, Ok, Option, Result, Some}
 use Rattle.edge_ports.specs.{Files.FileMap, declared.ports.FetchFault.FetchFault}
 use Rattle.pas_lexer.specs.Limits.{source_bytes}
+use Rattle.code_checker.specs.declared.faults.SourceFault.{SourceFault}
 use Rattle.session_file.specs.{Whole.IsWhole, declared.session.LoadFault.LoadFault}
 use Rattle.ask_session.specs.Outside.{Outside}
-use Rattle.debuggee.specs.{Program.IsProgram, declared.source.SourceFault.SourceFault}
+use Rattle.debuggee.specs.Program.{IsProgram}
 use Rattle.debug_cli.specs.{Given.GivesNothing, Given.GivesText, Goes.Owes, Meaning.Meant, Meaning.Requested}
 use Rattle.debug_cli.specs.{Named.IsFetched, Named.IsInput, Named.IsSaved, Outside.CountsOneFault}
 use Rattle.debug_cli.specs.Texts.{file_line, refused_line, session_line}

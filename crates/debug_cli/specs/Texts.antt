@@ -1,8 +1,9 @@
 -- What is printed of words, files, sources and sessions that are refused.
 use Rattle.std.specs.Prelude.{◌++◌, [], ℕ, List, codes, decimal}
 use Rattle.edge_ports.specs.declared.ports.FetchFault.{FetchFault}
+use Rattle.code_checker.specs.declared.faults.SourceRefusal.{SourceRefusal}
 use Rattle.session_file.specs.declared.session.{LoadFault.LoadFault, SessionField.SessionField}
-use Rattle.debuggee.specs.{Refusing.refusal_at, declared.refusal.SourceRefusal.SourceRefusal}
+use Rattle.debuggee.specs.Refusing.{refusal_at}
 
 abbrev pub usage_line : List ℕ
 usage_line = codes "usage: pasask SOURCE [--input F] [--budget N] [--load F]\n"

@@ -4,7 +4,8 @@ ghost use Rattle.debug_cli.specs.Refusals.{file_told, line_on, session_told};
 ghost use Rattle.debug_cli.specs.Texts.{field_key, refused_line};
 
 use crate::refusals::Refusal;
-use debuggee::{SourceFault, SourceRefusal, write_refusal};
+use code_checker::SourceRefusal;
+use debuggee::{SourceFault, write_refusal};
 use edge_ports::{Bytes, FetchFault};
 use itoa::Buffer;
 use session_file::{LoadFault, SessionField};

@@ -1,17 +1,18 @@
 -- Whose frame has an address of the stack while a call runs.
 use Rattle.std.proofs.Common.{if◌then◌else◌, ◌&&◌, ◌++◌, ◌+◌, ◌-◌, ◌<◌, ◌==◌, ◌∙◌, ◌∷◌, ◌≡◌, ◌≤◌, [], ℕ, Bool, List, None, Option, Some, ap, append-nil, arith}
-use Rattle.std.proofs.Common.{cond, drop, false, filter, inl, inr, length, nat_le, nat_lt, refl, subst, suc, sym, true, zero}
+use Rattle.std.proofs.Common.{cond, false, filter, length, nat_le, nat_lt, refl, subst, suc, sym, true, zero}
 use Rattle.std.proofs.lemmas.{Bool.Decides.nat_tests, List.Elements.filter-append, Option.slice_get-map, Option.slice_get_within}
 use Rattle.std.specs.{List.slice_get, Option.IsSome, Option.option_map}
-use Rattle.cell_value.specs.{Effects.heap_start, Effects.last_of, declared.values.Value.Value}
+use Rattle.cell_value.specs.Effects.{heap_start, last_of}
 use Rattle.core_program.specs.{ProgramRows.ProgramRows, ProgramRows.routine_at, Run.frame_size, WholeTables.WholeTables, declared.program.Routine.Routine}
+use Rattle.run_laws.specs.LaidOut.{LaidOut}
 use Rattle.call_tree.specs.declared.records.Call.{Call}
-use Rattle.cell_names.specs.{Conformant.argument_by, Conformant.arguments_of, Layouts.part, Places.is_begun, Places.last_at}
+use Rattle.cell_names.specs.{Layouts.part, Places.is_begun, Places.last_at}
 use Rattle.cell_names.specs.Names.{Scene, begins_there, frame, heap_root, is_link, local_at, local_root, root_at, root_in, stack_root}
 use Rattle.cell_names.specs.declared.{names.Frame.Frame, names.Local.Local, names.Root.Root, places.PlacedPart.PlacedPart}
 use Rattle.question_text.specs.{Cards.Recorded, Cards.scene_of, Frames.frame_by, Frames.opened_by, Frames.opened_from}
-use Rattle.debuggee.proofs.{FramesFollow.BeginsAt, FramesFollow.EndsAt, FramesFollow.IsFramed, PlacesHaveNames.copy_named, PlacesHaveNames.place_named}
-use Rattle.debuggee.specs.LeftOut.{LiesUncopied, LiesUnfilled}
+use Rattle.debuggee.proofs.FramesFilled.{HasCopies, copy_named, place_named}
+use Rattle.debuggee.proofs.FramesFollow.{BeginsAt, EndsAt, IsFramed}
 
 -- ---- one part more
 
@@ -49,6 +50,7 @@ module _ (p : ProgramRows) (calls : List Call) where
     pub stands : slice_get calls found.number ≡ Some call
     pub routine : Routine
     pub has : routine_at p call.routine ≡ Some routine
+    pub top : found.place ≡ call.entry.top
     pub low : found.place ≤ a
     pub high : a < found.place + frame_size routine call.args
 
@@ -83,36 +85,16 @@ module _ (p : ProgramRows) (calls : List Call) where
         stands = e;
         routine = q;
         has = has;
+        top = refl;
         low = l;
         high = below;
       }
       by go false f = subst (Found a) (sym (before a outer (part c.entry.top k) f))
           (further go c.parent (every k c e).begins (let l : a < c.entry.top = grind (arith, nat_tests) in l))
 
--- ---- what a call was given
-
-get_there : (i : ℕ) (vs : List Value) → i < length vs → IsSome (slice_get vs i)
-get_there i [] h = absurd (omega (arith, h))
-get_there zero (v ∷ vs) h = refl
-get_there (suc i) (v ∷ vs) h = get_there i vs (omega (arith, h))
-
-dropped_get : (n i : ℕ) (vs : List Value) → i < length (drop n vs) → IsSome (slice_get vs (n + i))
-dropped_get zero i vs h = subst (λ j. IsSome (slice_get vs j)) (let x : i ≡ zero + i = omega arith in x) (get_there i vs h)
-dropped_get (suc n) i [] h = absurd (omega (arith, h))
-dropped_get (suc n) i (v ∷ vs) h =
-    subst (λ j. IsSome (slice_get (v ∷ vs) j)) (let x : suc (n + i) ≡ suc n + i = omega arith in x) (dropped_get n i vs h)
-
--- a place of a call's frame behind the cells of its routine is there for a value that the call was given
-pub passed_there : (k : Recorded) (number : ℕ) (call : Call) → slice_get k.calls number ≡ Some call → (q : Routine) (place : ℕ) → q.cells ≤ place
-    → place < frame_size q call.args → IsSome (arguments_of k.calls number (q.parameters + (place - q.cells)))
-passed_there k number call e q place after inside =
-    subst (λ o. IsSome (argument_by (q.parameters + (place - q.cells)) o))
-    (sym (slice_get-map (λ (c : Call). c.args) k.calls number ∙ ap (option_map (λ (c : Call). c.args)) e))
-    (dropped_get q.parameters (place - q.cells) call.args (omega (arith, after, inside)))
-
 -- ---- addresses
 
-module _ (k : Recorded) (whole : WholeTables k.program) (number : ℕ) where
+module _ (k : Recorded) (whole : WholeTables k.program) (laid : LaidOut k.program) (number : ℕ) where
   abbrev scene : Scene
   scene = scene_of k number
 
@@ -120,8 +102,6 @@ module _ (k : Recorded) (whole : WholeTables k.program) (number : ℕ) where
   pub data OnStack (a : ℕ) (o : Option Root) : Type 0 where
     HasName : IsSome o → OnStack a o
     Begins : begins_there a (scene.opened a) ≡ true → OnStack a o
-    NoName : LiesUnfilled scene a → OnStack a o
-    NoCopy : LiesUncopied scene a → OnStack a o
 
   local_some : (call routine : ℕ) (o : Option Local) → IsSome o → IsSome (local_root call routine o)
   local_some call routine None h = absurd (let z : false ≡ true = h in cc)
@@ -134,57 +114,39 @@ module _ (k : Recorded) (whole : WholeTables k.program) (number : ℕ) where
       → stack_root scene a (Some found) ≡ local_root found.number call.routine (local_at scene (frame found.number call.routine found.place) (a - found.place))
   root_of a found call e = ap (λ o. root_in scene found.number found.place (a - found.place) o) (routine_of found.number call e)
 
-  on_stack : (a : ℕ) → Found k.program k.calls a (scene.opened a) → OnStack a (stack_root scene a (scene.opened a))
-  on_stack a f = subst (λ o. OnStack a (stack_root scene a o)) (sym f.is)
+  -- the calls were given their copies
+  abbrev pub AllHaveCopies : Type 0
+  AllHaveCopies = (n : ℕ) (c : Call) → slice_get k.calls n ≡ Some c → HasCopies k whole laid number c
+
+  on_stack : AllHaveCopies → (a : ℕ) → Found k.program k.calls a (scene.opened a) → OnStack a (stack_root scene a (scene.opened a))
+  on_stack copies a f = subst (λ o. OnStack a (stack_root scene a o)) (sym f.is)
       (subst (OnStack a) (sym (root_of a f.found f.call f.stands)) (by (f.found.place == a) refl))
     where
       base : Frame
       base = frame f.found.number f.call.routine f.found.place
 
-      own : (b : Bool) → nat_le f.routine.cells (a - f.found.place) ≡ b → 0 < a - f.found.place
-          → OnStack a (local_root f.found.number f.call.routine (local_at scene base (a - f.found.place)))
-      own false q some =
-          let before : a - f.found.place < f.routine.cells = grind (arith, nat_tests) in
-          elim (place_named k number whole base (a - f.found.place) f.routine f.has some before) [
-            | inl h ↦ HasName (local_some f.found.number f.call.routine (local_at scene base (a - f.found.place)) h)
-            | inr u ↦ NoName (record {
-              part = f.found;
-              opened = f.is;
-              number = f.call.routine;
-              routine = routine_of f.found.number f.call f.stands;
-              unfilled = u;
-            })
-          ]
+      own : (b : Bool) → nat_le f.routine.cells (a - f.found.place) ≡ b → 0 < a - f.found.place → IsSome (local_at scene base (a - f.found.place))
+      own false q some = place_named k whole laid number base (a - f.found.place) f.routine f.has some (grind (arith, nat_tests))
       own true q some =
           let after : f.routine.cells ≤ a - f.found.place = grind (arith, nat_tests) in
           let low = f.low in
           let high = f.high in
-          let inside : a - f.found.place < frame_size f.routine f.call.args = omega (arith, low, high) in
-          elim (copy_named k number base (a - f.found.place) f.routine f.has some after
-          (passed_there k f.found.number f.call f.stands f.routine (a - f.found.place) after inside)) [
-            | inl h ↦ HasName (local_some f.found.number f.call.routine (local_at scene base (a - f.found.place)) h)
-            | inr u ↦ NoCopy (record {
-              part = f.found;
-              opened = f.is;
-              number = f.call.routine;
-              routine = routine_of f.found.number f.call f.stands;
-              uncopied = u;
-            })
-          ]
+          subst (λ top. IsSome (local_at scene (frame f.found.number f.call.routine top) (a - f.found.place))) (sym f.top)
+          (copy_named k whole laid number f.found.number f.call f.stands (copies f.found.number f.call f.stands) (a - f.found.place) f.routine f.has some
+          after (omega (arith, low, high)))
 
       by : (b : Bool) → (f.found.place == a) ≡ b → OnStack a (local_root f.found.number f.call.routine (local_at scene base (a - f.found.place)))
       by true q = Begins (ap (begins_there a) f.is ∙ q)
       by false q =
           let other : f.found.place ≡ a → ⊥ = grind (arith, nat_tests) in
           let low = f.low in
-          own (nat_le f.routine.cells (a - f.found.place)) refl (grind (arith, low, other))
+          HasName (local_some f.found.number f.call.routine (local_at scene base (a - f.found.place))
+          (own (nat_le f.routine.cells (a - f.found.place)) refl (grind (arith, low, other))))
 
   -- the root of an address of a call's reads or changes
   pub data Rooted (a : ℕ) (o : Option Root) : Type 0 where
     HasRoot : IsSome o → Rooted a o
     IsLink : is_link scene a ≡ true → Rooted a o
-    IsUnfilled : LiesUnfilled scene a → Rooted a o
-    IsUncopied : LiesUncopied scene a → Rooted a o
     NoBlock : heap_start ≤ a → scene.finding.block a ≡ None → Rooted a o
 
   on_heap : (a : ℕ) → heap_start ≤ a → (o : Option PlacedPart) → scene.finding.block a ≡ o → Rooted a (heap_root a o)
@@ -194,13 +156,12 @@ module _ (k : Recorded) (whole : WholeTables k.program) (number : ℕ) where
   lower : (a : ℕ) (o : Option Root) → nat_lt a heap_start ≡ true → OnStack a o → Rooted a o
   lower a o l (HasName h) = HasRoot h
   lower a o l (Begins h) = IsLink (ap (λ b. b && begins_there a (scene.opened a)) l ∙ h)
-  lower a o l (NoName u) = IsUnfilled u
-  lower a o l (NoCopy u) = IsUncopied u
 
-  pub rooted : (c : Call) → slice_get k.calls number ≡ Some c → ((n : ℕ) (c : Call) → slice_get k.calls n ≡ Some c → IsFramed k.program k.calls n c)
+  pub rooted : AllHaveCopies → (c : Call) → slice_get k.calls number ≡ Some c
+      → ((n : ℕ) (c : Call) → slice_get k.calls n ≡ Some c → IsFramed k.program k.calls n c)
       → (a : ℕ) → (a < heap_start → a < c.entry.top) → Rooted a (root_at scene a)
   unfolding root_at
-  rooted c e every a low = by (nat_le heap_start a) refl
+  rooted copies c e every a low = by (nat_le heap_start a) refl
     where
       framed : IsFramed k.program k.calls number c
       framed = every number c e
@@ -211,5 +172,5 @@ module _ (k : Recorded) (whole : WholeTables k.program) (number : ℕ) where
           let l : a < heap_start = grind (arith, nat_tests) in
           let m = low l in
           lower a (stack_root scene a (scene.opened a)) (grind (arith, nat_tests))
-          (on_stack a (found_in k.program k.calls every (length k.calls) number c e (slice_get_within k.calls number c e) framed.routine framed.has a
+          (on_stack copies a (found_in k.program k.calls every (length k.calls) number c e (slice_get_within k.calls number c e) framed.routine framed.has a
           (omega (arith, m))))

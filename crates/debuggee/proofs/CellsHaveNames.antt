@@ -1,6 +1,6 @@
--- Cells have names, but for links, unfilled places, and what was never there.
-use Rattle.std.proofs.Common.{if◌then◌else◌, ◌++◌, ◌+◌, ◌-◌, ◌<◌, ◌∙◌, ◌∷◌, ◌≡◌, ◌≤◌, ◌⊎◌, [], ℕ, All, Bool, List, None, Option, Some, ap, arith, drop, false}
-use Rattle.std.proofs.Common.{inl, inr, is_some, length, map, refl, slice_range, subst, suc, sym, take, true, zero}
+-- Where tables are laid out, cells have names, but for links, and what was never there.
+use Rattle.std.proofs.Common.{if◌then◌else◌, ◌++◌, ◌+◌, ◌-◌, ◌<◌, ◌∙◌, ◌∷◌, ◌≡◌, ◌≤◌, [], ℕ, All, Bool, List, None, Option, Some, ap, arith, drop, false, inl}
+use Rattle.std.proofs.Common.{inr, is_some, length, map, refl, slice_range, subst, suc, sym, take, true, zero}
 use Rattle.std.proofs.lemmas.{List.drop_at, List.take_at, List.Elements.All-cons, List.Elements.All-nil, Option.get_or_from_slice_get, Option.slice_get_within}
 use Rattle.std.specs.List.{cons_option, filter_map, list_any, range_with_len, slice_get}
 use Rattle.std.specs.Option.{IsSome, option_map}
@@ -8,21 +8,22 @@ use Rattle.cell_value.specs.Effects.{change_at, changes_of, heap_end, heap_start
 use Rattle.cell_value.specs.declared.{entries.Change.Change, entries.Seen.Seen, entries.Touch.Touch, values.Value.Value}
 use Rattle.pas_lexer.specs.Lexed.{Lexed}
 use Rattle.core_program.proofs.{CallsOfRunsNest.stand_of, LawsOfRuns.made, OutcomesCompose.none_some, OutcomesCompose.some_same, RunsLeave.shared_so}
-use Rattle.core_program.specs.{Numbering.StandsAt, Numbering.belows, Numbering.each_from, RunLaws.calls_in, State.State, WholeTables.WholeTables}
-use Rattle.core_program.specs.ProgramRows.{ProgramRows, frame_in, frame_of, routine_at}
-use Rattle.core_program.specs.Run.{Marked, Outcome, Result, input_items, run}
+use Rattle.core_program.specs.{Numbering.StandsAt, Numbering.belows, Numbering.each_from, ProgramRows.ProgramRows, ProgramRows.frame_in, ProgramRows.frame_of}
+use Rattle.core_program.specs.{ProgramRows.routine_at, RunLaws.calls_in, State.State, WholeTables.WholeTables, declared.program.Routine.Routine}
+use Rattle.core_program.specs.Run.{Marked, Outcome, Result, frame_size, input_items, run}
 use Rattle.core_program.specs.Run as meaning
-use Rattle.run_laws.{proofs.HeapMadeFirst.AllIdle, proofs.HeapMadeFirst.run_first, proofs.RunsMiss.misses_end, specs.HeapLaws.makes_variable}
+use Rattle.run_laws.proofs.{CopiesBegin.copies_begin, HeapMadeFirst.AllIdle, HeapMadeFirst.run_first, RunsMiss.misses_end}
+use Rattle.run_laws.specs.{HeapLaws.makes_variable, LaidOut.LaidOut, ParameterLaws.HasFirstCopy}
 use Rattle.call_tree.specs.{Told.part_of, declared.records.Call.Call}
 use Rattle.program_run.specs.{History.log_of, History.recording_of, Table.table_row}
 use Rattle.cell_names.specs.{Finding.blocks_of, Names.Scene, Names.frame, Names.local_at, Names.root_at, Places.last_at}
 use Rattle.question_text.specs.Cards.{Recorded, result_type, scene_of}
-use Rattle.debuggee.proofs.{CallsAreNumbered.calls_kept, FramesFollow.IsFramed, FramesFollow.frames_of_run, PlacesHaveNames.copy_named}
-use Rattle.debuggee.proofs.{PlacesHaveNames.function_result, PlacesHaveNames.place_named, ResultsAreOfFunctions.IsFunction, ResultsAreOfFunctions.is_function}
-use Rattle.debuggee.proofs.AddressesHaveRoots.{HasRoot, IsLink, IsUncopied, IsUnfilled, NoBlock, Rooted, passed_there, rooted}
+use Rattle.debuggee.proofs.{CallsAreNumbered.calls_kept, FramesFilled.HasCopies, FramesFilled.copy_named, FramesFilled.place_named, FramesFollow.IsFramed}
+use Rattle.debuggee.proofs.{FramesFollow.frames_of_run, PlacesHaveNames.function_result, ResultsAreOfFunctions.IsFunction, ResultsAreOfFunctions.is_function}
+use Rattle.debuggee.proofs.AddressesHaveRoots.{HasRoot, IsLink, NoBlock, Rooted, rooted}
 use Rattle.debuggee.proofs.HeapCellsHaveBlocks.{idle_left, idle_log, idle_right, none_made, seen_missed, unchanged}
 use Rattle.debuggee.specs.Execution.{Supply, execution_of}
-use Rattle.debuggee.specs.LeftOut.{CopiesNamed, IsLastMiss, IsNamed, Link, Named, NamedAs, NotCopied, NotFilled, OfLastMiss, OfNamed, SeenAs, Unfilled}
+use Rattle.debuggee.specs.LeftOut.{IsLastMiss, IsNamed, Link, Named, NamedAs, OfLastMiss, OfNamed, SeenAs}
 
 -- the run of a program, as its cards tell of it
 abbrev pub recorded_of : ProgramRows → (tokens : ℕ) → (input : List ℕ) → (budget : ℕ) → Recorded
@@ -90,7 +91,7 @@ row_of r number call e =
     let h = row_in (belows r.events) call 0 number r.events e in
     record { event = h.0; at = h.1; stands = h.2; is = ap (λ k. table_row (belows r.events) k h.0) (let x : number ≡ 0 + number = omega arith in x) ∙ h.3 }
 
-module _ (p : ProgramRows) (whole : WholeTables p) (tokens : ℕ) (input : List ℕ) (budget number : ℕ) where
+module _ (p : ProgramRows) (whole : WholeTables p) (laid : LaidOut p) (tokens : ℕ) (input : List ℕ) (budget number : ℕ) where
   abbrev kept : Recorded
   kept = recorded_of p tokens input budget
 
@@ -146,50 +147,56 @@ module _ (p : ProgramRows) (whole : WholeTables p) (tokens : ℕ) (input : List 
     framed : IsFramed p kept.calls number call
     framed = every number call e
 
-    root_there : (a : ℕ) → is_shared call.entry.top a ≡ true → Rooted kept whole number a (root_at scene a)
-    root_there a s = rooted kept whole number call e every a (λ l. elim (shared_so call.entry.top a s) [
+    -- the run, and a call's row
+    record Of (n : ℕ) (d : Call) : Type 0 where
+      result : Result State meaning.Call
+      is : run p input budget ≡ Some result
+      row : IsRow result n d
+
+    of_outcome : (x : Outcome) → run p input budget ≡ x → (n : ℕ) (d : Call) → slice_get (recording_of p x).calls n ≡ Some d → Of n d
+    of_outcome None q n d h = absurd (none_some h)
+    of_outcome (Some r) q n d h = record { result = r; is = q; row = row_of r n d h }
+
+    of : Of number call
+    of = of_outcome (run p input budget) refl number call e
+
+    -- each call has the copies that it was given
+    copies_there : (n : ℕ) (d : Call) → slice_get kept.calls n ≡ Some d → HasCopies kept whole laid number d
+    copies_there n d h =
+        let o = of_outcome (run p input budget) refl n d h in
+        let c = o.row.event.event in
+        let base : c.entry.top ≡ c.base = ap (λ (c : meaning.Call). c.base) (made p input budget o.result o.is n c o.row.stands).record' in
+        subst (HasCopies kept whole laid number) o.row.is (λ q has some.
+        subst (λ top. HasFirstCopy p q top c.args) (sym base) (copies_begin p input budget o.result o.is n c o.row.stands laid q has some))
+
+    root_there : (a : ℕ) → is_shared call.entry.top a ≡ true → Rooted kept whole laid number a (root_at scene a)
+    root_there a s = rooted kept whole laid number copies_there call e every a (λ l. elim (shared_so call.entry.top a s) [
       | inl h ↦ h
       | inr h ↦ absurd (omega (arith, l, h))
     ])
 
-    -- the run, and the call's row
-    record Of : Type 0 where
-      result : Result State meaning.Call
-      is : run p input budget ≡ Some result
-      row : IsRow result number call
-
-    of_outcome : (x : Outcome) → run p input budget ≡ x → slice_get (recording_of p x).calls number ≡ Some call → Of
-    of_outcome None q h = absurd (none_some h)
-    of_outcome (Some r) q h = record { result = r; is = q; row = row_of r number call h }
-
-    of : Of
-    of = of_outcome (run p input budget) refl e
-
-    seen_as : (a : ℕ) (x : Seen) → seen_at a (part_of kept.log call) ≡ Some x → Rooted kept whole number a (root_at scene a) → SeenAs kept number call (a, x)
+    seen_as : (a : ℕ) (x : Seen) → seen_at a (part_of kept.log call) ≡ Some x → Rooted kept whole laid number a (root_at scene a)
+        → SeenAs kept number call (a, x)
     seen_as a x e (HasRoot h) = OfNamed (Named h)
     seen_as a x e (IsLink h) = OfNamed (Link h)
-    seen_as a x e (IsUnfilled u) = OfNamed (NotFilled u)
-    seen_as a x e (IsUncopied u) = OfNamed (NotCopied u)
     seen_as a x e (NoBlock l n) = OfLastMiss (subst (λ (d : Call). seen_at a (part_of kept.log d) ≡ Some x → IsLastMiss kept.log d a x) of.row.is
         (last_miss of.result of.is of.row.event of.row.at of.row.stands a x l n) e)
 
-    changed_as : (a : ℕ) (x : Change) → change_at a (part_of kept.log call) ≡ Some x → Rooted kept whole number a (root_at scene a) → NamedAs scene a
+    changed_as : (a : ℕ) (x : Change) → change_at a (part_of kept.log call) ≡ Some x → Rooted kept whole laid number a (root_at scene a)
+        → NamedAs scene a
     changed_as a x e (HasRoot h) = Named h
     changed_as a x e (IsLink h) = Link h
-    changed_as a x e (IsUnfilled u) = NotFilled u
-    changed_as a x e (IsUncopied u) = NotCopied u
     changed_as a x e (NoBlock l n) = absurd (subst (λ (d : Call). change_at a (part_of kept.log d) ≡ Some x → ⊥) of.row.is
         (no_change of.result of.is of.row.event of.row.at of.row.stands a x l n) e)
 
     parameter : (place : ℕ) → 0 < place → place < frame_of p call.routine → IsSome (local_at scene (frame number call.routine call.entry.top) place)
-        ⊎ Unfilled p call.routine place
     parameter place some less =
-        place_named kept number whole (frame number call.routine call.entry.top) place framed.routine framed.has some
+        place_named kept whole laid number (frame number call.routine call.entry.top) place framed.routine framed.has some
         (subst (λ o. place < frame_in o) framed.has less)
 
-    copies : CopiesNamed kept number call
-    copies q h place some after inside = copy_named kept number (frame number call.routine call.entry.top) place q h some after
-        (passed_there kept number call e q place after inside)
+    copies : (q : Routine) → routine_at p call.routine ≡ Some q → (place : ℕ) → 0 < place → q.cells ≤ place → place < frame_size q call.args
+        → IsSome (local_at scene (frame number call.routine call.entry.top) place)
+    copies q h place some after inside = copy_named kept whole laid number number call e (copies_there number call e) place q h some after inside
 
     all_reads : All (SeenAs kept number call) (reads_of call.entry.top (part_of kept.log call))
     all_reads = all_shared (SeenAs kept number call) call.entry.top (λ a. seen_at a (part_of kept.log call)) (λ a x s h. seen_as a x h (root_there a s))
@@ -210,10 +217,10 @@ module _ (p : ProgramRows) (whole : WholeTables p) (tokens : ℕ) (input : List 
 
 -- ---- the calls as the program keeps them
 
-pub cells_are_named : (p : ProgramRows) → WholeTables p → (t : Lexed) (s : Supply) (number : ℕ) (call : Call)
+pub cells_are_named : (p : ProgramRows) → WholeTables p → LaidOut p → (t : Lexed) (s : Supply) (number : ℕ) (call : Call)
     → slice_get (execution_of t p s).recorded.calls number ≡ Some call → IsNamed (execution_of t p s).recorded number call
-cells_are_named p whole t s number call =
+cells_are_named p whole laid t s number call =
     subst (λ calls. slice_get calls number ≡ Some call
     → IsNamed (record (recorded_of p (length t.tokens) s.input s.budget) { calls = calls }) number call)
     (calls_kept p s (recording_of p (run p s.input s.budget)) refl)
-    (is_named p whole (length t.tokens) s.input s.budget number call)
+    (is_named p whole laid (length t.tokens) s.input s.budget number call)

@@ -4,6 +4,9 @@ pub mod TracesAreOfBodies
 pub mod FramesFollow
 mod CopiesFound
 pub mod PlacesHaveNames
+mod ParametersPlaced
+mod BlocksPlaced
+mod FramesFilled
 pub mod AddressesHaveRoots
 pub mod ResultsAreOfFunctions
 pub mod HeapCellsHaveBlocks

@@ -1,6 +1,6 @@
 -- A place of a frame that is filled has a name.
-use Rattle.std.proofs.Common.{if◌then◌else◌, ◌++◌, ◌+◌, ◌-◌, ◌<◌, ◌==◌, ◌||◌, ◌∙◌, ◌∷◌, ◌≡◌, ◌≤◌, ◌⊎◌, [], ℕ, Bool, List, None, Option, Some, arith, cond}
-use Rattle.std.proofs.Common.{false, filter, filter_map, inl, inr, is_some, nat_le, option_to_list, refl, subst, suc, sym, true, zero}
+use Rattle.std.proofs.Common.{if◌then◌else◌, ◌++◌, ◌-◌, ◌<◌, ◌==◌, ◌||◌, ◌∙◌, ◌∷◌, ◌≡◌, ◌≤◌, ◌⊎◌, [], ℕ, Bool, List, None, Option, Some, arith, cond, false}
+use Rattle.std.proofs.Common.{filter, filter_map, inl, inr, is_some, nat_le, option_to_list, refl, subst, suc, sym, true, zero}
 use Rattle.std.{proofs.lemmas.Bool.Decides.nat_tests, specs.List.cons_option, specs.Option.IsSome}
 use Rattle.cell_value.specs.{Effects.last_of, declared.values.Value.Value}
 use Rattle.core_program.proofs.OutcomesCompose.{none_some, some_same}
@@ -10,12 +10,20 @@ use Rattle.core_program.specs.declared.{program.Routine.Routine, rows.ItemRow.It
 use Rattle.cell_names.specs.{Layouts.sections_parts, Layouts.spec_parts, Layouts.token_after, Places.finds, Places.is_begun, Places.last_at}
 use Rattle.cell_names.specs.Layouts.{bounds_before, bounds_by, bounds_parts, component_in, frame_parts, frame_parts_in, heading_part, most_sections, named_part}
 use Rattle.cell_names.specs.Layouts.{next_name, own_between, own_in, parameters_in, part, parts_after, parts_at, section_after, section_of, section_parts}
-use Rattle.cell_names.specs.Names.{address_held, array_local, begun_or, copied_local, copy_address, copy_before, copy_by, copy_from, copy_local, copy_of}
+use Rattle.cell_names.specs.Names.{Scene, address_held, array_local, begun_or, copied_local, copy_address, copy_before, copy_by, copy_from, copy_local, copy_of}
 use Rattle.cell_names.specs.Names.{is_result, local_at, local_in, named_local, part_local, result_local, result_of}
 use Rattle.cell_names.specs.declared.{names.Frame.Frame, places.PlacedPart.PlacedPart}
 use Rattle.question_text.specs.Cards.{Recorded, scene_of}
 use Rattle.debuggee.proofs.CopiesFound.{no_copy_from}
-use Rattle.debuggee.specs.LeftOut.{Uncopied, Unfilled, is_filled}
+
+-- whether a place of a routine's frame is that of its result, or a parameter or a variable begins there or before
+abbrev pub is_filled : ProgramRows → (routine place : ℕ) → Routine → Bool
+is_filled p routine place r = is_result r.result place || is_some (finds (frame_parts p routine) place)
+
+-- no parameter has a copy that begins at a place of a call's frame or before it
+abbrev pub NoCopies : Scene → Frame → (place : ℕ) → Routine → Type 0
+NoCopies s f place r = (at : ℕ) (x copy : PlacedPart) → at < r.parameters → s.finding.frame f.routine at ≡ Some x → copy_of s f x ≡ Some copy
+    → place < copy.place
 
 abbrev Every : (PlacedPart → Type 0) → List PlacedPart → Type 0
 Every P [] = Unit {0}
@@ -157,7 +165,7 @@ module _ (p : ProgramRows) where
 
 module _ (k : Recorded) (number : ℕ) where
   -- a place before the copies that is filled
-  local_there : WholeTables k.program → (f : Frame) (place : ℕ) (r : Routine) → routine_at k.program f.routine ≡ Some r → 0 < place → place < r.cells
+  pub local_there : WholeTables k.program → (f : Frame) (place : ℕ) (r : Routine) → routine_at k.program f.routine ≡ Some r → 0 < place → place < r.cells
       → is_filled k.program f.routine place r ≡ true → IsSome (local_at (scene_of k number) f place)
   unfolding local_at
   local_there whole f place r e some inside h =
@@ -208,41 +216,28 @@ module _ (k : Recorded) (number : ℕ) where
           of_copy f place x.number (row_at k.program x.number) refl ((scene_of k number).args f.call x.place)
           (copy_before (scene_of k number) f place most (x.place - 1)) (go (x.place - 1))
 
-  -- a place of a frame behind its own cells, which is one of a copy's: it has a name, unless no copy begins there or before
-  pub copy_named : (f : Frame) (place : ℕ) (r : Routine) → routine_at k.program f.routine ≡ Some r → 0 < place → r.cells ≤ place
-      → IsSome ((scene_of k number).args f.call (r.parameters + (place - r.cells)))
-      → IsSome (local_at (scene_of k number) f place) ⊎ Uncopied (scene_of k number) f place
+  -- a place of a frame behind its own cells has a name, if a copy begins there or before
+  pub copy_there : (f : Frame) (place : ℕ) (r : Routine) → routine_at k.program f.routine ≡ Some r → 0 < place → r.cells ≤ place
+      → (NoCopies (scene_of k number) f place r → ⊥) → IsSome (local_at (scene_of k number) f place)
   unfolding local_at
-  copy_named f place r e some after passed =
-      subst (λ o. IsSome (local_in (scene_of k number) f place o) ⊎ Uncopied (scene_of k number) f place) (sym e)
-      (by (place == 0) refl (nat_le r.cells place) refl)
+  copy_there f place r e some after copies =
+      subst (λ o. IsSome (local_in (scene_of k number) f place o)) (sym e) (by (place == 0) refl (nat_le r.cells place) refl)
     where
       found : Option PlacedPart
       found = copy_before (scene_of k number) f place r.parameters (r.parameters - 1)
 
-      -- no parameter has a copy there
-      later : found ≡ None → (at : ℕ) (x copy : PlacedPart) → at < r.parameters → finds (frame_parts k.program f.routine) at ≡ Some x
-          → copy_of (scene_of k number) f x ≡ Some copy → place < copy.place
+      later : found ≡ None → NoCopies (scene_of k number) f place r
       later n at x copy less q c =
           no_copy_from k number f place r.parameters (r.parameters - 1) (omega (arith, less)) n at x copy (omega (arith, less)) q c
 
-      has : Copied f place found → IsSome (copy_local (scene_of k number) f place r) ⊎ Uncopied (scene_of k number) f place
-      has (inl h) = inl h
-      has (inr n) = inr (record { routine = r; is = e; after_cells = after; passed = passed; none = later n })
+      has : Copied f place found → IsSome (copy_local (scene_of k number) f place r)
+      has (inl h) = h
+      has (inr n) = absurd (copies (later n))
 
       by : (a : Bool) → (place == 0) ≡ a → (c : Bool) → nat_le r.cells place ≡ c
           → IsSome (if a then None else if c then copy_local (scene_of k number) f place r
           else if is_result r.result place then result_local r (result_of (row_at k.program r.heading))
-          else part_local k.program f.call place (finds (frame_parts k.program f.routine) place)) ⊎ Uncopied (scene_of k number) f place
+          else part_local k.program f.call place (finds (frame_parts k.program f.routine) place))
       by true q c w = absurd (let z : place ≡ 0 = grind (arith, nat_tests) in omega (arith, z, some))
       by false q true w = has (copied_before f place r.parameters (r.parameters - 1))
       by false q false w = absurd (let z : ⊥ = grind (arith, nat_tests, w, after) in z)
-
-  -- a place of a frame before the copies, but not that of the link: it has a name, unless it is not filled
-  pub place_named : WholeTables k.program → (f : Frame) (place : ℕ) (r : Routine) → routine_at k.program f.routine ≡ Some r → 0 < place → place < r.cells
-      → IsSome (local_at (scene_of k number) f place) ⊎ Unfilled k.program f.routine place
-  place_named whole f place r e some inside = by (is_filled k.program f.routine place r) refl
-    where
-      by : (b : Bool) → is_filled k.program f.routine place r ≡ b → IsSome (local_at (scene_of k number) f place) ⊎ Unfilled k.program f.routine place
-      by true h = inl (local_there whole f place r e some inside h)
-      by false h = inr (record { routine = r; is = e; after_link = some; inside = inside; unfilled = h })

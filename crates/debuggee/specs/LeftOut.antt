@@ -1,6 +1,5 @@
--- What cards and traces leave out: the lines on links, and no others. And which cells have no name.
-use Rattle.std.specs.Prelude.{◌++◌, ◌+◌, ◌-◌, ◌<◌, ◌||◌, ◌∷◌, ◌≡◌, ◌≤◌, ◌⊎◌, [], ℕ, All, Bool, IsSome, List, Some}
-use Rattle.std.specs.Prelude.{false, is_some, length, slice_get, true}
+-- What cards and traces leave out: the lines on links, and no others. And which cells have names.
+use Rattle.std.specs.Prelude.{◌++◌, ◌<◌, ◌∷◌, ◌≡◌, ◌≤◌, [], ℕ, All, IsSome, List, Some, false, length, slice_get, true}
 use Rattle.std.specs.List.{list_any}
 use Rattle.cell_value.specs.{Effects.changes_of, Effects.heap_start, Effects.reads_of, declared.values.Value.Value}
 use Rattle.cell_value.specs.declared.entries.{Seen.Seen, Seen.TheVariants.Absent, Touch.Touch}
@@ -9,13 +8,11 @@ use Rattle.core_program.specs.{Replay.Replaying, WholeTables.WholeTables, declar
 use Rattle.core_program.specs.ProgramRows.{ProgramRows, frame_of, routine_at}
 use Rattle.core_program.specs.Replay as replay
 use Rattle.core_program.specs.Run.{Result, frame_size, run}
-use Rattle.run_laws.specs.HeapLaws.{is_disposed, makes_variable}
+use Rattle.run_laws.specs.{HeapLaws.is_disposed, HeapLaws.makes_variable, LaidOut.LaidOut}
 use Rattle.call_tree.specs.{Told.part_of, declared.records.Call.Call}
 use Rattle.call_tree.specs.declared.events.Event.{Event, TheVariants.Child, TheVariants.Line}
 use Rattle.body_replay.specs.Replays.{kept_event, work_of}
-use Rattle.cell_names.specs.{Layouts.frame_parts, Places.finds}
-use Rattle.cell_names.specs.Names.{Scene, copy_of, frame, is_link, is_result, local_at, root_at}
-use Rattle.cell_names.specs.declared.{names.Frame.Frame, places.PlacedPart.PlacedPart}
+use Rattle.cell_names.specs.Names.{Scene, frame, is_link, local_at, root_at}
 use Rattle.question_text.specs.{Cards.Recorded, Cards.result_text, Cards.result_type, Cards.scene_of, Cells.change_line}
 use Rattle.question_text.specs.{Cells.parameter_line, Cells.seen_line, Lines.inner_line, Traces.event_line}
 use Rattle.debuggee.specs.Execution.{Supply, execution_of}
@@ -76,51 +73,10 @@ TracesLeaveOutNothing = (p : ProgramRows) → WholeTables p → (t : Lexed) (s :
 
 -- ---- names
 
--- whether a place of a routine's frame is that of its result, or a parameter or a variable begins there or before
-abbrev pub is_filled : ProgramRows → (routine place : ℕ) → Routine → Bool
-is_filled p routine place r = is_result r.result place || is_some (finds (frame_parts p routine) place)
-
--- a place of the frame of a routine, by its number, which is none of these, and not that of the link
-pub record Unfilled (p : ProgramRows) (number place : ℕ) : Type 0 where
-  pub routine : Routine
-  pub is : routine_at p number ≡ Some routine
-  pub after_link : 0 < place
-  pub inside : place < routine.cells
-  pub unfilled : is_filled p number place routine ≡ false
-
--- the address of such a place in the frame of an open call
-pub record LiesUnfilled (s : Scene) (address : ℕ) : Type 0 where
-  pub part : PlacedPart
-  pub opened : s.opened address ≡ Some part
-  pub number : ℕ
-  pub routine : slice_get s.routines part.number ≡ Some number
-  pub unfilled : Unfilled s.program number (address - part.place)
-
--- A place of the frame of a call behind the cells of its routine, for which the call was given a value, and no
--- parameter has a copy that begins there or before.
-pub record Uncopied (s : Scene) (f : Frame) (place : ℕ) : Type 0 where
-  pub routine : Routine
-  pub is : routine_at s.program f.routine ≡ Some routine
-  pub after_cells : routine.cells ≤ place
-  pub passed : IsSome (s.args f.call (routine.parameters + (place - routine.cells)))
-  pub none : (at : ℕ) (x copy : PlacedPart) → at < routine.parameters → s.finding.frame f.routine at ≡ Some x
-      → copy_of s f x ≡ Some copy → place < copy.place
-
--- the address of such a place in the frame of an open call
-pub record LiesUncopied (s : Scene) (address : ℕ) : Type 0 where
-  pub part : PlacedPart
-  pub opened : s.opened address ≡ Some part
-  pub number : ℕ
-  pub routine : slice_get s.routines part.number ≡ Some number
-  pub uncopied : Uncopied s (frame part.number number part.place) (address - part.place)
-
--- The cell at an address has a name, or it is a link. Or else it has its place in a frame where nothing begins at or
--- before it: no variable and no parameter, or, behind these, no copy.
+-- the cell at an address has a name, or it is a link
 pub data NamedAs (s : Scene) (address : ℕ) : Type 0 where
   Named : IsSome (root_at s address) → NamedAs s address
   Link : is_link s address ≡ true → NamedAs s address
-  NotFilled : LiesUnfilled s address → NamedAs s address
-  NotCopied : LiesUncopied s address → NamedAs s address
 
 -- An address of the heap was asked for in a run that never made a variable there. That was the last thing that a call
 -- touched, which ended with the fault `Disposed`.
@@ -137,28 +93,23 @@ pub data SeenAs (r : Recorded) (number : ℕ) (call : Call) (x : ℕ × Seen) : 
   OfNamed : NamedAs (scene_of r number) x.0 → SeenAs r number call x
   OfLastMiss : IsLastMiss r.log call x.0 x.1 → SeenAs r number call x
 
--- the copies of a call's conformant parameters by value, which stand in its frame behind all other cells
-abbrev pub CopiesNamed : Recorded → (number : ℕ) → Call → Type 0
-CopiesNamed r number call = (q : Routine) → routine_at r.program call.routine ≡ Some q
-    → (place : ℕ) → 0 < place → q.cells ≤ place → place < frame_size q call.args
-    → IsSome (local_at (scene_of r number) (frame number call.routine call.entry.top) place)
-    ⊎ Uncopied (scene_of r number) (frame number call.routine call.entry.top) place
-
--- So it is with each cell of a call's reads; each cell that it changed has a name, but for links and places where
--- nothing begins, and so have the cells of its parameters and their copies that have their places in its frame; and of
+-- So it is with each cell of a call's reads, and each cell that it changed has a name, but for links. So has each place
+-- of its frame behind the link: of a parameter, of its result or of a variable, and behind all these of a copy. And of
 -- its result the type is known.
 pub record IsNamed (r : Recorded) (number : ℕ) (call : Call) : Type 0 where
   pub parameters : (place : ℕ) → 0 < place → place < frame_of r.program call.routine
       → IsSome (local_at (scene_of r number) (frame number call.routine call.entry.top) place)
-      ⊎ Unfilled r.program call.routine place
-  pub copies : CopiesNamed r number call
+  pub copies : (q : Routine) → routine_at r.program call.routine ≡ Some q
+      → (place : ℕ) → 0 < place → q.cells ≤ place → place < frame_size q call.args
+      → IsSome (local_at (scene_of r number) (frame number call.routine call.entry.top) place)
   pub reads : All (SeenAs r number call) (reads_of call.entry.top (part_of r.log call))
   pub changes : All
       (λ x. NamedAs (scene_of r number) x.0)
       (changes_of call.entry.top (part_of r.log call))
   pub result : (v : Value) → call.result ≡ Some v → IsSome (result_type r.program (routine_at r.program call.routine))
 
+-- so it is where the tables of the program are laid out
 abbrev pub CellsAreNamed : Type 0
-CellsAreNamed = (p : ProgramRows) → WholeTables p → (t : Lexed) (s : Supply) (number : ℕ) (call : Call)
+CellsAreNamed = (p : ProgramRows) → WholeTables p → LaidOut p → (t : Lexed) (s : Supply) (number : ℕ) (call : Call)
     → slice_get (execution_of t p s).recorded.calls number ≡ Some call
     → IsNamed (execution_of t p s).recorded number call

@@ -3,13 +3,14 @@ use Rattle.std.specs.Prelude.{◌≡◌, ℕ, List, None, Option, Some, slice_ge
 use Rattle.pas_phrases.specs.declared.fault.ParseFault.{ParseFault}
 use Rattle.core_program.specs.{ProgramRows.ProgramRows, Run.Call, Run.run}
 use Rattle.check_steps.specs.declared.breaks.CheckFault.{CheckFault}
+use Rattle.code_checker.specs.Pieces.{fault_of_piece}
+use Rattle.code_checker.specs.declared.faults.{SourceFault.SourceFault, SourceRefusal.SourceRefusal}
 use Rattle.body_replay.specs.Replays.{records_of}
 use Rattle.answer_book.specs.declared.entries.Judgement.{Judgement}
 use Rattle.reference_oracle.specs.{Fitting.asked, Reading.IsSourceOf, Reading.IsUnreadReference, Verdicts.verdict_on}
 use Rattle.reference_oracle.specs.declared.{faults.RefFault.RefFault, verdicts.Verdict.Verdict}
 use Rattle.dialog_replies.specs.declared.references.{Reading.Reading, Referred.Referred}
-use Rattle.debuggee.specs.{Execution.Execution, Program.fault_of_piece, Refusing.refusal_at}
-use Rattle.debuggee.specs.declared.{refusal.SourceRefusal.SourceRefusal, source.SourceFault.SourceFault}
+use Rattle.debuggee.specs.{Execution.Execution, Refusing.refusal_at}
 
 -- ---- bytes that are refused: why and where, as it is told of the source of a run
 

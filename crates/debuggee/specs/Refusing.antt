@@ -1,6 +1,6 @@
 -- How it is told why and where a source is refused.
 use Rattle.std.specs.Prelude.{◌++◌, ℕ, List, codes, decimal}
-use Rattle.debuggee.specs.declared.refusal.SourceRefusal.{SourceRefusal}
+use Rattle.code_checker.specs.declared.faults.SourceRefusal.{SourceRefusal}
 
 -- the name of a reason for which a source is refused
 abbrev pub refusal_name : SourceRefusal → List ℕ

@@ -4,10 +4,9 @@ ghost use Rattle.debuggee.specs.LeftOut.{CardsLeaveOutLinks, CellsAreNamed, Trac
 ghost use Rattle.debuggee.specs.Slicing.{SlicesAreTold};
 
 /// Cards and traces leave nothing out in silence. A card has a line for each cell that the call read or changed, but
-/// for links between frames; for each cell of a parameter, and for the result. A trace has a line for each event. A
-/// line that tells a cell by its address comes only of a place in a frame at or before which no parameter and no
-/// variable begins, or, behind all of these, no copy of a parameter; and of the last cell that a call asks for in a run
-/// that makes no variable of the heap, where the call ends with the fault `Disposed`.
+/// for links between frames; for each cell of a parameter, and for the result. A trace has a line for each event. Where
+/// the tables of the program are laid out, a line tells a cell by its address only where it is the last one that a call
+/// asks for in a run that makes no variable of the heap, and the call ends with the fault `Disposed`.
 pub fn only_links_are_left_out()
     ensures cards { CardsLeaveOutLinks }
     ensures traces { TracesLeaveOutNothing }

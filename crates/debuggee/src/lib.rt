@@ -10,7 +10,8 @@ mod slicing;
 mod source;
 
 pub use cell_value::INPUT_BYTES;
+pub use code_checker::SourceFault;
 pub use laws::{only_links_are_left_out, slices_tell_their_calls};
-pub use refusal::{SourceRefusal, write_refusal};
+pub use refusal::write_refusal;
 pub use runs::Debuggee;
-pub use source::{SourceFault, SourceProgram, read_source, run_program};
+pub use source::{SourceProgram, read_source, run_program};

@@ -3,10 +3,10 @@ ghost use Rattle.std.specs.Prelude.{◌≡◌, ◌≤◌, IfOk, length};
 ghost use Rattle.pas_lexer.specs.Limits.{source_bytes};
 ghost use Rattle.debuggee.specs.References.{IsReading, fault_of_parse, fault_of_reference, fault_of_rule, referred};
 
-use crate::refusal::{SourceRefusal, write_refusal};
-use crate::source::{SourceFault, fault_of_piece};
+use crate::refusal::write_refusal;
 use answer_book::Judgement;
 use check_steps::CheckFault;
+use code_checker::{SourceFault, SourceRefusal, fault_of_piece};
 use dialog_replies::{Reading, Referred};
 use edge_ports::{Bytes, Memory};
 use pas_phrases::ParseFault;

@@ -1,36 +1,10 @@
-//! Why a source is refused, and how that is told.
+//! How it is told why and where a source is refused.
 ghost use Rattle.std.specs.Prelude.{◌++◌, ◌≡◌, OnOk};
 ghost use Rattle.debuggee.specs.Refusing.{refusal_at, refusal_name, refusal_text};
 
+use code_checker::SourceRefusal;
 use dialog_replies::write_number;
 use edge_ports::{Bytes, Memory};
-
-/// Why a source is refused: the name that is printed.
-#[derive(Clone, Copy, Debug, PartialEq, Eq)]
-pub enum SourceRefusal {
-    /// No piece of a source begins with this byte.
-    BadByte,
-    /// A comment is not closed.
-    OpenComment,
-    /// A string is not closed on its line.
-    OpenString,
-    /// A string has no characters.
-    EmptyString,
-    /// Real arithmetic.
-    RealWord,
-    /// A number above maxint.
-    TooLarge,
-    /// A letter directly after a number.
-    Joined,
-    /// A token at which no program of Pascal goes on.
-    NotProgram,
-    /// What begins at a token is nested too deep.
-    TooDeep,
-    /// The static rule of this number is broken, and it is the first of those that are.
-    Rule(u32),
-    /// A variable or a parameter has too many cells, and no rule is broken.
-    TooBig,
-}
 
 /// The name of a reason for which a source is refused.
 fn refusal_name(why: SourceRefusal) -> &'static str

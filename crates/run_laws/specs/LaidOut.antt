@@ -1,13 +1,14 @@
--- Tables that are laid out: what the actuals of each call pass is what the parameters of its routine take, and these
--- have their places in its frame one after the other. Whole tables say nothing of that.
-use Rattle.std.specs.Prelude.{if◌then◌else◌, ◌+◌, ◌∷◌, ◌≡◌, ◌≤◌, [], ℕ, Bool, List, None, Option, Some, false, length}
-use Rattle.std.specs.Prelude.{min, suc, true, zero}
+-- Tables that are laid out: what the actuals of each call pass is what the parameters of its routine take, these have
+-- their places in its frame one after the other, and behind them stand the result and the variables of its block. Whole
+-- tables say nothing of that.
+use Rattle.std.specs.Prelude.{if◌then◌else◌, ◌&&◌, ◌+◌, ◌<◌, ◌==◌, ◌||◌, ◌∷◌, ◌≡◌, ◌≤◌, [], ℕ, Bool, List, None, Option}
+use Rattle.std.specs.Prelude.{Some, false, length, min, nat_le, suc, true, zero}
 use Rattle.core_program.specs.{Headings.heading_in, WholeTables.is_conformant, WholeTables.type_accessed}
 use Rattle.core_program.specs.Conformant.{Dimensions, dimensions_of, fixed_extents, inner_extents}
 use Rattle.core_program.specs.ProgramRows.{ProgramRows, routine_at, row_at, size_of, text_at, type_at}
 use Rattle.core_program.specs.declared.{components.HeldSpec.HeldSpec, program.Routine.Routine}
 use Rattle.core_program.specs.declared.rows.{ExpressionRow.ExpressionRow, ItemRow.ItemRow, Mode.Mode, NameRow.NameRow}
-use Rattle.core_program.specs.declared.rows.{Row.Row, StatementRow.StatementRow, TypeRow.TypeRow}
+use Rattle.core_program.specs.declared.rows.{PartRow.PartRow, Row.Row, StatementRow.StatementRow, TypeRow.TypeRow}
 use Rattle.run_laws.specs.ParameterPieces.{OfArray, OfBounds, OfCopy, OfRoutine, OfValue, OfVariable, ParameterPiece}
 use Rattle.run_laws.specs.ParameterPieces.{bounds_before, heading_pieces, heading_tokens, piece_cells, pieces_cells}
 use Rattle.run_laws.specs.ParameterPieces.{specs_of}
@@ -140,6 +141,61 @@ pub record RoutineHolds (p : ProgramRows) (r : Routine) : Type 0 where
   pub parameters : r.parameters ≡ min (1 + pieces_cells (heading_pieces p r.heading)) most_cells
   pub inside : r.parameters ≤ r.cells
 
+-- ---- blocks
+
+-- whether a routine is named by this row in a heading: in its first one, or in the one that completes that
+abbrev pub is_name_of : Row → (number name : ℕ) → Bool
+is_name_of (Row.Name (NameRow.Routine assigned n region)) number name = n == number
+is_name_of (Row.Part (PartRow.Completing first)) number name = first == name
+is_name_of r number name = false
+
+-- a variable of a block with this many others around has its place behind the parameters
+abbrev pub is_behind : (level parameters : ℕ) → Row → Bool
+is_behind level parameters (Row.Name (NameRow.Variable Mode.Own of' place l)) =
+    if l == level then nat_le parameters place else true
+is_behind level parameters r = true
+
+-- a variable of such a block has this place
+abbrev pub has_place : (level place : ℕ) → Row → Bool
+has_place level place (Row.Name (NameRow.Variable Mode.Own of' at l)) = if l == level then at == place else false
+has_place level place r = false
+
+-- So it is with each variable of a routine's block before a token. The block begins where the routine is named last.
+abbrev pub all_behind : ProgramRows → (number : ℕ) → Routine → (before : ℕ) → Bool
+all_behind p number r zero = true
+all_behind p number r (suc token) = if is_name_of (row_at p token) number r.name then true
+    else is_behind r.level r.parameters (row_at p token) && all_behind p number r token
+
+-- and one of them has this place
+abbrev pub some_has : ProgramRows → (number : ℕ) → Routine → (place before : ℕ) → Bool
+some_has p number r place zero = false
+some_has p number r place (suc token) = if is_name_of (row_at p token) number r.name then false
+    else has_place r.level place (row_at p token) || some_has p number r place token
+
+abbrev pub after_result : (result : Option ℕ) → (parameters : ℕ) → ℕ
+after_result None parameters = parameters
+after_result (Some place) parameters = parameters + 1
+
+-- Behind the parameters stands the result of a function, and then the first variable of the block, if there is one with
+-- cells.
+pub record BlockStands (p : ProgramRows) (number : ℕ) (r : Routine) : Type 0 where
+  pub result : (place : ℕ) → r.result ≡ Some place → place ≡ r.parameters
+  pub behind : all_behind p number r r.statements ≡ true
+  pub first : after_result r.result r.parameters < r.cells
+      → some_has p number r (after_result r.result r.parameters) r.statements ≡ true
+
+-- ---- tokens
+
+-- more tokens than this no source has: each has a byte
+abbrev pub most_tokens : ℕ
+most_tokens = 1048576
+
+-- items of lists and the names of bounds stand at tokens
+abbrev pub is_at_token : Row → Bool
+is_at_token (Row.Item i) = true
+is_at_token (Row.Name (NameRow.Bound of' place level)) = true
+is_at_token r = false
+
 -- ---- tables that are laid out
 
 pub record LaidOut (p : ProgramRows) : Type 0 where
@@ -151,5 +207,7 @@ pub record LaidOut (p : ProgramRows) : Type 0 where
   -- the parameters of each heading stand one after the other, behind the link
   pub headings : (heading : ℕ) → AllStand p 1 (heading_tokens p heading) (heading_pieces p heading)
   pub routines : (number : ℕ) (r : Routine) → routine_at p number ≡ Some r → RoutineHolds p r
+  pub blocks : (number : ℕ) (r : Routine) → routine_at p number ≡ Some r → BlockStands p number r
+  pub tokens : (at : ℕ) → is_at_token (row_at p at) ≡ true → at < most_tokens
   -- the program block takes nothing
   pub main : (r : Routine) → routine_at p 0 ≡ Some r → heading_pieces p r.heading ≡ []

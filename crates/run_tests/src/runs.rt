@@ -8,10 +8,10 @@ use answer_reuse::Classes;
 use body_replay::{KeptState, Trace, entry_of, replay, transplant};
 use call_tree::{Call, Event, Events, Side};
 use cell_value::{Cells, Memory, Steps, Value, WayOut};
-use code_checker::check_tokens;
+use code_checker::{check_tokens, read_tokens};
 use core_program::Program;
 use output_slice::{Output, slice};
-use pas_lexer::{MAX_SOURCE_BYTES, lex};
+use pas_lexer::MAX_SOURCE_BYTES;
 use persistent_store::Store;
 use program_run::{History, run, run_from};
 use reference_oracle::{Reference, Verdict};
@@ -124,7 +124,7 @@ pub fn program_of(alloc: Global, source: &[u8]) -> Option<Program> {
     if source.len() > MAX_SOURCE_BYTES {
         return None;
     }
-    let tokens = lex(alloc, source).ok()?;
+    let tokens = read_tokens(alloc, source).ok()?;
     check_tokens(alloc, &tokens).ok()
 }
 
