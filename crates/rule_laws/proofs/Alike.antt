@@ -16,6 +16,7 @@ use Rattle.rule_laws.specs.{CaseConstants.stands_for, CaseConstants.with_sign_of
 abbrev pub denoted : Row → Row
 denoted (Row.Name (NameRow.Routine assigned number region)) = Row.Nothing
 denoted (Row.Name (NameRow.Label marked value level ways)) = Row.Nothing
+denoted (Row.Name (NameRow.RoutineFormal place level heading)) = Row.Nothing
 denoted (Row.Part (PartRow.Completing first)) = Row.Nothing
 denoted (Row.Part (PartRow.Heading name sections result)) = Row.Nothing
 denoted r = said r
@@ -26,6 +27,7 @@ denoted_said (Row.Name (NameRow.Constant of' v)) = refl
 denoted_said (Row.Name (NameRow.Text token)) = refl
 denoted_said (Row.Name (NameRow.Routine assigned number region)) = refl
 denoted_said (Row.Name (NameRow.Label marked value level ways)) = refl
+denoted_said (Row.Name (NameRow.RoutineFormal place level heading)) = refl
 denoted_said (Row.Part (PartRow.Completing first)) = refl
 denoted_said (Row.Part (PartRow.Heading name sections result)) = refl
 denoted_said r = refl

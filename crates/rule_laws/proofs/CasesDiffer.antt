@@ -1,13 +1,13 @@
 -- Where a case statement breaks no rule, and the host type of its selector is there, its constants are right.
-use Rattle.std.proofs.Common.{if◌then◌else◌, ◌&&◌, ◌++◌, ◌||◌, ◌∙◌, ◌∷◌, ◌≡◌, ◌⊎◌, [], ℕ, ℤ, Bool, List, None, Option, Some, ap, false, inl, inr, is_none}
-use Rattle.std.proofs.Common.{is_some, map, nat_eq, nat_le, not, refl, subst, sym, true}
+use Rattle.std.proofs.Common.{if◌then◌else◌, ◌&&◌, ◌++◌, ◌||◌, ◌∙◌, ◌∷◌, ◌≡◌, [], ℕ, ℤ, Bool, List, None, Option, Some, ap, false, is_none, is_some, map}
+use Rattle.std.proofs.Common.{nat_eq, nat_le, not, refl, subst, sym, true}
 use Rattle.std.proofs.lemmas.{Bool.eq-eqb, Bool.Decides.Decides-int_eq, List.append-nil, List.append_assoc, Option.none-some, Option.same_Some}
 use Rattle.std.specs.{List.list_any, Ordering.int_eq}
 use Rattle.pas_tree.specs.{ConstantTrees.ConstantsTree, Constants.constant_node, DenoterPlaces.first_of_constant}
 use Rattle.pas_tree.specs.declared.constants.{Constant.Constant, NextConstant.NextConstant}
 use Rattle.core_program.specs.declared.rows.TypeRow.{TypeRow}
 use Rattle.check_steps.specs.{Items.add_item, Items.link, Names.is_usable, Names.usable, Names.use_again, declared.regions.Found.Found}
-use Rattle.check_steps.specs.Known.{Known, and_choice, find, is_chosen, name_at, same_choice, type_at}
+use Rattle.check_steps.specs.Known.{Known, find, is_chosen, name_at, same_choice, type_at}
 use Rattle.check_steps.specs.Steps.{◌>>=◌, Step, ask, change, each, give, late, look}
 use Rattle.kind_checker.specs.{Constants.constant_again, Constants.named_again, declared.constants.ConstantValue.ConstantValue}
 use Rattle.denoter_checker.specs.Variants.{add_choice, case_constant, choices, chosen_value, is_choice, listed_choice, next_choice, value_if}

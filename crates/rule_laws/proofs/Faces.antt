@@ -1,8 +1,8 @@
 -- What steps on other tokens leave of a row.
 use Rattle.std.proofs.Common.{◌&&◌, ◌-◌, ◌∙◌, ◌∷◌, ◌≡◌, ◌⊎◌, [], ℕ, Bool, List, ap, false, inl, inr, nat_eq, not, refl, set, slice_get, suc, sym, true}
 use Rattle.std.proofs.Common.{unwrap_or, zero}
-use Rattle.core_program.specs.declared.rows.{NameRow.NameRow, PartRow.PartRow, Row.Row}
-use Rattle.check_steps.specs.{Items.row_on, Known.Known, Known.row_at, Known.with_row}
+use Rattle.core_program.specs.declared.rows.{ItemRow.ItemRow, NameRow.NameRow, PartRow.PartRow, Row.Row}
+use Rattle.check_steps.specs.{Items.going_on, Items.row_on, Known.Known, Known.row_at, Known.with_row}
 use Rattle.statement_checker.specs.{Assignments.assigned_in, Assignments.with_value, Labels.marked_label, Labels.with_ways}
 
 -- what steps leave as it is, where they do: no frame is opened, no label marked, no function assigned
@@ -28,16 +28,18 @@ assigning = record { frames = true; marks = false; results = true }
 abbrev pub face : Shown → Row → Row
 face s (Row.Name (NameRow.Label marked value level ways)) = Row.Name (NameRow.Label (s.marks && marked) value level 0)
 face s (Row.Name (NameRow.Routine assigned number region)) = Row.Name (NameRow.Routine (s.results && assigned) number region)
-face s (Row.Item i) = Row.Nothing
+face s (Row.Item i) = Row.Item (going_on i 0)
 face s r = r
 
--- what a row says of a type, a constant, a procedure, a function or a label, of a heading, or of the one that it completes
+-- what a row says of a type, a constant, a procedure, a function, also as a parameter, or a label, of a heading, or of the
+-- one that it completes
 abbrev pub said : Row → Row
 said (Row.Type t) = Row.Type t
 said (Row.Name (NameRow.Constant of' v)) = Row.Name (NameRow.Constant of' v)
 said (Row.Name (NameRow.Text token)) = Row.Name (NameRow.Text token)
 said (Row.Name (NameRow.Routine assigned number region)) = Row.Name (NameRow.Routine false number region)
 said (Row.Name (NameRow.Label marked value level ways)) = Row.Name (NameRow.Label false value level 0)
+said (Row.Name (NameRow.RoutineFormal place level heading)) = Row.Name (NameRow.RoutineFormal place level heading)
 said (Row.Part (PartRow.Completing first)) = Row.Part (PartRow.Completing first)
 said (Row.Part (PartRow.Heading name sections result)) = Row.Part (PartRow.Heading name sections result)
 said r = Row.Nothing
@@ -89,8 +91,24 @@ ways_show strict f = record {
   gives = λ _ r e. ways_given r (f r) ∙ e;
 }
 
+-- where an item's list goes on the last time
+pub going_last : (i : ItemRow) (n m : ℕ) → going_on (going_on i n) m ≡ going_on i m
+going_last (ItemRow.Element v end) n m = refl
+going_last (ItemRow.Member v end) n m = refl
+going_last (ItemRow.Members first last end) n m = refl
+going_last (ItemRow.Choice v chosen end) n m = refl
+going_last (ItemRow.Value v of' end) n m = refl
+going_last (ItemRow.Place access end) n m = refl
+going_last (ItemRow.ArrayPlace first access of' end) n m = refl
+going_last (ItemRow.ArrayValue first v of' end) n m = refl
+going_last (ItemRow.Routine routine levels end) n m = refl
+going_last (ItemRow.RoutineFormal formal levels end) n m = refl
+going_last (ItemRow.Written v of' end) n m = refl
+going_last (ItemRow.WrittenWide v of' width end) n m = refl
+going_last i n m = refl
+
 on_face : (strict : Shown) (r : Row) (n : ℕ) → face strict (row_on r n) ≡ face strict r
-on_face strict (Row.Item i) n = refl
+on_face strict (Row.Item i) n = ap (λ x. Row.Item x) (going_last i n 0)
 on_face strict r n = refl
 
 on_said : (r : Row) (n : ℕ) → said (row_on r n) ≡ said r

@@ -87,23 +87,23 @@ own_undeclared p is done j f x t here e =
 
 -- ---- what is told
 
-no_row : (d : Option ℕ) (r : Row) (j : Known) → (put_label d r j).broken ≡ []
+pub no_row : (d : Option ℕ) (r : Row) (j : Known) → (put_label d r j).broken ≡ []
 unfolding change give
 no_row None r j = refl
 no_row (Some d) r j = refl
 
 -- the label is broken where it is not fine
-abbrev told_by : ℕ → Bool → List Break
+abbrev pub told_by : ℕ → Bool → List Break
 told_by x ok = if ok then [] else late_at 15 x ∷ []
 
-told_if : (x t : ℕ) (ok : Bool) → In (late_at 15 t) (told_by x ok ++ []) → (x ≡ t) × (ok ≡ false)
+pub told_if : (x t : ℕ) (ok : Bool) → In (late_at 15 t) (told_by x ok ++ []) → (x ≡ t) × (ok ≡ false)
 told_if x t true i = absurd i
 told_if x t false i = elim i [
   | inl e ↦ (ap (λ (b : Break). b.token) e, refl)
   | inr n ↦ absurd n
 ]
 
-if_told : (x t : ℕ) (ok : Bool) → x ≡ t → ok ≡ false → In (late_at 15 t) (told_by x ok ++ [])
+pub if_told : (x t : ℕ) (ok : Bool) → x ≡ t → ok ≡ false → In (late_at 15 t) (told_by x ok ++ [])
 if_told x t true e wrong = absurd (let never : true ≡ false = wrong in cc)
 if_told x t false e wrong = inl (ap (λ n. late_at 15 n) e)
 
@@ -116,14 +116,14 @@ record Marked (p : Spot) (done : List ℕ) (x : ℕ) (j : Known) (o : Option ℕ
   wrong : is_unmarked (row_of j o) ≡ false → IsWrongLabel p.k p.frame done x
   right : IsWrongLabel p.k p.frame done x → is_unmarked (row_of j o) ≡ false
 
-marks_more : (k : Known) (done : List ℕ) (x v : ℕ) → marks k (done ++ x ∷ []) v ≡ (marks k done v || nat_eq (label_at k x) v)
+pub marks_more : (k : Known) (done : List ℕ) (x v : ℕ) → marks k (done ++ x ∷ []) v ≡ (marks k done v || nat_eq (label_at k x) v)
 marks_more k done x v = any-last (λ l. nat_eq (label_at k l) v) done x
 
-or_right : (b : Bool) → (b || true) ≡ true
+pub or_right : (b : Bool) → (b || true) ≡ true
 or_right true = refl
 or_right false = refl
 
-or_none : (b : Bool) → (b || false) ≡ b
+pub or_none : (b : Bool) → (b || false) ≡ b
 or_none true = refl
 or_none false = refl
 

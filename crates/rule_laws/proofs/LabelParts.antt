@@ -40,7 +40,7 @@ rule_two p = record {
 spelled_same : (k j : Known) (x : ℕ) → j.words ≡ k.words → label_at j x ≡ label_at k x
 spelled_same k j x words = ap (λ (ws : List SpelledToken). label_at (record k { words = ws }) x) words
 
-declared_more : (k : Known) (region value v token : ℕ) → region < length k.regions
+pub declared_more : (k : Known) (region value v token : ℕ) → region < length k.regions
     → declared_in (and_label k region value token).regions region v
     ≡ or_else (declared_in k.regions region v) (cond (nat_eq v value) (Some token) None)
 declared_more k region value v token below =

@@ -244,12 +244,12 @@ spent_by j f level None at false same = refl
 spent_by j f level (Some d) at true same = marked_by j d level (row_at j d) refl
 spent_by j f level (Some d) at false same = sym (fine_by j f level (Some d) at (row_at j d) refl false same)
 
-no_frames : (o : Option ℕ) (r : Row) (j : Known) → (put_label o r j).known.frames ≡ j.frames
+pub no_frames : (o : Option ℕ) (r : Row) (j : Known) → (put_label o r j).known.frames ≡ j.frames
 unfolding change give
 no_frames None r j = refl
 no_frames (Some d) r j = refl
 
-no_regions : (o : Option ℕ) (r : Row) (j : Known) → (put_label o r j).known.regions ≡ j.regions
+pub no_regions : (o : Option ℕ) (r : Row) (j : Known) → (put_label o r j).known.regions ≡ j.regions
 unfolding change give
 no_regions None r j = refl
 no_regions (Some d) r j = refl

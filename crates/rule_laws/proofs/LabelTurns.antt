@@ -8,7 +8,7 @@ use Rattle.check_steps.specs.Known.{Known, find_label, find_label_from, frame_at
 use Rattle.check_steps.specs.declared.{breaks.Break.Break, regions.Frame.Frame, words.SpelledToken.SpelledToken}
 use Rattle.decl_checker.specs.Statements.{fields_in}
 use Rattle.rule_laws.proofs.{Breaks.Each, Breaks.In, Breaks.of_each, InTurn.Calm, InTurn.Rule, InTurn.Wrong}
-use Rattle.rule_laws.proofs.Faces.{Shown, face, loose, marking, said}
+use Rattle.rule_laws.proofs.Faces.{Shown, face, going_last, loose, marking, said}
 use Rattle.rule_laws.proofs.Touches.{IsBeside, Same, Told, Touches}
 use Rattle.rule_laws.specs.{BlockLabels.marks, CaseLaws.late_at, LabelLaws.IsOuterLabel, LabelLaws.IsUnmarkedLabel, LabelLaws.IsWrongLabel, Tokens.Has}
 
@@ -105,7 +105,8 @@ inside_still p j i regions frames g h = record {
 }
 
 -- a label that the block itself declares
-found_here : (k : Known) (n frame v d : ℕ) → 0 < n → declared_in k.regions (frame_at k frame).region v ≡ Some d → find_label_from n k (Some frame) v ≡ Some d
+pub found_here : (k : Known) (n frame v d : ℕ) → 0 < n → declared_in k.regions (frame_at k frame).region v ≡ Some d
+    → find_label_from n k (Some frame) v ≡ Some d
 found_here k zero frame v d some e = absurd (omega (arith, some))
 found_here k (suc n) frame v d some e = ap (λ o. or_else o (find_label_from n k (frame_at k frame).outer v)) e
 
@@ -123,7 +124,7 @@ beside_on p j n words h = record { none = h.none; before_end = λ e. h.before_en
 weaker : (r : Row) → face loose (face marking r) ≡ face loose r
 weaker (Row.Name (NameRow.Label marked value level ways)) = refl
 weaker (Row.Name (NameRow.Routine assigned number region)) = refl
-weaker (Row.Item i) = refl
+weaker (Row.Item i) = ap (λ x. Row.Item x) (going_last i 0 0)
 weaker r = refl
 
 pub like_said : (p : Spot) (j i : Known) → ((n : ℕ) → (said (row_at j n) ≡ Row.Nothing) ⊎ (said (row_at j n) ≡ said (row_at p.k n)))

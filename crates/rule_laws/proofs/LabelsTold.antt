@@ -84,10 +84,10 @@ no_labels p is s j t (ExpressionType.Set host packing) region e v = absurd (none
 no_labels p is s j t (ExpressionType.Text n) region e v = absurd (none-some region e)
 
 -- what a step that leads into a record leaves
-record Leads (p : Where) (s : Bool) (j i : Known) (inner : ℕ) : Type 0 where
-  turn : Turn p s i
-  inside : (g : ℕ) → Inside p j g → Inside p i g
-  here : Inside p i inner
+pub record Leads (p : Where) (s : Bool) (j i : Known) (inner : ℕ) : Type 0 where
+  pub turn : Turn p s i
+  pub inside : (g : ℕ) → Inside p j g → Inside p i g
+  pub here : Inside p i inner
 
 leads_by : (p : Where) (s : Bool) (j : Known) (f : ℕ) → Turn p s j → Inside p j f → (o : Option ℕ)
     → ((region : ℕ) → o ≡ Some region → (v : ℕ) → declared_in j.regions region v ≡ None)
@@ -130,7 +130,7 @@ leads_join p s j i h one two a b = record { turn = b.turn; inside = λ g q. b.in
 
 -- ---- the records of a with statement
 
-first_leads : (p : Where) → IsWhere p → (s : Bool) (j : Known) (f word : ℕ) (a : AccessTree) → Turn p s j → Inside p j f
+pub first_leads : (p : Where) → IsWhere p → (s : Bool) (j : Known) (f word : ℕ) (a : AccessTree) → Turn p s j → Inside p j f
     → let d = first_record f word a j in Leads p s j d.known d.value.frame
 unfolding first_record ◌>>=◌ give
 first_leads p is s j f word a t here =
@@ -157,7 +157,7 @@ next_leads p is s j o n t here =
     (leads_then p s added v.known d.known d.value
     (record_leads p is s v.known o.frame n.access.name v.value (still.turn s j t) (still.inside j t.regions o.frame here)))
 
-each_leads : (p : Where) → IsWhere p → (s : Bool) (j : Known) (o : Opened) (ns : List NextAccessTree) → Turn p s j → Inside p j o.frame
+pub each_leads : (p : Where) → IsWhere p → (s : Bool) (j : Known) (o : Opened) (ns : List NextAccessTree) → Turn p s j → Inside p j o.frame
     → let d = each another_record o ns j in Leads p s j d.known d.value.frame
 unfolding ◌>>=◌ give
 each_leads p is s j o [] t here = record { turn = t; inside = λ g h. h; here = here }

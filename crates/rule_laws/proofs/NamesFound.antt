@@ -1,18 +1,15 @@
 -- What tables say of names and constants was said in those before them.
-use Rattle.std.proofs.Common.{if◌then◌else◌, ◌+◌, ◌∙◌, ◌∷◌, ◌≡◌, ◌≤◌, ◌⊎◌, [], ℕ, Bool, List, None, Option, Some, ap, arith, false, inl, inr, is_some, length}
-use Rattle.std.proofs.Common.{nat_lt, refl, subst, suc, sym, true, zero}
+use Rattle.std.proofs.Common.{◌∙◌, ◌≡◌, ◌≤◌, ◌⊎◌, ℕ, List, None, Option, Some, ap, arith, false, inl, inr, is_some, length, refl, subst, suc, sym, true, zero}
 use Rattle.std.proofs.lemmas.Option.{none-some}
 use Rattle.pas_tree.specs.declared.{constants.Constant.Constant, operators.Sign.Sign}
 use Rattle.core_program.specs.{ProgramRows.type_in, declared.rows.NameRow.NameRow, declared.rows.PartRow.PartRow, declared.rows.Row.Row}
 use Rattle.check_steps.specs.{Names.usable, Regions.RegionRows, Regions.defined_in, Regions.or_else}
-use Rattle.check_steps.specs.Known.{Known, and_frame, find, find_from, found_in, found_with, frame_at, name_at, row_at, type_at}
+use Rattle.check_steps.specs.Known.{Known, find, find_from, found_in, found_with, frame_at, name_at, row_at, type_at}
 use Rattle.check_steps.specs.declared.{regions.Found.Found, regions.Frame.Frame, words.SpelledToken.SpelledToken}
-use Rattle.kind_checker.specs.{Constants.signed_value, Constants.value_in, Constants.value_of, declared.constants.ConstantValue.ConstantValue}
-use Rattle.decl_checker.specs.Statements.{one_more_with}
+use Rattle.kind_checker.specs.{Constants.value_in, Constants.value_of, declared.constants.ConstantValue.ConstantValue}
 use Rattle.rule_laws.proofs.{Alike.find-outermost, Alike.type_said, Faces.Shown, Faces.said, Laters.longer_frame, Laters.longer_length, Outward.Ends}
-use Rattle.rule_laws.proofs.{Outward.Outward, Outward.frame_last, Outward.outward_longer, Touches.Longer, Touches.Same, Touches.longer_still, Touches.no_longer}
-use Rattle.rule_laws.specs.CaseConstants.{stands_for, with_sign_of}
-use Rattle.rule_laws.specs.TextCases.{IsWithin, and_outward, around_with, is_found, outer_if, outward_by}
+use Rattle.rule_laws.proofs.{Outward.Outward, Outward.outward_longer, Touches.Longer, Touches.Same, Touches.longer_still, Touches.no_longer}
+use Rattle.rule_laws.specs.{CaseConstants.stands_for, CaseConstants.with_sign_of, TextCases.is_found}
 
 -- ---- names
 
@@ -58,6 +55,7 @@ pub record Ahead (f j : Known) : Type 0 where
       → row_at j n ≡ Row.Part (PartRow.Heading name sections result)
   pub values : (n : ℕ) (v : ConstantValue) → value_in (row_at f n) ≡ Some v → value_in (row_at j n) ≡ Some v
   pub types : (n : ℕ) → is_some (type_at f n) ≡ true → type_at j n ≡ type_at f n
+  pub sayings : (n : ℕ) → (said (row_at f n) ≡ Row.Nothing) ⊎ (said (row_at f n) ≡ said (row_at j n))
 
 pub ahead_self : (f : Known) → Ahead f f
 ahead_self f = record {
@@ -69,6 +67,7 @@ ahead_self f = record {
   headings = λ n name sections result e. e;
   values = λ n v e. e;
   types = λ n some. refl;
+  sayings = λ n. inr refl;
 }
 
 value_said : (r : Row) → value_in (said r) ≡ value_in r
@@ -81,7 +80,7 @@ value_said (Row.Part (PartRow.Completing first)) = refl
 value_said (Row.Part (PartRow.Heading name sections result)) = refl
 value_said r = refl
 
-heading_said : (r : Row) (name sections : ℕ) (result : Option ℕ) → said r ≡ Row.Part (PartRow.Heading name sections result)
+pub heading_said : (r : Row) (name sections : ℕ) (result : Option ℕ) → said r ≡ Row.Part (PartRow.Heading name sections result)
     → r ≡ Row.Part (PartRow.Heading name sections result)
 heading_said (Row.Type t) name sections result e = absurd cc
 heading_said (Row.Name (NameRow.Constant of' v)) name sections result e = absurd cc
@@ -108,6 +107,13 @@ ahead_before f j i s a = record {
     | inr same ↦ sym (value_said (row_at j n)) ∙ ap value_in (sym same) ∙ value_said (row_at i n) ∙ a.values n v e
   ];
   types = λ n some. type_before j i s n (ap is_some (a.types n some) ∙ some) ∙ a.types n some;
+  sayings = λ n. elim (a.sayings n) [
+    | inl none ↦ inl none
+    | inr same ↦ elim (s.sayings n) [
+      | inl p ↦ inl (same ∙ p.1)
+      | inr e ↦ inr (same ∙ e)
+    ]
+  ];
 }
 
 pub outward_then : (j i : Known) (frame : ℕ) → Longer j.frames i.frames → Outward j.frames frame → Outward i.frames frame
@@ -154,46 +160,3 @@ pub found_after : (f j : Known) (frame : ℕ) → Ahead f j → Outward j.frames
 found_after f j frame a o (Constant.Number s n) e = refl
 found_after f j frame a o (Constant.Name s n) e = ap (λ x. is_some (usable n x)) (same_name f j a frame n o) ∙ e
 found_after f j frame a o (Constant.Text n) e = refl
-
--- ---- frames within a block's
-
-ends_around : (fs : List Frame) (withs : ℕ) (at : Option ℕ) (m : ℕ) → Ends fs at m → Ends fs (outer_if withs at) m
-ends_around fs zero at m e = tt
-ends_around fs (suc n) at m e = e
-
-within_at : (i j : Known) → Longer i.frames j.frames → (n m : ℕ) (at : Option ℕ) (block : ℕ) → Ends i.frames at m
-    → and_outward at (outward_by n i) ≡ Some block → and_outward at (outward_by n j) ≡ Some block
-within_at i j longer n m None block e w = absurd (none-some block w)
-within_at i j longer zero m (Some f) block e w = w
-within_at i j longer (suc n) zero (Some f) block e w = absurd e
-within_at i j longer (suc n) (suc m) (Some f) block e w =
-    ap (λ (g : Frame). and_outward (around_with g) (outward_by n j)) (longer_frame i.frames j.frames f longer e.0)
-    ∙ within_at i j longer n m (around_with (frame_at i f)) block (ends_around i.frames (frame_at i f).withs (frame_at i f).outer m e.1) w
-
--- Frames that lead outward stay within a block's.
-pub within_then : (i j : Known) → Longer i.frames j.frames → (block frame : ℕ) → Outward i.frames frame → IsWithin i block frame → IsWithin j block frame
-within_then i j longer block frame o w = record { steps = w.steps; leads = within_at i j longer w.steps o.steps (Some frame) block o.ends w.leads }
-
-pub within_self : (k : Known) (block : ℕ) → IsWithin k block block
-within_self k block = record { steps = 0; leads = refl }
-
--- the frame that is opened inside of one
-pub within_new : (j : Known) (x : Frame) (block frame : ℕ) → around_with x ≡ Some frame → Outward j.frames frame → IsWithin j block frame
-    → IsWithin (and_frame j x) block (length j.frames)
-within_new j x block frame out o w =
-    let more = within_then j (and_frame j x) (record { more = x ∷ []; is = refl }) block frame o w in
-    record {
-      steps = suc more.steps;
-      leads = ap (λ (g : Frame). and_outward (around_with g) (outward_by more.steps (and_frame j x))) (frame_last j.frames x)
-          ∙ ap (λ at. and_outward at (outward_by more.steps (and_frame j x))) out ∙ more.leads;
-    }
-
--- a frame of a with statement
-one_with : (withs : ℕ) (b : Bool) (at : Option ℕ) → nat_lt withs 4294967295 ≡ b → outer_if (if b then withs + 1 else withs) at ≡ at
-one_with withs true at e = let more : withs + 1 ≡ suc withs = omega arith in ap (λ n. outer_if n at) more
-one_with zero false at e = absurd (let never : true ≡ false = e in cc)
-one_with (suc n) false at e = refl
-
-pub around_new : (region frame level withs : ℕ)
-    → around_with (record { region = region; outer = Some frame; level = level; withs = one_more_with withs }) ≡ Some frame
-around_new region frame level withs = one_with withs (nat_lt withs 4294967295) (Some frame) refl

@@ -5,7 +5,6 @@ use Rattle.pas_tree.specs.{Blocks.constant_definition_node, ConstantTrees.NamesT
 use Rattle.pas_tree.specs.{DenoterTrees.VariantsTree, Denoters.tag_rest_node, SchemaTrees.FormalTypeTree, SchemaTrees.SchemaTree, Schemas.next_spec_node}
 use Rattle.pas_tree.specs.{Schemas.spec_node, declared.schemas.NextSpec.NextSpec, declared.schemas.Spec.Spec}
 use Rattle.pas_tree.specs.BlockTrees.{ConstantPartTree, ParametersTree, TypeDefinitionTree, TypePartTree, VariableDeclarationTree, VariablePartTree}
-use Rattle.pas_tree.specs.BlockTrees as blocks
 use Rattle.pas_tree.specs.DenoterTrees.{ArmTree, ArmTrees, ArrayTree, DenoterTree, DenoterTrees, FieldsTree, FixedTree, PartTree, SectionTree, SectionTrees}
 use Rattle.pas_tree.specs.DenoterTrees as denoters
 use Rattle.pas_tree.specs.HeadingTrees.{FormalNamesTree, FormalTree, FormalTrees, FormalsTree, HeldFormals}

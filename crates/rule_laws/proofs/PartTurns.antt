@@ -16,7 +16,7 @@ use Rattle.rule_laws.proofs.{Breaks.Each, Breaks.In, Breaks.in_left, Breaks.in_r
 use Rattle.rule_laws.proofs.{NameTurns.Turn, NameTurns.named, SecondHeadings.has_turn, Tables.row_put, TextFields.or_true, Touches.any-last}
 use Rattle.rule_laws.proofs.Lasting.{Declaring, Lasting, with_completion}
 use Rattle.rule_laws.proofs.LastsRoutineParts.{completed, define_heading-lasts, define_routine-lasts, have_blocks-lasts}
-use Rattle.rule_laws.proofs.Seats.{AnyKind, ForwardKind, Nobody, Seat, SeatsIn, SeatsOf, SecondKind, SomeAt, some_any}
+use Rattle.rule_laws.proofs.Seats.{AnyKind, ForwardKind, Kind, Nobody, Seat, SeatsIn, SeatsOf, SomeAt, some_any}
 use Rattle.rule_laws.proofs.TextForwards.{Both, awaits_kind, both_all, both_last, forward_same, found_block}
 use Rattle.rule_laws.proofs.TextHeadings.{IsOfText, awaited, completed_found, completion_sound, defined_either, no_completing, no_forward, no_name, no_record}
 use Rattle.rule_laws.proofs.TextHeadings.{row_completing, row_forward, same_row, spelled_as, waits_row}
@@ -24,13 +24,44 @@ use Rattle.rule_laws.proofs.TextRoutines.{defining_here, directive_regions, or_e
 use Rattle.rule_laws.specs.{Laws.broken_at, TextLaws.has_name}
 use Rattle.rule_laws.specs.ForwardHeadings.{are_completing, completes, has_forward, have_one_name, is_block, is_named, is_second, routines_in, same_kind}
 
+-- ---- the first of a name
+
+-- the name of the first that has another's, among some
+abbrev pub first_token : Known → List RoutineTree → RoutineTree → Option ℕ
+first_token k [] r = None
+first_token k (q ∷ qs) r = if have_one_name k q r then Some (routine_name q) else first_token k qs r
+
+-- one that has the block of the first heading of its name, which has its name at this token
+abbrev pub SecondOf : Known → ℕ → Kind
+SecondOf k first before r = (is_second k before r ≡ true) × (first_token k before r ≡ Some first)
+
+pub listed_last : (done : List RoutineTree) (s : RoutineTree) (n : ℕ) → Listed (map routine_name (done ++ s ∷ [])) n
+    → Listed (map routine_name done) n ⊎ (routine_name s ≡ n)
+listed_last [] s n (inl e) = inr e
+listed_last [] s n (inr h) = absurd h
+listed_last (q ∷ qs) s n (inl e) = inl (inl e)
+listed_last (q ∷ qs) s n (inr h) = elim (listed_last qs s n h) [
+  | inl l ↦ inl (inr l)
+  | inr e ↦ inr e
+]
+
+first_more : (k : Known) (done : List RoutineTree) (s r : RoutineTree) (m : ℕ) → first_token k done r ≡ Some m → first_token k (done ++ s ∷ []) r ≡ Some m
+first_more k [] s r m e = absurd (none-some m e)
+first_more k (q ∷ qs) s r m e =
+    by (have_one_name k q r) (first_token k qs r) (first_token k (qs ++ s ∷ []) r) (λ h. first_more k qs s r m h) e
+  where
+    by : (b : Bool) (o u : Option ℕ) → (o ≡ Some m → u ≡ Some m) → (if b then Some (routine_name q) else o) ≡ Some m
+        → (if b then Some (routine_name q) else u) ≡ Some m
+    by true o u f e = e
+    by false o u f e = f e
+
 -- ---- rows of headings
 
 -- Rows of forward headings stand at names of such; and those of headings that complete them, at names of such.
 pub record Marked (k : Known) (t : BlockTree) (j : Known) : Type 0 where
   pub forward : (n : ℕ) (function : Bool) (block : Option ℕ) → row_at j n ≡ Row.Part (PartRow.Forward function block)
       → SomeAt (ForwardKind k function) n t
-  pub completing : (n first : ℕ) → row_at j n ≡ Row.Part (PartRow.Completing first) → SomeAt (SecondKind k) n t
+  pub completing : (n first : ℕ) → row_at j n ≡ Row.Part (PartRow.Completing first) → SomeAt (SecondOf k first) n t
 
 marked_alike : (k : Known) (t : BlockTree) (j i : Known) → ((n : ℕ) → row_at i n ≡ row_at j n) → Marked k t j → Marked k t i
 marked_alike k t j i rows s = record {
@@ -40,7 +71,7 @@ marked_alike k t j i rows s = record {
 
 put_marked : (k : Known) (t : BlockTree) (j : Known) (m : ℕ) (r : Row)
     → ((function : Bool) (block : Option ℕ) → r ≡ Row.Part (PartRow.Forward function block) → SomeAt (ForwardKind k function) m t)
-    → ((first : ℕ) → r ≡ Row.Part (PartRow.Completing first) → SomeAt (SecondKind k) m t) → Marked k t j → Marked k t (with_row j m r)
+    → ((first : ℕ) → r ≡ Row.Part (PartRow.Completing first) → SomeAt (SecondOf k first) m t) → Marked k t j → Marked k t (with_row j m r)
 put_marked k t j m r forward completing s = record {
   forward = λ n function block e. elim (row_either j m n r) [
     | inl old ↦ s.forward n function block (sym old ∙ e)
@@ -48,7 +79,7 @@ put_marked k t j m r forward completing s = record {
   ];
   completing = λ n first e. elim (row_either j m n r) [
     | inl old ↦ s.completing n first (sym old ∙ e)
-    | inr new ↦ subst (λ x. SomeAt (SecondKind k) x t) (sym new.0) (completing first (sym new.1 ∙ e))
+    | inr new ↦ subst (λ x. SomeAt (SecondOf k first) x t) (sym new.0) (completing first (sym new.1 ∙ e))
   ];
 }
 
@@ -148,7 +179,7 @@ second_more k (q ∷ qs) s r apart e =
     ∙ if_more (have_one_name k q r) (has_forward k (routine_body q)) (completes k q r) (are_completing k q qs) (completes k q s) (is_second k qs r)
     (is_second k (qs ++ s ∷ []) r) (apart q) (second_more k qs s r apart) e
 
-or_neither : (a b : Bool) → (a || b) ≡ false → (a ≡ false) × (b ≡ false)
+pub or_neither : (a b : Bool) → (a || b) ≡ false → (a ≡ false) × (b ≡ false)
 or_neither false b e = (refl, e)
 or_neither true b e = absurd (let never : true ≡ false = e in cc)
 
@@ -180,9 +211,11 @@ pub record Part (k : Known) (t : BlockTree) (region : ℕ) (names : List ℕ) (d
   pub heads : (r : RoutineTree) → is_named k done r ≡ true → is_some (defined_in j.regions region (name_at k (routine_name r))) ≡ true
   pub tokens : (n : ℕ) (d : Definition) → defined_in j.regions region n ≡ Some d → Nobody t d.token ⊎ Listed (map routine_name done) d.token
   pub second : (r : RoutineTree) (first : ℕ) → completed_by j region (routine_heading r) (routine_body r) ≡ Some first → is_second k done r ≡ true
+  pub owner : (r : RoutineTree) (d : Definition) → defined_in j.regions region (name_at k (routine_name r)) ≡ Some d
+      → Listed (map routine_name done) d.token → first_token k done r ≡ Some d.token
 
 -- what would be completed, by the definition
-found_back : (j : Known) (region : ℕ) (h : HeadingTree) (body : BodyTree) (d : Definition) (first : ℕ) → is_block body ≡ true
+pub found_back : (j : Known) (region : ℕ) (h : HeadingTree) (body : BodyTree) (d : Definition) (first : ℕ) → is_block body ≡ true
     → defined_in j.regions region (name_at j (heading_name h)) ≡ Some d → d.token ≡ first → awaits (is_function h) (row_at j first) ≡ true
     → completed_by j region h body ≡ Some first
 found_back j region h (tree.a_directive directive) d first block is token waits = absurd (let never : false ≡ true = block in cc)
@@ -191,16 +224,16 @@ found_back j region h (tree.a_block_body b) d first block is token waits =
     ∙ ap (λ c. if c then Some d.token else None) (ap (λ n. awaits (is_function h) (row_at j n)) token ∙ waits)
     ∙ ap Some token
 
-listed_done : (done : List RoutineTree) (s : RoutineTree) (n : ℕ) → Listed (map routine_name done) n → Listed (map routine_name (done ++ s ∷ [])) n
+pub listed_done : (done : List RoutineTree) (s : RoutineTree) (n : ℕ) → Listed (map routine_name done) n → Listed (map routine_name (done ++ s ∷ [])) n
 listed_done [] s n h = absurd h
 listed_done (q ∷ qs) s n (inl e) = inl e
 listed_done (q ∷ qs) s n (inr h) = inr (listed_done qs s n h)
 
-listed_own : (done : List RoutineTree) (s : RoutineTree) → Listed (map routine_name (done ++ s ∷ [])) (routine_name s)
+pub listed_own : (done : List RoutineTree) (s : RoutineTree) → Listed (map routine_name (done ++ s ∷ [])) (routine_name s)
 listed_own [] s = inl refl
 listed_own (q ∷ qs) s = inr (listed_own qs s)
 
-both_three : (a b c : Bool) → (a && b && c) ≡ true → (a ≡ true) × (b ≡ true) × (c ≡ true)
+pub both_three : (a b c : Bool) → (a && b && c) ≡ true → (a ≡ true) × (b ≡ true) × (c ≡ true)
 both_three true true true e = (refl, refl, refl)
 both_three true true false e = absurd (let never : false ≡ true = e in cc)
 both_three true false c e = absurd (let never : false ≡ true = e in cc)
@@ -244,19 +277,19 @@ rivals k j region q r s d first words qr qs is token waits =
 
 -- ---- one that completes no other
 
-record IsNewHere (j : Known) (region : ℕ) (s : RoutineTree) (n : ℕ) (d : Definition) : Type 0 where
-  name : n ≡ name_at j (routine_name s)
-  token : routine_name s ≡ d.token
-  none : defined_in j.regions region n ≡ None
+pub record IsNewHere (j : Known) (region : ℕ) (s : RoutineTree) (n : ℕ) (d : Definition) : Type 0 where
+  pub name : n ≡ name_at j (routine_name s)
+  pub token : routine_name s ≡ d.token
+  pub none : defined_in j.regions region n ≡ None
 
-record IsForwardHere (k : Known) (s : RoutineTree) (i : Known) (n : ℕ) : Type 0 where
-  at : n ≡ routine_name s
-  row : row_at i n ≡ Row.Part (PartRow.Forward (is_function (routine_heading s)) None)
+pub record IsForwardHere (k : Known) (s : RoutineTree) (i : Known) (n : ℕ) : Type 0 where
+  pub at : n ≡ routine_name s
+  pub row : row_at i n ≡ Row.Part (PartRow.Forward (is_function (routine_heading s)) None)
   forward : has_forward k (routine_body s) ≡ true
 
-record Leaves (k : Known) (region : ℕ) (s : RoutineTree) (j i : Known) : Type 0 where
-  definitions : (n : ℕ) (d : Definition) → defined_in i.regions region n ≡ Some d → (defined_in j.regions region n ≡ Some d) ⊎ IsNewHere j region s n d
-  rows : (n : ℕ) → (row_at i n ≡ row_at j n) ⊎ IsForwardHere k s i n
+pub record Leaves (k : Known) (region : ℕ) (s : RoutineTree) (j i : Known) : Type 0 where
+  pub definitions : (n : ℕ) (d : Definition) → defined_in i.regions region n ≡ Some d → (defined_in j.regions region n ≡ Some d) ⊎ IsNewHere j region s n d
+  pub rows : (n : ℕ) → (row_at i n ≡ row_at j n) ⊎ IsForwardHere k s i n
 
 abbrev own_of : RoutineTree → Definition
 own_of s = record { def = Def.Routine (routine_name s); token = routine_name s; end = routine_name s }
@@ -299,7 +332,7 @@ directive_rows k t s (tree.a_directive directive) j same both n = when_forward k
     (λ e. ap (has_forward k) same ∙ sym (forward_same k j directive both.roomy) ∙ e) n
 directive_rows k t s (tree.a_block_body b) j same both n = inl refl
 
-leaves : (k : Known) (t : BlockTree) (region : ℕ) (s : RoutineTree) (j : Known) → Both k t j
+pub leaves : (k : Known) (t : BlockTree) (region : ℕ) (s : RoutineTree) (j : Known) → Both k t j
     → Leaves k region s j (defining region (routine_heading s) (routine_body s) j).known
 unfolding defining define_heading define_in look ◌>>=◌ ask
 leaves k t region s j both =
@@ -320,9 +353,42 @@ abbrev kind_of : Row → Bool
 kind_of (Row.Part (PartRow.Forward function block)) = function
 kind_of r = false
 
-unnamed : (a : Bool) (o : Option Definition) → (a ≡ true → is_some o ≡ true) → o ≡ None → a ≡ false
+pub unnamed : (a : Bool) (o : Option Definition) → (a ≡ true → is_some o ≡ true) → o ≡ None → a ≡ false
 unnamed false o h e = refl
 unnamed true o h e = absurd (let never : false ≡ true = sym (ap is_some e) ∙ h refl in cc)
+
+first_last : (k : Known) (done : List RoutineTree) (s r : RoutineTree) → is_named k done r ≡ false → have_one_name k s r ≡ true
+    → first_token k (done ++ s ∷ []) r ≡ Some (routine_name s)
+first_last k [] s r none same = ap (λ b. if b then Some (routine_name s) else None) same
+first_last k (q ∷ qs) s r none same =
+    let parts = or_neither (have_one_name k q r) (is_named k qs r) none in
+    ap (λ b. if b then Some (routine_name q) else first_token k (qs ++ s ∷ []) r) parts.0 ∙ first_last k qs s r parts.1 same
+
+-- a definition that was there
+owner_old : (k : Known) (t : BlockTree) (region : ℕ) (names : List ℕ) (done : List RoutineTree) (s : RoutineTree) (j : Known) → Seat t done s
+    → Part k t region names done j → (r : RoutineTree) (d : Definition) → defined_in j.regions region (name_at k (routine_name r)) ≡ Some d
+    → Listed (map routine_name (done ++ s ∷ [])) d.token → first_token k (done ++ s ∷ []) r ≡ Some d.token
+owner_old k t region names done s j seat p r d old listed = elim (listed_last done s d.token listed) [
+  | inl before ↦ first_more k done s r d.token (p.owner r d old before)
+  | inr own ↦ absurd (elim (p.tokens (name_at k (routine_name r)) d old) [
+    | inl nobody ↦ nobody (subst (λ n. SomeAt AnyKind n t) own (seat.up AnyKind tt))
+    | inr h ↦ seat.fresh (subst (Listed (map routine_name done)) (sym own) h)
+  ])
+]
+
+owner_defining : (k : Known) (t : BlockTree) (region : ℕ) (names : List ℕ) (done : List RoutineTree) (s : RoutineTree) (j i : Known) → Seat t done s
+    → Part k t region names done j → Leaves k region s j i → (r : RoutineTree) (d : Definition)
+    → defined_in i.regions region (name_at k (routine_name r)) ≡ Some d
+    → Listed (map routine_name (done ++ s ∷ [])) d.token → first_token k (done ++ s ∷ []) r ≡ Some d.token
+owner_defining k t region names done s j i seat p l r d found listed = elim (l.definitions (name_at k (routine_name r)) d found) [
+  | inl old ↦ owner_old k t region names done s j seat p r d old listed
+  | inr new ↦
+      let one : name_at k (routine_name s) ≡ name_at k (routine_name r)
+      = sym (spelled_as k j (routine_name s) p.orderly.both.sound.words) ∙ sym new.name in
+      first_last k done s r (unnamed (is_named k done r) (defined_in j.regions region (name_at k (routine_name r))) (p.heads r) new.none)
+      (eq-eqb (name_at k (routine_name s)) (name_at k (routine_name r)) one)
+      ∙ ap Some new.token
+]
 
 -- what would be completed after it
 second_defining : (k : Known) (t : BlockTree) (region : ℕ) (names : List ℕ) (done : List RoutineTree) (s : RoutineTree) (j i : Known) → Seat t done s
@@ -397,7 +463,7 @@ named_more k j i region done s stays own named r e =
     ]
 
 -- the definitions of a region stay
-abbrev Stay : ℕ → (j i : Known) → Type 0
+abbrev pub Stay : ℕ → (j i : Known) → Type 0
 Stay region j i = (n : ℕ) (d : Definition) → defined_in j.regions region n ≡ Some d → defined_in i.regions region n ≡ Some d
 
 some_stays : (region : ℕ) (j i : Known) → Stay region j i → (n : ℕ) (o : Option Definition) → defined_in j.regions region n ≡ o → is_some o ≡ true
@@ -433,9 +499,13 @@ turn_defining k t region names done s j seat p none both stay =
         | inr new ↦ inr (subst (Listed (map routine_name (done ++ s ∷ []))) new.token (listed_own done s))
       ];
       second = second_defining k t region names done s j i seat p none l orderly;
+      owner = owner_defining k t region names done s j i seat p l;
     }
 
 -- ---- one that completes another
+
+same_first : (a b : ℕ) → Row.Part (PartRow.Completing a) ≡ Row.Part (PartRow.Completing b) → a ≡ b
+same_first a b e = cc
 
 settled_row : (function : Bool) (position : ℕ) (r : Row) → r ≡ Row.Part (PartRow.Forward function (Some position)) → (other : Bool)
     → r ≡ Row.Part (PartRow.Forward other None) → ⊥
@@ -457,11 +527,18 @@ turn_completing k t region position names done s first j seat p e both =
     let kind : function ≡ waiting.kind
     = sym (kind_same waiting.kind function (awaits_kind function waiting.kind (row_at j first) waiting.is f.waiting)) in
     let was = p.orderly.marked.forward first waiting.kind None waiting.is in
+    let listed : Listed (map routine_name done) f.d.token = elim (p.tokens (name_at j name) f.d f.is) [
+      | inl nobody ↦ absurd (nobody (subst (λ n. SomeAt AnyKind n t) (sym f.token) (some_any (ForwardKind k waiting.kind) first t was)))
+      | inr h ↦ h
+    ] in
+    let own_first : first_token k done s ≡ Some first
+    = p.owner s f.d (ap (defined_in j.regions region) (sym (spelled_as k j name words)) ∙ f.is) listed ∙ ap Some f.token in
     let marked_first : Marked k t x = put_marked k t j first settled
     (λ g b same. subst (λ a. SomeAt (ForwardKind k a) first t) (sym kind ∙ ap kind_of same) was)
     (λ at same. absurd (row_completing function position at same)) p.orderly.marked in
     let marked : Marked k t i = put_marked k t x name (Row.Part (PartRow.Completing first)) (λ g b same. absurd (row_forward first g b same))
-    (λ at same. seat.up (SecondKind k) (p.second s first e)) marked_first in
+    (λ at same. subst (λ x. SomeAt (SecondOf k x) name t) (same_first first at same) (seat.up (SecondOf k first) (p.second s first e, own_first)))
+    marked_first in
     let below : first < length j.program.rows = (
     let spelled = (completion_sound k t j region first s e p.orderly.both.sound).forward.spelled in
     let room = p.orderly.both.roomy.room in
@@ -495,6 +572,7 @@ turn_completing k t region position names done s first j seat p e both =
           second_more k done s r (λ q qr qs. other (sym (same_Some first at
           (sym e ∙ rivals k j region q r s g.d at words qr qs g.is g.token still))))
           (p.second r at (found_back j region (routine_heading r) (routine_body r) g.d at block g.is g.token still));
+      owner = λ r d found h. owner_old k t region names done s j seat p r d found h;
     }
 
 -- ---- one procedure or function
@@ -509,7 +587,7 @@ turn_by k t region position names done s j seat p (Some first) e both stay =
     subst (Part k t region names (done ++ s ∷ [])) (sym same)
     (turn_completing k t region position names done s first j seat p e (subst (Both k t) same both))
 
-turn : (k : Known) (t : BlockTree) (region position : ℕ) (names : List ℕ) (done : List RoutineTree) (s : RoutineTree) (j : Known) → IsOfText k t s
+pub turn : (k : Known) (t : BlockTree) (region position : ℕ) (names : List ℕ) (done : List RoutineTree) (s : RoutineTree) (j : Known) → IsOfText k t s
     → Seat t done s
     → Part k t region names done j → Part k t region names (done ++ s ∷ []) (define_routine region position s j).known
 unfolding define_routine look ◌>>=◌ give
@@ -553,7 +631,7 @@ told_here k t region position names done s j p again =
 
 -- ---- a part
 
-seat_of : (t : BlockTree) (before : List RoutineTree) (r : RoutineTree) → SeatsOf t before r → Seat t before r
+pub seat_of : (t : BlockTree) (before : List RoutineTree) (r : RoutineTree) → SeatsOf t before r → Seat t before r
 seat_of t before (tree.a_routine heading semicolon body last_semicolon) s = s.0
 
 each_kept : (k : Known) (t : BlockTree) (region position : ℕ) (names : List ℕ) (done : List RoutineTree) (rs : RoutineTrees) (j : Known)
@@ -632,6 +710,7 @@ part_begun k t p names j words clean nobody turned s = record {
       let waiting = awaited (is_function (routine_heading r)) (row_at j first) f.waiting in
       let some = some_any (ForwardKind k waiting.kind) first t (s.marked.forward first waiting.kind None waiting.is) in
       absurd (apart (name_at j (routine_name r)) f.d f.is (subst (λ n. SomeAt AnyKind n t) (sym f.token) some));
+  owner = λ r d found listed. absurd listed;
 }
   where
     same : (n : ℕ) → named p.k names n ≡ named k names n

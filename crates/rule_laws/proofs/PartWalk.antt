@@ -22,8 +22,8 @@ use Rattle.rule_laws.proofs.{Standing.stands_at, TextFields.Any, TextHeadings.Is
 use Rattle.rule_laws.proofs.Gives.{Gives, gives_both, gives_first, gives_none, gives_then}
 use Rattle.rule_laws.proofs.LastsBlocks.{define_constants-lasts, define_types-lasts, define_variables-lasts, parts-lasts, put_body-lasts}
 use Rattle.rule_laws.proofs.NameLaw.{begun, constant_part_goes, type_part_goes, variable_part_goes}
-use Rattle.rule_laws.proofs.PartTurns.{Clean, Orderly, Part, orderly_all, orderly_lasts, part_begun, part_kept}
-use Rattle.rule_laws.proofs.Seats.{ForwardKind, Nobody, Seat, Seats, SeatsIn, SeatsInside, SeatsOf, SecondKind}
+use Rattle.rule_laws.proofs.PartTurns.{Clean, Orderly, Part, SecondOf, orderly_all, orderly_lasts, part_begun, part_kept}
+use Rattle.rule_laws.proofs.Seats.{ForwardKind, Nobody, Seat, Seats, SeatsIn, SeatsInside, SeatsOf}
 use Rattle.rule_laws.specs.{ForwardHeadings.has_forward, ForwardHeadings.is_block, ForwardHeadings.is_second, NameLaws.block_routines, TextLaws.names_in_body}
 use Rattle.rule_laws.specs.RegionNames.{block_names, constants_of, heading_names, types_of, variables_of}
 use Rattle.rule_laws.specs.TextParts.{OfBody, OfBodyAfter, OfEach, OfEachAfter, OfRoutine, OfRoutineAfter, OfRoutines, OfRoutinesAfter}
@@ -182,7 +182,7 @@ pub record StatedOf (k : Known) (t : BlockTree) (before : List RoutineTree) (r :
   pub seat : Seat t before r
   pub body : StatedIn k t (routine_body r)
 
-body_stated : (k : Known) (t : BlockTree) (body : BodyTree) → OfBody (IsOfText k t) body → SeatsInside t body → Each (Nobody t) (names_in_body body)
+pub body_stated : (k : Known) (t : BlockTree) (body : BodyTree) → OfBody (IsOfText k t) body → SeatsInside t body → Each (Nobody t) (names_in_body body)
     → StatedIn k t body
 body_stated k t (tree.a_directive directive) all seats names = tt
 body_stated k t (tree.a_block_body (tree.a_block labels constants types variables routines body)) all seats names =
@@ -193,13 +193,13 @@ pub routine_stated : (k : Known) (t : BlockTree) (before : List RoutineTree) (r 
 routine_stated k t before (tree.a_routine heading semicolon body last_semicolon) all seats =
     record { seat = seats.0; body = body_stated k t body all.1 seats.1 seats.0.names }
 
-at_stated : (k : Known) (t : BlockTree) (before : List RoutineTree) (rs : RoutineTrees) (n : ℕ) → OfEach (IsOfText k t) rs → SeatsIn t before rs
+pub at_stated : (k : Known) (t : BlockTree) (before : List RoutineTree) (rs : RoutineTrees) (n : ℕ) → OfEach (IsOfText k t) rs → SeatsIn t before rs
     → StatedBy k t (routine_at rs n)
 at_stated k t before tree.end_of_routines n all seats = tt
 at_stated k t before (tree.more_routines r rest) zero all seats = (routine_stated k t before r all.0 seats.0).body
 at_stated k t before (tree.more_routines r rest) (suc n) all seats = at_stated k t (before ++ r ∷ []) rest n all.1 seats.1
 
-if_stated : (k : Known) (t : BlockTree) (rs : RoutineTrees) (o : Option ℕ) → OfEach (IsOfText k t) rs → SeatsIn t [] rs
+pub if_stated : (k : Known) (t : BlockTree) (rs : RoutineTrees) (o : Option ℕ) → OfEach (IsOfText k t) rs → SeatsIn t [] rs
     → StatedBy k t (routine_if_any rs o)
 if_stated k t rs None all seats = tt
 if_stated k t rs (Some n) all seats = at_stated k t [] rs n all seats
@@ -209,14 +209,14 @@ no_forward_block k (tree.a_directive directive) block forward = let never : fals
 no_forward_block k (tree.a_block_body b) block forward = let never : false ≡ true = forward in cc
 
 -- a heading before a block is completed by none
-not_forward : (k : Known) (t : BlockTree) (j : Known) (before : List RoutineTree) (r : RoutineTree) → Orderly k t j → Seat t before r
+pub not_forward : (k : Known) (t : BlockTree) (j : Known) (before : List RoutineTree) (r : RoutineTree) → Orderly k t j → Seat t before r
     → is_block (routine_body r) ≡ true → (row : Row) → row_at j (routine_name r) ≡ row → block_in row ≡ None
 not_forward k t j before r s seat block (Row.Part (PartRow.Forward function at)) e =
     let own = seat.own (ForwardKind k function) (s.marked.forward (routine_name r) function at e) in
     absurd (no_forward_block k (routine_body r) block own.0)
 not_forward k t j before r s seat block row e = refl
 
-completed_by_none : (k : Known) (t : BlockTree) (j : Known) (before : List RoutineTree) (rs : RoutineTrees) (r : RoutineTree) → Orderly k t j
+pub completed_by_none : (k : Known) (t : BlockTree) (j : Known) (before : List RoutineTree) (rs : RoutineTrees) (r : RoutineTree) → Orderly k t j
     → Seat t before r → is_block (routine_body r) ≡ true → completion_of j rs r ≡ None
 completed_by_none k t j before rs r s seat block =
     ap (routine_if_any rs) (not_forward k t j before r s seat block (row_at j (routine_name r)) refl)
@@ -225,8 +225,8 @@ completed_by_none k t j before rs r s seat block =
 pub not_second : (k : Known) (t : BlockTree) (j : Known) (before : List RoutineTree) (r : RoutineTree) → Orderly k t j → Seat t before r
     → is_second k before r ≡ false → (row : Row) → row_at j (routine_name r) ≡ row → first_name row ≡ None
 not_second k t j before r s seat none (Row.Part (PartRow.Completing first)) e =
-    let own = seat.own (SecondKind k) (s.marked.completing (routine_name r) first e) in
-    absurd (let never : true ≡ false = sym own ∙ none in cc)
+    let own = seat.own (SecondOf k first) (s.marked.completing (routine_name r) first e) in
+    absurd (let never : true ≡ false = sym own.0 ∙ none in cc)
 not_second k t j before r s seat none row e = refl
 
 pub fresh_is_clean : (t : BlockTree) (j : Known) (token : ℕ) (f : Frame) → Clean t (length j.regions) (and_region j token f)
@@ -247,7 +247,7 @@ fresh_inside t j frame name = record {
   clean = fresh_is_clean t j name (frame_inside j frame);
 }
 
-first_stays : (k : Known) (t : BlockTree) (j : Known) (frame : ℕ) (before : List RoutineTree) (r : RoutineTree) (completion : Option RoutineTree)
+pub first_stays : (k : Known) (t : BlockTree) (j : Known) (frame : ℕ) (before : List RoutineTree) (r : RoutineTree) (completion : Option RoutineTree)
     → Orderly k t j → StatedOf k t before r → StatedBy k t completion → (is_block (routine_body r) ≡ true → completion ≡ None)
     → Orderly k t (after_completion frame r completion j).known
 unfolding open_routine look extend ◌>>=◌
@@ -281,7 +281,7 @@ heading_stays k t frame before rs r all seats st = bind-keeps (look-keeps (λ j.
 -- ---- blocks
 
 mutual
-  block_keeps : (k : Known) (t : BlockTree) (frame number place : ℕ) (b : BlockTree) → OfRoutines (IsOfText k t) b → Seats t b
+  pub block_keeps : (k : Known) (t : BlockTree) (frame number place : ℕ) (b : BlockTree) → OfRoutines (IsOfText k t) b → Seats t b
       → Keeps (Orderly k t) (block frame number place b)
   block_keeps k t frame number place (tree.a_block labels constants types variables routines body) all seats =
       bind-keeps (parts-lasts (orderly_lasts k t) frame place (tree.a_block labels constants types variables routines body)) (λ end.
@@ -295,14 +295,14 @@ mutual
       bind-keeps (routine_keeps k t frame before rs r all seats all-in.0 seats-in.0) (λ _.
       part_keeps k t frame (before ++ r ∷ []) rs rest all seats all-in.1 seats-in.1)
 
-  routine_keeps : (k : Known) (t : BlockTree) (frame : ℕ) (before : List RoutineTree) (rs : RoutineTrees) (r : RoutineTree) → OfEach (IsOfText k t) rs
+  pub routine_keeps : (k : Known) (t : BlockTree) (frame : ℕ) (before : List RoutineTree) (rs : RoutineTrees) (r : RoutineTree) → OfEach (IsOfText k t) rs
       → SeatsIn t [] rs → OfRoutine (IsOfText k t) r → SeatsOf t before r → Keeps (Orderly k t) (routine frame rs r)
   routine_keeps k t frame before rs (tree.a_routine heading semicolon body last_semicolon) all seats all-in seats-in =
       let r = tree.a_routine heading semicolon body last_semicolon in
       bind-keeps (heading_stays k t frame before rs r all seats (routine_stated k t before r all-in seats-in)) (λ e.
       body_keeps k t e body all-in.1 seats-in.1)
 
-  body_keeps : (k : Known) (t : BlockTree) (e : Entered) (body : BodyTree) → OfBody (IsOfText k t) body → SeatsInside t body
+  pub body_keeps : (k : Known) (t : BlockTree) (e : Entered) (body : BodyTree) → OfBody (IsOfText k t) body → SeatsInside t body
       → Keeps (Orderly k t) (body_in e body)
   body_keeps k t e (tree.a_directive directive) all seats = give-keeps tt
   body_keeps k t e (tree.a_block_body b) all seats = block_keeps k t e.frame e.number e.place b all seats

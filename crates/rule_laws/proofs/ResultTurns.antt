@@ -8,7 +8,7 @@ use Rattle.kind_checker.specs.Headings.{signature_at}
 use Rattle.decl_checker.specs.{Routines.first_name, Routines.own_frame, Scopes.routine_region}
 use Rattle.code_checker.specs.Results.{name_in_first}
 use Rattle.rule_laws.proofs.{Alike.type_said, Breaks.Each, Breaks.In, Breaks.of_each}
-use Rattle.rule_laws.proofs.Faces.{Shown, assigning, face, loose, said}
+use Rattle.rule_laws.proofs.Faces.{Shown, assigning, face, going_last, loose, said}
 use Rattle.rule_laws.proofs.Touches.{IsBeside, Longer, Same, Told, longer_still}
 use Rattle.rule_laws.specs.{CaseLaws.late_at, ResultLaws.AreAtNames, ResultLaws.AreDeclared, ResultLaws.IsApart, ResultLaws.IsUnassigned, Tokens.Has}
 
@@ -85,7 +85,7 @@ frame_alike k j n regions e =
 weaker : (strict : Shown) (r : Row) → face loose (face strict r) ≡ face loose r
 weaker strict (Row.Name (NameRow.Label marked value level ways)) = refl
 weaker strict (Row.Name (NameRow.Routine assigned number region)) = refl
-weaker strict (Row.Item i) = refl
+weaker strict (Row.Item i) = ap (λ x. Row.Item x) (going_last i 0 0)
 weaker strict r = refl
 
 routine_face : (r : Row) (seen : Bool) (number region : ℕ) → face assigning r ≡ Row.Name (NameRow.Routine seen number region)

@@ -10,8 +10,8 @@ use Rattle.check_steps.specs.Known.{Known}
 use Rattle.denoter_checker.specs.{Formals.formals_of, Formals.is_function, RoutineParts.routine_name}
 use Rattle.rule_laws.proofs.{Breaks.Each, Every.Every, Listed.Listed, NamesIn.block_names-in, NamesIn.held-formals-in}
 use Rattle.rule_laws.proofs.TextForwards.{Apart, name_has, part_apart, routine_has}
-use Rattle.rule_laws.specs.{RegionNames.heading_names, TextLaws.names_in_body, TextLaws.routines_in_body, Tokens.Has, Tokens.IsDistinct}
-use Rattle.rule_laws.specs.ForwardHeadings.{has_forward, is_second}
+use Rattle.rule_laws.specs.{ForwardHeadings.has_forward, RegionNames.heading_names, Tokens.Has, Tokens.IsDistinct}
+use Rattle.rule_laws.specs.TextLaws.{names_in_body, routines_in_body}
 
 -- ---- one of a text's procedures and functions
 
@@ -43,30 +43,22 @@ AnyKind before r = Unit {0}
 abbrev pub ForwardKind : Known → Bool → Kind
 ForwardKind k function before r = (has_forward k (routine_body r) ≡ true) × (is_function (routine_heading r) ≡ function)
 
--- one that has the block of the first heading of its name
-abbrev pub SecondKind : Known → Kind
-SecondKind k before r = is_second k before r ≡ true
-
--- one of the two headings of a forward procedure or function
-abbrev pub SplitKind : Known → Kind
-SplitKind k before r = (has_forward k (routine_body r) ≡ true) ⊎ (is_second k before r ≡ true)
-
 -- ---- it stands there
 
 mutual
   pub block_has : (R : Kind) (n : ℕ) (b : BlockTree) → SomeAt R n b → Has (block_node b) n
   block_has R n (tree.a_block labels constants types variables routines body) s = inr (inr (inr (inr (inl (part_has R n [] routines s)))))
 
-  part_has : (R : Kind) (n : ℕ) (before : List RoutineTree) (rs : RoutineTrees) → SomeIn R n before rs → Has (routines_node rs) n
+  pub part_has : (R : Kind) (n : ℕ) (before : List RoutineTree) (rs : RoutineTrees) → SomeIn R n before rs → Has (routines_node rs) n
   part_has R n before tree.end_of_routines s = absurd s
   part_has R n before (tree.more_routines r rest) (inl s) = inl (one_has R n before r s)
   part_has R n before (tree.more_routines r rest) (inr s) = inr (part_has R n (before ++ r ∷ []) rest s)
 
-  one_has : (R : Kind) (n : ℕ) (before : List RoutineTree) (r : RoutineTree) → SomeOf R n before r → Has (routine_node r) n
+  pub one_has : (R : Kind) (n : ℕ) (before : List RoutineTree) (r : RoutineTree) → SomeOf R n before r → Has (routine_node r) n
   one_has R n before (tree.a_routine heading semicolon body last_semicolon) (inl s) = inl (subst (Has (heading_node heading)) s.0 (name_has heading))
   one_has R n before (tree.a_routine heading semicolon body last_semicolon) (inr s) = inr (inr (inl (inside_has R n body s)))
 
-  inside_has : (R : Kind) (n : ℕ) (body : BodyTree) → SomeInside R n body → Has (body_node body) n
+  pub inside_has : (R : Kind) (n : ℕ) (body : BodyTree) → SomeInside R n body → Has (body_node body) n
   inside_has R n (tree.a_directive directive) s = absurd s
   inside_has R n (tree.a_block_body b) s = block_has R n b s
 

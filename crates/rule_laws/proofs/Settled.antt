@@ -1,11 +1,11 @@
 -- What a step gives whose tokens have the rows at the end that it leaves.
-use Rattle.std.proofs.Common.{◌-◌, ◌<◌, ◌∙◌, ◌≡◌, ◌⊎◌, [], ℕ, List, ap, arith, inl, inr, length, suc, sym}
+use Rattle.std.proofs.Common.{◌<◌, ◌∙◌, ◌≡◌, [], ℕ, List, ap, arith, inl, inr, length, suc, sym}
 use Rattle.grammar.specs.Nodes.{Node, Pair}
 use Rattle.check_steps.specs.{Known.Known, Known.row_at, Steps.◌>>=◌, Steps.Step, declared.words.SpelledToken.SpelledToken}
-use Rattle.rule_laws.proofs.{Every.Every, Every.Of, Every.every, ExpressionRows.left_none, ExpressionRows.right_none, Faces.Shown, Faces.face, Faces.loose}
-use Rattle.rule_laws.proofs.{Keeping.Keeps, Once.every_has, Outward.Outward, Touches.Longer, Touches.Same, Touches.Touches}
-use Rattle.rule_laws.proofs.NamesFound.{Ahead, ahead_before, outward_then, within_then}
-use Rattle.rule_laws.specs.{TextCases.IsWithin, Tokens.Has, Tokens.IsDistinct}
+use Rattle.rule_laws.proofs.{Every.Every, Every.every, ExpressionRows.left_none, ExpressionRows.right_none, Faces.Shown, Faces.face, Faces.loose, Keeping.Keeps}
+use Rattle.rule_laws.proofs.{NamesFound.Ahead, NamesFound.ahead_before, NamesFound.outward_then, Once.every_has, Outward.Outward, Stood.Stood}
+use Rattle.rule_laws.proofs.{Stood.stood_later, Touches.Same, Touches.Touches, WithFrames.Around, WithFrames.around_then}
+use Rattle.rule_laws.specs.Tokens.{Has, IsDistinct}
 
 -- a text before it is checked, and its tables at the end
 pub record Checked : Type 0 where
@@ -107,16 +107,21 @@ tells_then m kept h = tells_by m (λ a. Unit {0}) kept (λ k i. tt) (λ a u. h a
 
 -- ---- frames that lead outward
 
--- this frame leads outward to none, and is within a block's
-pub record Led (block frame : ℕ) (j : Known) : Type 0 where
+-- this frame leads outward to none, and is inside of records and a block's, and what the tables say stands at the end
+pub record Led (f : Known) (block : ℕ) (slots : List ℕ) (frame : ℕ) (j : Known) : Type 0 where
   pub outward : Outward j.frames frame
-  pub within : IsWithin j block frame
+  pub around : Around f j block slots frame
+  pub stood : Stood f j
 
-pub led_then : (block frame : ℕ) (j i : Known) → Longer j.frames i.frames → Led block frame j → Led block frame i
-led_then block frame j i longer l = record {
-  outward = outward_then j i frame longer l.outward;
-  within = within_then j i longer block frame l.outward l.within;
+pub led_then : {Q : ℕ → Type 0} {strict : Shown} (f : Known) (block : ℕ) (slots : List ℕ) (frame : ℕ) (j i : Known) → Same Q strict j i
+    → Led f block slots frame j → Led f block slots frame i
+led_then f block slots frame j i same l = record {
+  outward = outward_then j i frame same.frames l.outward;
+  around = around_then f j i same.frames block slots frame l.around;
+  stood = stood_later f j i same l.stood;
 }
 
-pub led : {Q : ℕ → Type 0} {strict : Shown} {block frame : ℕ} {A : Type 0} {m : Step A} → Touches Q strict m → Keeps (Led block frame) m
-led {block = block} {frame = frame} {m = m} touches = record { of = λ j l. led_then block frame j (m j).known (touches.same j).frames l }
+pub led : {Q : ℕ → Type 0} {strict : Shown} {f : Known} {block : ℕ} {slots : List ℕ} {frame : ℕ} {A : Type 0} {m : Step A} → Touches Q strict m
+    → Keeps (Led f block slots frame) m
+led {f = f} {block = block} {slots = slots} {frame = frame} {m = m} touches =
+    record { of = λ j l. led_then f block slots frame j (m j).known (touches.same j) l }

@@ -27,10 +27,9 @@ use Rattle.rule_laws.proofs.PartWalk.{Claim, Enters, Fresh, Stated, StatedIn, St
 use Rattle.rule_laws.proofs.Seats.{AnyKind, Nobody, Seats, block_has, every_has, text_names, text_seats}
 use Rattle.rule_laws.proofs.TextForwards.{Both, block_apart, block_gives, both_last, inside_gives, start_both}
 use Rattle.rule_laws.proofs.TextNames.{blank, block_back, block_labels_told, formals_end, inside_labels, inside_told, text_block, wrong_at}
-use Rattle.rule_laws.specs.{ForwardHeadings.is_second, Laws.broken_at, NameLaws.block_labels, NameLaws.block_routines, TextLaws.routines_in_body}
-use Rattle.rule_laws.specs.{TextParts.OfRoutines, TextParts.OfRoutinesAfter, Tokens.IsDistinct}
-use Rattle.rule_laws.specs.RegionNames.{block_names, heading_names, parameter_names}
-use Rattle.rule_laws.specs.TextLaws.{ForwardsAreTold, RegionIsTold, TextsTellForwards, TextsTellNames, labels_in_body, names_in_body, names_of_routine}
+use Rattle.rule_laws.specs.{ForwardHeadings.is_second, Laws.broken_at, NameLaws.block_labels, NameLaws.block_routines, RegionNames.block_names}
+use Rattle.rule_laws.specs.{RegionNames.heading_names, RegionNames.parameter_names, TextParts.OfRoutines, TextParts.OfRoutinesAfter, Tokens.IsDistinct}
+use Rattle.rule_laws.specs.TextLaws.{ForwardsAreTold, RegionIsTold, labels_in_body, names_in_body, names_of_routine, routines_in_body}
 
 -- ---- a procedure or function with the name of one before it
 
@@ -63,13 +62,13 @@ body_again k t (tree.a_block_body b) p done frame j e words clean nobody st turn
     block_again k t b p done frame j e words clean nobody st turned s before r after same again
 
 -- in the region of a procedure or function
-inside_again : (k : Known) (t : BlockTree) (j : Known) (frame : ℕ) (f : Frame) (outer : List RoutineTree) (q : RoutineTree)
-    (completion : Option RoutineTree) → Orderly k t j → Fresh t frame f j → StatedOf k t outer q
+pub inside_again : (k : Known) (t : BlockTree) (j : Known) (frame : ℕ) (f : Frame) (q : RoutineTree) (completion : Option RoutineTree) → Orderly k t j
+    → Fresh t frame f j → Each (Nobody t) (heading_names (routine_heading q)) → StatedIn k t (routine_body q)
     → (before : List RoutineTree) (r : RoutineTree) (after : List RoutineTree) → routines_in_body (routine_body q) ≡ before ++ r ∷ after
     → Again k (names_of_routine q) before r
     → In (broken_at 2 (routine_name r)) (define_inside frame (routine_heading q) (routine_body q) completion j).broken
 unfolding define_inside ◌>>=◌
-inside_again k t j frame f outer q completion s fresh st before r after same again =
+inside_again k t j frame f q completion s fresh formals st before r after same again =
     let b = broken_at 2 (routine_name r) in
     let h = routine_heading q in
     let p : Region = record { k = j; region = f.region; t = 0 } in
@@ -81,13 +80,13 @@ inside_again k t j frame f outer q completion s fresh st before r after same aga
     let e = define_body frame (routine_body q) d.known in
     let rest = define_completion frame completion e.known in
     in_right b d.broken (e.broken ++ rest.broken) (in_left b e.broken rest.broken
-    (body_again k t (routine_body q) p (heading_names h) frame d.known still s.both.sound.words fresh.clean st.seat.formals st.body ends.turn
+    (body_again k t (routine_body q) p (heading_names h) frame d.known still s.both.sound.words fresh.clean formals st ends.turn
     ((define_formals_at-lasts (orderly_lasts k t) frame h).of j s) before r after same again))
 
 -- ---- what the region of a procedure or function tells in any case
 
-record Inside (k : Known) (t : BlockTree) (r : RoutineTree) (b : Break) : Type 0 where
-  told : (j : Known) (frame : ℕ) (f : Frame) (completion : Option RoutineTree) → Orderly k t j → Fresh t frame f j
+pub record Inside (k : Known) (t : BlockTree) (r : RoutineTree) (b : Break) : Type 0 where
+  pub told : (j : Known) (frame : ℕ) (f : Frame) (completion : Option RoutineTree) → Orderly k t j → Fresh t frame f j
       → In b (define_inside frame (routine_heading r) (routine_body r) completion j).broken
 
 opened_told : (k : Known) (t : BlockTree) (j : Known) (frame : ℕ) (r : RoutineTree) (completion : Option RoutineTree) (b : Break) → Orderly k t j
@@ -100,7 +99,7 @@ opened_told k t j frame r completion b s inside =
     in_left b d.broken _ (inside.told i (length j.frames) f completion ((orderly_lasts k t).regions j (routine_name r) f s)
     (fresh_inside t j frame (routine_name r)))
 
-first_told : (k : Known) (t : BlockTree) (j : Known) (frame : ℕ) (rs : RoutineTrees) (r : RoutineTree) (b : Break) → Orderly k t j → Inside k t r b
+pub first_told : (k : Known) (t : BlockTree) (j : Known) (frame : ℕ) (rs : RoutineTrees) (r : RoutineTree) (b : Break) → Orderly k t j → Inside k t r b
     → In b (first_heading frame rs r j).broken
 unfolding first_heading look ◌>>=◌
 first_told k t j frame rs r b s inside = opened_told k t j frame r (completion_of j rs r) b s inside
@@ -115,7 +114,7 @@ entered_told k t j frame rs before r b s st none inside =
 -- ---- procedures and functions
 
 -- what the law on names says of one
-abbrev Names : Text → List RoutineTree → RoutineTree → Type 0
+abbrev pub Names : Text → List RoutineTree → RoutineTree → Type 0
 Names x before r = is_second x.k before r ≡ false
     → RegionIsTold x.k x.bs (names_of_routine r) (routines_in_body (routine_body r)) (labels_in_body (routine_body r))
 
@@ -128,7 +127,8 @@ names_entered x t = record {
       }));
       headings = λ before r after same again. w (broken_at 2 (routine_name r))
           (entered_told x.k t j frame rs outer q (broken_at 2 (routine_name r)) s st none (record {
-            told = λ i inner f completion o fresh. inside_again x.k t i inner f outer q completion o fresh st before r after same (record { is = again });
+            told = λ i inner f completion o fresh.
+                inside_again x.k t i inner f q completion o fresh st.seat.formals st.body before r after same (record { is = again });
           }));
       labels = λ before label after same second. w (broken_at 2 label) (entered_told x.k t j frame rs outer q (broken_at 2 label) s st none (record {
         told = λ i inner f completion o fresh. inside_labels x.k i inner f q completion before label after o.both.sound.words fresh.stands same second;
@@ -138,7 +138,7 @@ names_entered x t = record {
 }
 
 -- and that on forward headings
-abbrev Forwards : Text → List RoutineTree → RoutineTree → Type 0
+abbrev pub Forwards : Text → List RoutineTree → RoutineTree → Type 0
 Forwards x before r = is_second x.k before r ≡ false → ForwardsAreTold x.k x.bs (routines_in_body (routine_body r))
 
 forwards_entered : (x : Text) (t : BlockTree) → Enters x.k t (IsTold x) (Forwards x)
@@ -164,7 +164,7 @@ program_stated k t all distinct = by t (block_each (IsOfText k t) t all) (text_s
     by (tree.a_block labels constants types variables routines body) all seats names = record { all = all; seats = seats; names = names }
 
 -- the frame of the program's block
-program_frame : (k : Known) (t : BlockTree) → let d = open_program k in (f : Frame) × Fresh t d.value f d.known
+pub program_frame : (k : Known) (t : BlockTree) → let d = open_program k in (f : Frame) × Fresh t d.value f d.known
 unfolding open_program extend ◌>>=◌
 program_frame k t =
     let d = open_outermost k in
@@ -172,12 +172,12 @@ program_frame k t =
     (f, record { stands = opened d.known 0 f refl; clean = fresh_is_clean t d.known 0 f })
 
 -- where the parameters were defined
-record Ready (k : Known) (t : ProgramTree) (frame : ℕ) (f : Frame) (i : Known) : Type 0 where
-  orderly : Orderly k t.block i
-  fresh : Fresh t.block frame f i
-  at : f.region ≡ (frame_at i frame).region
+pub record Ready (k : Known) (t : ProgramTree) (frame : ℕ) (f : Frame) (i : Known) : Type 0 where
+  pub orderly : Orderly k t.block i
+  pub fresh : Fresh t.block frame f i
+  pub at : f.region ≡ (frame_at i frame).region
 
-ready : (k : Known) (t : ProgramTree) (frame : ℕ) (f : Frame) (j : Known) → IsDistinct (tree_node t) → Orderly k t.block j → Fresh t.block frame f j
+pub ready : (k : Known) (t : ProgramTree) (frame : ℕ) (f : Frame) (j : Known) → IsDistinct (tree_node t) → Orderly k t.block j → Fresh t.block frame f j
     → Ready k t frame f (program_parameters (frame_at j frame).region t.parameters j).known
 ready k t frame f j distinct s fresh =
     let b = t.block in
@@ -201,7 +201,7 @@ ready k t frame f j distinct s fresh =
     }
 
 -- its names and labels
-abbrev OfProgram : Text → ProgramTree → Type 0
+abbrev pub OfProgram : Text → ProgramTree → Type 0
 OfProgram x t = RegionIsTold x.k x.bs (block_names t.block) (block_routines t.block) (block_labels t.block)
 
 program_names : (x : Text) (t : ProgramTree) (frame : ℕ) (f : Frame) (j : Known) → IsDistinct (tree_node t) → Stated x.k t.block t.block
@@ -302,9 +302,11 @@ program_gives x t distinct st = record {
       (λ b i. w b (in_right b d.broken _ (in_left b e.broken _ i)));
 }
 
-pub text_name_law : TextsTellNames
+-- of those that have not the block of a forward heading
+pub text_name_firsts : (l : Lexed) (t : ProgramTree) → spell (tree_node t) ≡ items_of l.tokens
+    → let x : Text = record { k = known_at_start l; bs = broken l t } in OfProgram x t × OfRoutinesAfter (Names x) t.block
 unfolding check_step
-text_name_law l t spelled =
+text_name_firsts l t spelled =
     let k = known_at_start l in
     let x : Text = record { k = k; bs = broken l t } in
     let y = whole l t spelled in
@@ -314,9 +316,12 @@ text_name_law l t spelled =
       (gives_first _ (entered_gives x t (Names x) y.all y.distinct y.stated y.seats (names_entered x t.block))).of k start told,
     )
 
-pub text_forward_law : TextsTellForwards
+-- of those that have not the block of a forward heading
+pub text_forward_firsts : (l : Lexed) (t : ProgramTree) → spell (tree_node t) ≡ items_of l.tokens
+    → let x : Text = record { k = known_at_start l; bs = broken l t } in
+    ForwardsAreTold x.k x.bs (block_routines t.block) × OfRoutinesAfter (Forwards x) t.block
 unfolding check_step program_step define_program
-text_forward_law l t spelled =
+text_forward_firsts l t spelled =
     let k = known_at_start l in
     let x : Text = record { k = k; bs = broken l t } in
     let y = whole l t spelled in

@@ -1,29 +1,31 @@
 -- The case statements of a text.
-use Rattle.std.proofs.Common.{◌+◌, ◌<◌, ◌∙◌, ◌≡◌, ◌≤◌, ◌⊎◌, ℕ, None, Some, arith, false, inl, inr, length, length-set, refl, suc, sym}
+use Rattle.std.proofs.Common.{◌+◌, ◌∙◌, ◌≡◌, ℕ, None, Some, ap, arith, false, inl, inr, is_some, length, length-set, refl, sym, true}
 use Rattle.std.proofs.lemmas.List.{length-map, length-replicate}
 use Rattle.pas_lexer.specs.Lexed.{Lexed}
 use Rattle.grammar.specs.Nodes.{spell}
 use Rattle.pas_tree.specs.{BlockTrees.ProgramTree, BlockTrees.RoutineTree, BlockTrees.routine_heading, TreeNodes.block_node, TreeNodes.tree_node}
 use Rattle.pas_parser.specs.Formed.{items_of}
+use Rattle.core_program.specs.ProgramRows.{type_in}
 use Rattle.core_program.specs.declared.rows.{NameRow.NameRow, PartRow.PartRow, Row.Row, TypeRow.TypeRow}
-use Rattle.check_steps.specs.{Known.Known, Known.row_at, Known.with_row, Steps.◌>>=◌, Words.known_at_start, Words.names_of, Words.required_names, Words.word_of}
+use Rattle.check_steps.specs.{Known.Known, Known.row_at, Known.type_at, Known.with_row, Steps.◌>>=◌}
+use Rattle.check_steps.specs.Words.{known_at_start, names_of, required_names, word_of}
 use Rattle.denoter_checker.specs.{Formals.is_function, RoutineParts.routine_name}
 use Rattle.decl_checker.specs.Programs.{program_step}
-use Rattle.code_checker.specs.{Blocks.code_block, CheckedPrograms.broken, CheckedPrograms.check_step, CheckedPrograms.program_of}
-use Rattle.rule_laws.proofs.{CaseOfText.case_is_right, ExpressionRows.right_none, LabelTold.Anywhere, LabelTold.everywhere, Lasting.Declaring, Lasting.Lasting}
-use Rattle.rule_laws.proofs.{NamesFound.ahead_self, Once.has_every, Settled.Checked, Settled.Inside, Settled.Settled, TextFields.Any, TextFields.any_routines}
-use Rattle.rule_laws.proofs.{TextLabels.starts, TextLabels.starts_outward, TextResults.program_keeps, Touches.Touches, Touches.same_in}
-use Rattle.rule_laws.proofs.CasesTold.{BlockTeller, block_tells, block_touches}
+use Rattle.code_checker.specs.{Blocks.code_block, CheckedPrograms.check_step}
+use Rattle.rule_laws.proofs.{CaseOfText.case_is_right, CasesTold.block_tells, CodeTokens.InCode, CodeTokens.block_kept, ExpressionRows.right_none}
+use Rattle.rule_laws.proofs.{ExpressionTypes.World, Faces.said, Lasting.Declaring, Lasting.Lasting, NamesFound.ahead_self, Once.has_every, Settled.Checked}
+use Rattle.rule_laws.proofs.{Settled.Inside, Settled.Settled, Stood.Stood, TextFields.Any, TextFields.any_routines, TextLabels.starts}
+use Rattle.rule_laws.proofs.{TextLabels.starts_outward, TextResults.program_keeps, TextRows.started, TextRows.stood_at, Touches.same_in}
 use Rattle.rule_laws.proofs.TextTokens.{before_dot, text_law, text_tokens}
-use Rattle.rule_laws.specs.{TextCases.CaseIsRight, TextCases.TextsTellCases, Tokens.Has}
+use Rattle.rule_laws.specs.{TextCases.TextsTellCases, Tokens.Has}
 
 -- ---- what no step changes
 
 -- what tokens spell is as it was, and there are as many rows
-record Spelled (k j : Known) : Type 0 where
-  words : j.words ≡ k.words
-  texts : j.program.texts ≡ k.program.texts
-  many : length j.program.rows ≡ length k.program.rows
+pub record Spelled (k j : Known) : Type 0 where
+  pub words : j.words ≡ k.words
+  pub texts : j.program.texts ≡ k.program.texts
+  pub many : length j.program.rows ≡ length k.program.rows
 
 spelled_row : (k j : Known) (m : ℕ) (r : Row) → Spelled k j → Spelled k (with_row j m r)
 spelled_row k j m r s = record { words = s.words; texts = s.texts; many = length-set j.program.rows m r ∙ s.many }
@@ -55,6 +57,35 @@ spelled_all k = record {
   heads = λ j name number region named few s. spelled_row k j name (Row.Name (NameRow.Routine false number region)) s;
 }
 
+-- what the tokens of a text spell is so at the end
+pub text_spelled : (l : Lexed) (t : ProgramTree) → Spelled (known_at_start l) (check_step t (known_at_start l)).known
+unfolding check_step ◌>>=◌
+text_spelled l t =
+    let k = known_at_start l in
+    let d = program_step t k in
+    let first = (program_keeps (spelled_all {G = Any} k) t (any_routines t.block)).of k (record { words = refl; texts = refl; many = refl }) in
+    let second = (block_kept {Q = InCode t.block} d.value t.block (λ n c. c)).same d.known in
+    record { words = second.words ∙ first.words; texts = second.texts ∙ first.texts; many = second.many ∙ first.many }
+
+-- ---- types
+
+said_type : (r : Row) (u : TypeRow) → said r ≡ Row.Type u → is_some (type_in r) ≡ true
+said_type (Row.Type t) u e = refl
+said_type (Row.Name (NameRow.Constant of' v)) u e = absurd cc
+said_type (Row.Name (NameRow.Text token)) u e = absurd cc
+said_type (Row.Name (NameRow.Routine assigned number region)) u e = absurd cc
+said_type (Row.Name (NameRow.Label marked value level ways)) u e = absurd cc
+said_type (Row.Part (PartRow.Completing first)) u e = absurd cc
+said_type (Row.Part (PartRow.Heading name sections result)) u e = absurd cc
+said_type r u e = absurd cc
+
+-- a type that is there where the statements begin is there at the end
+type_stands : (d f : Known) → Stood f d → (n : ℕ) (u : TypeRow) → row_at d n ≡ Row.Type u → is_some (type_at f n) ≡ true
+type_stands d f stood n u e = elim (stood.of n) [
+  | inl none ↦ absurd (let never : Row.Type u ≡ Row.Nothing = sym (ap said e) ∙ none in cc)
+  | inr same ↦ said_type (row_at f n) u (same ∙ ap said e)
+]
+
 -- ---- the law
 
 block_inside : (l : Lexed) (t : ProgramTree) → spell (tree_node t) ≡ items_of l.tokens
@@ -75,7 +106,7 @@ text_case_law l t e none whole =
     let f = code_block d.value t.block d.known in
     let y : Checked = record { k = k; f = f.known } in
     let first = (program_keeps (spelled_all {G = Any} k) t (any_routines t.block)).of k (record { words = refl; texts = refl; many = refl }) in
-    let second = (block_touches {Q = Anywhere} d.value t.block (everywhere (block_node t.block))).same d.known in
+    let second = (block_kept {Q = InCode t.block} d.value t.block (λ n c. c)).same d.known in
     let settled : Settled y (Has (block_node t.block)) f.known = record {
       ahead = ahead_self f.known;
       words = second.words ∙ first.words;
@@ -85,7 +116,15 @@ text_case_law l t e none whole =
     let rows = second.many ∙ first.many in
     let start = length-replicate (length l.tokens + length required_names) Row.Nothing in
     let words : length k.words ≡ length l.tokens = length-map l.tokens (word_of (names_of l) l.source) in
-    let teller : BlockTeller y (CaseIsRight y.f) = case_is_right y whole (omega (arith, rows, start, words)) in
+    let begun = started l t e in
+    let stood = stood_at l t d.known f.known begun first.words second in
+    let w : World = record {
+      y = y;
+      whole = whole;
+      few = omega (arith, rows, start, words);
+      boolean = type_stands d.known f.known stood 1 _ begun.boolean;
+      char = type_stands d.known f.known stood 2 _ begun.char;
+    } in
     let s = starts l t in
-    (block_tells teller d.known s.begun.tidy d.value (starts_outward l t s) t.block (block_inside l t e)).of d.known (record { same = same_in d.known })
-    (right_none d.broken f.broken none) settled
+    (block_tells w (case_is_right w) d.known s.begun.tidy stood d.value (starts_outward l t s) t.block (block_inside l t e)).of d.known
+    (record { same = same_in d.known }) (right_none d.broken f.broken none) settled

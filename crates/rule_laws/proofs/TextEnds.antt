@@ -6,8 +6,8 @@ use Rattle.grammar.specs.Nodes.{row}
 use Rattle.pas_tree.specs.{HeadingPlaces.heading_name, Operators.direction_node, declared.statements.Label.Label}
 use Rattle.pas_tree.specs.BlockTrees.{BlockTree, BodyTree, ProgramTree, RoutineTree, RoutineTrees, routine_body, routine_heading}
 use Rattle.pas_tree.specs.BlockTrees as blocks
-use Rattle.pas_tree.specs.StatementTrees.{BranchTree, BranchTrees, CaseTree, CompoundTree, ElseTree, IfTree, NextAccessTree, PlainTree, RepeatTree}
-use Rattle.pas_tree.specs.StatementTrees.{StatementTree, StatementTrees, StatementsTree, compound_body}
+use Rattle.pas_tree.specs.StatementTrees.{BranchTree, BranchTrees, CaseTree, CompoundTree, ElseTree, IfTree, PlainTree, RepeatTree, StatementTree}
+use Rattle.pas_tree.specs.StatementTrees.{StatementTrees, StatementsTree, compound_body}
 use Rattle.pas_tree.specs.StatementTrees as tree
 use Rattle.pas_tree.specs.TreeNodes.{access_node, assignment_node, call_node, constants_node, expression_node, next_access_node, statements_node}
 use Rattle.core_program.specs.declared.rows.Row.{Row}
@@ -22,11 +22,11 @@ use Rattle.statement_checker.specs.declared.sequences.{Branching.Branching, Elem
 use Rattle.code_checker.specs.{CheckedPrograms.broken, CheckedPrograms.check_step, CodePlaces.span_of}
 use Rattle.code_checker.specs.Blocks.{code_block, code_body, code_routine, code_routines, statement_part}
 use Rattle.code_checker.specs.Results.{function_result, has_result, name_in_first}
-use Rattle.rule_laws.proofs.{Breaks.Each, Breaks.found, Breaks.in_either, Breaks.of_each, DenoterVariants.choices-touches, Earlier.Early}
-use Rattle.rule_laws.proofs.{Earlier.declarations_early, Faces.Shown, LabelTold.Anywhere, LabelTold.anywhere, LabelTold.everywhere, Listed.Listed}
-use Rattle.rule_laws.proofs.{Listed.listed_left, Listed.listed_right, Plain.Aim, Plain.is_plain, StatementChoices.case_row-touches}
-use Rattle.rule_laws.proofs.{StatementParts.for_ends-touches, StatementParts.selected-touches, StatementRecords.put_with-touches}
-use Rattle.rule_laws.proofs.{StatementStatements.next_records-touches, TextTwos.Member, TextTwos.contains, Touches.Told, Touches.Touches, Touches.is_of_ends}
+use Rattle.rule_laws.proofs.{DenoterVariants.choices-touches, Earlier.Early, Earlier.declarations_early, Faces.Shown, JoinedParts.Member, JoinedParts.contains}
+use Rattle.rule_laws.proofs.{LabelTold.Anywhere, LabelTold.anywhere, LabelTold.everywhere, Listed.Listed, Listed.listed_left, Listed.listed_right, Plain.Aim}
+use Rattle.rule_laws.proofs.{Plain.is_plain, StatementChoices.case_row-touches, StatementParts.for_ends-touches, StatementParts.selected-touches}
+use Rattle.rule_laws.proofs.{StatementRecords.put_with-touches, StatementStatements.next_records-touches, Touches.Told, Touches.Touches, Touches.is_of_ends}
+use Rattle.rule_laws.proofs.Breaks.{Each, In, found, in_either, of_each}
 use Rattle.rule_laws.proofs.StatementLabels.{jump-touches, labelled-touches, leave-touches, leave_all-touches, reach_all-touches, reach_label-touches}
 use Rattle.rule_laws.proofs.StatementParts.{assignment-touches, call_statement-touches, condition_row-touches, first_record-touches, for_begins-touches}
 use Rattle.rule_laws.proofs.StatementSequences.{add_element-touches, compound_row-touches, empty-touches, if_else_row-touches, if_row-touches}
@@ -188,7 +188,7 @@ listed_contains n [] h = absurd h
 listed_contains n (y ∷ ys) (inl e) = (0, omega arith, e)
 listed_contains n (y ∷ ys) (inr h) = let c = listed_contains n ys h in (suc c.0, omega (arith, c.1), c.2)
 
-abbrev HasLabel : ℕ → BlockTree → Type 0
+abbrev pub HasLabel : ℕ → BlockTree → Type 0
 HasLabel n b = Contains (statement_labels b) n
 
 -- a procedure tells nothing
@@ -206,7 +206,7 @@ unfolding statement_part
 part-leads x f span c lead = bind-only (change-only _) (λ _. bind-only (compound-leads x f c lead) (λ _. give-only tt))
 
 -- one of the functions of a part, that has its name at the token and a block
-record Own (x : Mark) (r : RoutineTree) : Type 0 where
+pub record Own (x : Mark) (r : RoutineTree) : Type 0 where
   at : routine_name r ≡ x.n
   function : is_function (routine_heading r) ≡ true
   block : is_block (routine_body r) ≡ true
@@ -225,7 +225,7 @@ mutual
         block = own.block;
       })))) (λ _. part-leads x f (span_of b) body (λ h. lead (inl (listed_contains x.n (compound_labels body) h)))))
 
-  routines-lead : (x : Mark) (rs : RoutineTrees) → (SomeInside (HasLabel x.n) rs → If x 15) → (SomeInside (IsFunctionWithBlock x.n) rs → If x 12)
+  pub routines-lead : (x : Mark) (rs : RoutineTrees) → (SomeInside (HasLabel x.n) rs → If x 15) → (SomeInside (IsFunctionWithBlock x.n) rs → If x 12)
       → ((r : RoutineTree) → Member r (routines_in rs) → Own x r → If x 12) → Leads x (code_routines rs)
   routines-lead x blocks.end_of_routines lead ends own = give-only tt
   routines-lead x (blocks.more_routines r rest) lead ends own =
@@ -262,6 +262,19 @@ never_plain what token rule n ends plain e =
     ends_plain false false true false plain ends = cc
     ends_plain false false false false plain ends = cc
 
+-- the declarations of a text break neither rule
+pub declarations_quiet : (l : Lexed) (t : ProgramTree) (rule n : ℕ) → is_of_ends rule ≡ true
+    → In (late_at rule n) (program_step t (known_at_start l)).broken → ⊥
+declarations_quiet l t rule n either told =
+    let k = known_at_start l in
+    let b = late_at rule n in
+    let aim : Aim = record { words = k.words; P = λ c. c ≡ b → ⊥ } in
+    let early : Early aim = record {
+      plain = record { of = λ what at is e. never_plain what at rule n either is e };
+      of = λ other at e. never_early other at rule n e;
+    } in
+    of_each (λ c. c ≡ b → ⊥) b (program_step t k).broken (declarations_early early t k refl) told refl
+
 -- what follows from a rule that a text breaks at a token
 text_leads : (l : Lexed) (t : ProgramTree) (x : Mark) → Contains (broken l t) (late_at x.rule x.n) → (SomeBlock (HasLabel x.n) t.block → If x 15)
     → (SomeBlock (IsFunctionWithBlock x.n) t.block → If x 12) → x.X
@@ -269,15 +282,10 @@ unfolding check_step ◌>>=◌
 text_leads l t x contained lead ends =
     let k = known_at_start l in
     let b = late_at x.rule x.n in
-    let aim : Aim = record { words = k.words; P = λ c. c ≡ b → ⊥ } in
-    let early : Early aim = record {
-      plain = record { of = λ what at is e. never_plain what at x.rule x.n x.either is e };
-      of = λ rule at e. never_early rule at x.rule x.n e;
-    } in
     let d = program_step t k in
     let e = code_block d.value t.block d.known in
     elim (in_either b d.broken e.broken (found b (d.broken ++ e.broken) contained)) [
-      | inl declared ↦ absurd (of_each (λ c. c ≡ b → ⊥) b d.broken (declarations_early early t k refl) declared refl)
+      | inl declared ↦ absurd (declarations_quiet l t x.rule x.n x.either declared)
       | inr told ↦ of_each (λ c. c ≡ b → x.X) b e.broken ((code-leads x d.value t.block lead ends).of d.known) told refl
     ]
 

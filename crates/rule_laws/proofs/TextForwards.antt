@@ -15,7 +15,6 @@ use Rattle.check_steps.specs.Steps.{◌>>=◌, Step, ask, change, each, give, lo
 use Rattle.denoter_checker.specs.{Formals.is_function, RoutineParts.is_forward, RoutineParts.is_waiting, RoutineParts.routine_name}
 use Rattle.denoter_checker.specs.RoutineParts.{awaits, complete_or_define, completed_by, define_heading, define_routine, define_routines, defining, directed}
 use Rattle.decl_checker.specs.{Blocks.define_block, Routines.define_body, Routines.define_inside}
-use Rattle.code_checker.specs.CheckedPrograms.{broken}
 use Rattle.rule_laws.proofs.{Breaks.Each, Breaks.In, Breaks.in_right, Gives.Gives, Gives.gives_first, Gives.gives_then, Keeping.Closed, Keeping.look-keeps}
 use Rattle.rule_laws.proofs.{Keeping.turn-keeps, Lasting.Declaring, Lasting.Lasting, LastsFormals.define_formals_at-lasts, LastsLabels.define_labels-lasts}
 use Rattle.rule_laws.proofs.{LastsRoutines.block_each, PartLaw.each_known, PartLaw.waits_told, PartSteps.part_listed, PartSteps.part_steps, Tables.row_beside}
@@ -127,7 +126,7 @@ both_all k b =
 -- ---- a heading waits from its own turn on
 
 -- a forward heading of this kind waits at this token
-abbrev Waits : ℕ → Bool → Known → Type 0
+abbrev pub Waits : ℕ → Bool → Known → Type 0
 Waits n function j = row_at j n ≡ Row.Part (PartRow.Forward function None)
 
 waits_closed : (region n : ℕ) (function : Bool) → Closed region n (Waits n function)
@@ -154,7 +153,7 @@ directive_waits k h directive j s forward spelled =
     when_put (is_forward j directive) (heading_name h) (Row.Part (PartRow.Forward (is_function h) None)) j (forward_same k j directive s ∙ forward)
     (let room = s.room in omega (arith, spelled, room))
 
-defining_waits : (k : Known) (t : BlockTree) (region : ℕ) (h : HeadingTree) (body : BodyTree) (j : Known) → Roomy k j → has_forward k body ≡ true
+pub defining_waits : (k : Known) (t : BlockTree) (region : ℕ) (h : HeadingTree) (body : BodyTree) (j : Known) → Roomy k j → has_forward k body ≡ true
     → heading_name h < length k.words → Waits (heading_name h) (is_function h) (defining region h body j).known
 unfolding defining ◌>>=◌
 defining_waits k t region h (tree.a_directive directive) j s forward spelled =
@@ -188,7 +187,7 @@ pub same_number : {a b : ℕ} → a ≡ b → nat_eq a b ≡ true
 same_number h = grind (arith, nat_tests)
 
 -- a routine that would complete it has its block
-completing_has : (k : Known) (t : BlockTree) (j : Known) (region : ℕ) (r s : RoutineTree) → Sound k t j
+pub completing_has : (k : Known) (t : BlockTree) (j : Known) (region : ℕ) (r s : RoutineTree) → Sound k t j
     → Waits (routine_name r) (is_function (routine_heading r)) j
     → completed_by j region (routine_heading s) (routine_body s) ≡ Some (routine_name r) → completes k r s ≡ true
 completing_has k t j region r s sound waits e =
@@ -324,7 +323,7 @@ block_apart (tree.a_block labels constants types variables routines body) d = pa
 
 -- ---- procedures and functions
 
-body_gives : (x : Text) (t : BlockTree) (frame : ℕ) (body : BodyTree) → OfBody (IsOfText x.k t) body → Apart (routines_in_body body)
+pub body_gives : (x : Text) (t : BlockTree) (frame : ℕ) (body : BodyTree) → OfBody (IsOfText x.k t) body → Apart (routines_in_body body)
     → Gives (Both x.k t) (IsTold x) (define_body frame body) (ForwardsAreTold x.k x.bs (routines_in_body body))
 body_gives x t frame (tree.a_directive directive) all apart = record { of = λ j i w before r after same forward. absurd (no_routine before r after same) }
   where

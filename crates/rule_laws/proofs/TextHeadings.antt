@@ -12,7 +12,7 @@ use Rattle.check_steps.specs.declared.{regions.Definition.Definition, regions.Fr
 use Rattle.denoter_checker.specs.{Formals.is_function, RoutineParts.awaiting, RoutineParts.awaits, RoutineParts.completed_by, RoutineParts.routine_name}
 use Rattle.rule_laws.proofs.{Faces.row_either, Regions.region_either, Regions.region_more, Tables.lookup-last, Tables.one_or_other}
 use Rattle.rule_laws.proofs.Lasting.{Declaring, Ends, Lasting, is_quiet, with_completion}
-use Rattle.rule_laws.specs.{ForwardHeadings.is_block, TextLaws.IsNeverForward}
+use Rattle.rule_laws.specs.{ForwardHeadings.is_block, TextParts.OfRoutines}
 
 -- ---- definitions, after a change
 
@@ -52,6 +52,11 @@ region_defined j token f r n e found = elim (region_more j.regions r (fresh_regi
 ]
 
 -- ---- headings
+
+-- In a block no directive follows a heading of this name.
+abbrev pub IsNeverForward : Known → BlockTree → ℕ → Type 0
+IsNeverForward k b name =
+    OfRoutines (λ r. is_block (routine_body r) ≡ false → name_at k (routine_name r) ≡ name → ⊥) b
 
 -- A forward heading of the text has the name at this token, so the name is not one of those that no directive follows.
 pub record IsForwardName (k : Known) (b : BlockTree) (n : ℕ) : Type 0 where

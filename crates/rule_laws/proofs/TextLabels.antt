@@ -74,7 +74,7 @@ pub record Begun (x : Text) (k : Known) : Type 0 where
   pub tidy : Tidy k
   pub words : k.words ≡ x.k.words
 
-types_before : (k j : Known) → Same Anywhere loose k j → (n region : ℕ) → fields_in (type_at j n) ≡ Some region → fields_in (type_at k n) ≡ Some region
+pub types_before : (k j : Known) → Same Anywhere loose k j → (n region : ℕ) → fields_in (type_at j n) ≡ Some region → fields_in (type_at k n) ≡ Some region
 types_before k j s n region e = elim (s.sayings n) [
   | inl nothing ↦
       let none : type_at j n ≡ None = sym (type_said (row_at j n)) ∙ ap type_in nothing.1 in
@@ -230,7 +230,7 @@ said_routine (Row.Part (PartRow.Completing first)) number region e = absurd cc
 said_routine r number region e = absurd cc
 
 -- the region of a routine's row is as it was where the statements began
-home_then : (k j : Known) (name : ℕ) → Tidy k → Coded k j → (r : Row) → row_at j name ≡ r → IsHome k (routine_region r)
+pub home_then : (k j : Known) (name : ℕ) → Tidy k → Coded k j → (r : Row) → row_at j name ≡ r → IsHome k (routine_region r)
 home_then k j name tidy i (Row.Name (NameRow.Routine assigned number region)) e = elim (i.same.sayings name) [
   | inl nothing ↦ absurd (let never : Row.Name (NameRow.Routine false number region) ≡ Row.Nothing = sym (ap said e) ∙ nothing.1 in cc)
   | inr same ↦ (let row = said_routine (row_at k name) number region (sym same ∙ ap said e) in tidy.heads name row.assigned number region row.is)

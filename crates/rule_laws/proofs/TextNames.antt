@@ -6,7 +6,6 @@ use Rattle.pas_lexer.specs.Lexed.{Lexed}
 use Rattle.pas_tree.specs.{BlockTrees.routine_body, BlockTrees.routine_heading, HeadingTrees.HeadingTree}
 use Rattle.pas_tree.specs.BlockTrees.{BlockTree, BodyTree, ConstantPartTree, LabelPartTree, RoutineTree, RoutineTrees, TypePartTree, VariablePartTree}
 use Rattle.pas_tree.specs.BlockTrees as tree
-use Rattle.pas_tree.specs.HeadingTrees as headings
 use Rattle.pas_tree.specs.TreeNodes.{block_node, body_node, routine_node, routines_node}
 use Rattle.core_program.specs.declared.rows.{PartRow.PartRow, Row.Row}
 use Rattle.check_steps.specs.{Known.Known, Known.frame_at, Known.name_at, Regions.defined_in, Steps.◌>>=◌, Steps.Step, Steps.look, Words.known_at_start}
@@ -14,15 +13,15 @@ use Rattle.check_steps.specs.{Words.required_names, declared.breaks.Break.Break,
 use Rattle.denoter_checker.specs.{Formals.define_formals_at, Formals.formals_of, RoutineParts.define_routines, RoutineParts.routine_name}
 use Rattle.decl_checker.specs.{Labels.define_labels, Routines.define_body, Routines.define_completion, Routines.define_inside}
 use Rattle.decl_checker.specs.Blocks.{define_block, define_constants, define_types, define_variables}
-use Rattle.code_checker.specs.CheckedPrograms.{broken}
 use Rattle.rule_laws.proofs.{Breaks.In, Breaks.in_left, Breaks.in_right, Every.Every, InTurn.Goes, InTurn.Wrong, InTurn.one_wrong, InTurn.wrong_parts}
 use Rattle.rule_laws.proofs.{Keeping.Keeps, LabelParts.labels_told, LastsFormals.define_formals_at-lasts, NameTurns.Region, NameTurns.Turn, NameTurns.rule_two}
 use Rattle.rule_laws.proofs.{Standing.Stands, Standing.standing, Standing.stands_at, TextFields.Any, TextFields.or_true, TextFields.spelling}
-use Rattle.rule_laws.proofs.{TextHeadings.IsOfText, TextHeadings.Sound, TextRoutines.labels_keep, TextRoutines.no_split, TokenPlaces.heading_name-in}
+use Rattle.rule_laws.proofs.{TextRoutines.labels_keep, TextRoutines.no_split, TokenPlaces.heading_name-in}
 use Rattle.rule_laws.proofs.NameLaw.{begun, constant_part_goes, held_formals_go, type_part_goes, variable_part_goes}
+use Rattle.rule_laws.proofs.TextHeadings.{IsNeverForward, IsOfText, Sound}
 use Rattle.rule_laws.specs.{ForwardHeadings.is_block, Laws.broken_at, NameLaws.block_labels}
 use Rattle.rule_laws.specs.RegionNames.{block_names, constants_of, heading_names, types_of, variables_of}
-use Rattle.rule_laws.specs.TextLaws.{IsNeverForward, has_label, has_name, labels_in_body, names_in_body, names_of_routine}
+use Rattle.rule_laws.specs.TextLaws.{has_label, has_name, labels_in_body, names_in_body, names_of_routine}
 use Rattle.rule_laws.specs.TextParts.{OfBody, OfEach, OfRoutine, OfRoutines}
 
 -- ---- a name that is defined again is told

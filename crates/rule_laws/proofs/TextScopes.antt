@@ -1,40 +1,45 @@
 -- Where the labels of a text are declared, and which are found from the frames of its procedures and functions.
-use Rattle.std.proofs.Common.{◌++◌, ◌+◌, ◌<◌, ◌∙◌, ◌∷◌, ◌≡◌, ◌≤◌, ◌⊎◌, [], ℕ, Bool, List, None, Option, Some, ap, arith, false, inl, inr, length, nat_eq}
+use Rattle.std.proofs.Common.{◌++◌, ◌+◌, ◌<◌, ◌∙◌, ◌∷◌, ◌≡◌, ◌≤◌, ◌⊎◌, [], ℕ, Bool, List, None, Option, Some, ap, arith, false, inl, inr, length, map, nat_eq}
 use Rattle.std.proofs.Common.{nat_le, refl, replicate, slice_get, subst, suc, sym, true, unwrap_or, zero}
-use Rattle.std.{proofs.lemmas.Option.none-some, specs.Map.lookup}
+use Rattle.std.{proofs.lemmas.List.append_assoc, proofs.lemmas.Option.none-some, specs.Map.lookup}
 use Rattle.pas_lexer.specs.Lexed.{Lexed}
 use Rattle.pas_tree.specs.{HeadingPlaces.heading_name, HeadingTrees.HeadingTree, StatementPlaces.compound_word, declared.blocks.NextLabel.NextLabel}
 use Rattle.pas_tree.specs.BlockTrees.{BlockTree, BodyTree, LabelPartTree, ProgramTree, RoutineTree, RoutineTrees, routine_body, routine_heading}
 use Rattle.pas_tree.specs.BlockTrees as tree
+use Rattle.pas_tree.specs.TreeNodes.{routine_node, routines_node}
 use Rattle.core_program.specs.declared.rows.{NameRow.NameRow, PartRow.PartRow, Row.Row, TypeRow.TypeRow}
 use Rattle.check_steps.specs.{Known.with_routine, Known.with_row, Regions.RegionRows, Regions.declared_in, Regions.fresh_region, Regions.region_at}
-use Rattle.check_steps.specs.{Required.open_outermost, Words.known_at_start, Words.required_names, declared.regions.Frame.Frame}
+use Rattle.check_steps.specs.{Required.open_outermost, Words.known_at_start, Words.required_names, declared.breaks.Break.Break, declared.regions.Frame.Frame}
 use Rattle.check_steps.specs.Known.{Known, and_choice, and_definition, and_frame, and_label, and_region, and_routine, frame_at, label_at, name_at, row_at}
-use Rattle.check_steps.specs.Steps.{◌>>=◌, Step, change, extend, give, look}
+use Rattle.check_steps.specs.Steps.{◌>>=◌, change, extend, give, look}
 use Rattle.denoter_checker.specs.{Formals.is_function, Headings.signature}
-use Rattle.denoter_checker.specs.RoutineParts.{block_in, completion_of, define_routines, routine_at, routine_if_any, routine_name}
+use Rattle.denoter_checker.specs.RoutineParts.{block_in, completion_of, define_routines, routine_name}
 use Rattle.decl_checker.specs.{Labels.define_label, Labels.define_labels, Labels.define_next_label, Scopes.routine_region, declared.routines.Entered.Entered}
-use Rattle.decl_checker.specs.Blocks.{define_block, define_constants, define_types, define_variables}
+use Rattle.decl_checker.specs.Blocks.{define_block, define_constants, define_types, define_variables, parts, put_body}
 use Rattle.decl_checker.specs.Programs.{define_program, main_row, open_program, program_step}
 use Rattle.decl_checker.specs.Routines.{add_heading, block, body_in, define_body, define_completion, define_inside, enter_at, enter_heading, first_heading}
-use Rattle.decl_checker.specs.Routines.{first_name, heading_row, one_deeper, open_routine, own_frame, routine, routines_in}
-use Rattle.rule_laws.proofs.{Breaks.Each, Faces.row_either, LastsFormals.define_formals_at-lasts, LastsHeadings.signature-lasts}
-use Rattle.rule_laws.proofs.{LastsParameters.program_parameters-lasts, LastsPrograms.open_program-lasts, LastsRequired.all_names-lasts}
-use Rattle.rule_laws.proofs.{LastsRequired.ordinal_types-lasts, LastsRoutineParts.define_routines-lasts, LastsRoutines.after_completion}
-use Rattle.rule_laws.proofs.{LastsStatements.compound_uses-lasts, Listed.Listed, Listed.each_at, Listed.each_listed, PartTurns.NoRoutine, PartTurns.Orderly}
-use Rattle.rule_laws.proofs.{PartTurns.orderly_lasts, Regions.label_either, Regions.label_frame, Regions.last_region, TextFields.Any, TextFields.any_each}
-use Rattle.rule_laws.proofs.{TextHeadings.IsOfText, TextTables.OfOther, TextTables.each_next, TextTables.outer_frame, Touches.Longer}
-use Rattle.rule_laws.proofs.Chains.{AndPlain, Below, Chain, IsLevel, IsPlain, Names, Scope, Site, Sites, SitesBody, SitesPart, SitesRoutine, Ways}
+use Rattle.decl_checker.specs.Routines.{heading_row, one_deeper, open_routine, own_frame, routine, routines_in}
+use Rattle.rule_laws.proofs.{Breaks.Each, Calm.Calm, Calm.CalmBody, Calm.CalmOf, Calm.CalmPart, Chains.seconds_same, Faces.row_either}
+use Rattle.rule_laws.proofs.{LastsFormals.define_formals_at-lasts, LastsHeadings.signature-lasts, LastsParameters.program_parameters-lasts}
+use Rattle.rule_laws.proofs.{LastsPrograms.open_program-lasts, LastsRequired.all_names-lasts, LastsRequired.ordinal_types-lasts}
+use Rattle.rule_laws.proofs.{LastsRoutineParts.define_routines-lasts, LastsRoutines.after_completion, LastsStatements.compound_uses-lasts, Listed.Listed}
+use Rattle.rule_laws.proofs.{Listed.each_at, Listed.each_listed, Mated.listed_earlier, Mated.listed_one, MatedText.defined_program, MatedWalk.routine_walks}
+use Rattle.rule_laws.proofs.{Paired.paired, PartTurns.NoRoutine, PartTurns.Orderly, PartTurns.SecondOf, PartTurns.orderly_lasts, Regions.label_either}
+use Rattle.rule_laws.proofs.{Regions.label_frame, Regions.last_region, Seats.Seats, Seats.SeatsIn, Seats.SeatsInside, Seats.SeatsOf, TextBlocks.Whole}
+use Rattle.rule_laws.proofs.{TextBlocks.program_stays, TextBlocks.start_orderly, TextFields.Any, TextFields.any_each, TextForwards.part_apart}
+use Rattle.rule_laws.proofs.{TextForwards.routine_has, TextHeadings.IsOfText, TextTables.OfOther, TextTables.each_next, TextTables.outer_frame, Touches.Longer}
+use Rattle.rule_laws.proofs.Chains.{Below, Chain, IsHome, IsLevel, Names, Scope, Site, Sites, SitesBody, SitesEach, SitesRoutine, Ways, first_forward}
 use Rattle.rule_laws.proofs.Keeping.{Keeps, ask-keeps, bind-keeps, give-keeps, look-keeps, put-keeps}
 use Rattle.rule_laws.proofs.Lasting.{Ends, Lasting, declare_in-keeps, each_of-lasts, is_quiet, with_completion}
 use Rattle.rule_laws.proofs.LastsBlocks.{define_constants-lasts, define_types-lasts, define_variables-lasts, parts-lasts, put_body-lasts}
 use Rattle.rule_laws.proofs.Laters.{Held, Kept, Later, Way, got_below, held_here, held_on, held_up, kept_definition, kept_frame, kept_label, kept_less}
 use Rattle.rule_laws.proofs.Laters.{kept_program, kept_region, longer_length, way_later, way_map, way_new}
-use Rattle.rule_laws.proofs.PartWalk.{Fresh, fresh_is_clean, heading_stays, routine_stated}
-use Rattle.rule_laws.proofs.Seats.{ForwardKind, Seats, SeatsIn, SeatsInside, SeatsOf, SecondKind, SomeAt, SplitKind, some_map}
+use Rattle.rule_laws.proofs.MatedWalk.{PartText, Teller, choose, completes_second, completing_row, enter, ground, none_first, one_text, parts_laid}
+use Rattle.rule_laws.proofs.PartWalk.{Fresh, Stated, StatedIn, completed_by_none, fresh_is_clean, heading_stays, routine_stated}
 use Rattle.rule_laws.proofs.Standing.{Stands, got_still, no_frame, opened, stands_at}
-use Rattle.rule_laws.proofs.TextBlocks.{Whole, program_stays, start_orderly}
-use Rattle.rule_laws.specs.{ForwardHeadings.routines_in as listed, NameLaws.block_labels, RegionNames.labels_of, TextLaws.labels_in_body}
+use Rattle.rule_laws.proofs.Walking.{Home, IsLaid, LaidIn, Walking, begin_walking, behind_off, go_on, laid_same, one_node}
+use Rattle.rule_laws.specs.{NameLaws.block_labels, NameLaws.block_routines, RegionNames.labels_of, TextLaws.labels_in_body, Tokens.Has, Tokens.IsDistinct}
+use Rattle.rule_laws.specs.ForwardHeadings.{has_forward, is_block, routines_in as listed}
 use Rattle.rule_laws.specs.TextParts.{OfBody, OfEach, OfRoutine, OfRoutines}
 
 -- ---- the tables of a text
@@ -317,15 +322,12 @@ opening_start p b Q j token f fresh s =
 abbrev AndAt : (ℕ → ℕ → Type 0) → (g n x m : ℕ) → Type 0
 AndAt S g n x m = S x m ⊎ ((x ≡ g) × (m ≡ n))
 
-abbrev AndOn : (ℕ → ℕ → Type 0) → Type 0 → (g n x m : ℕ) → Type 0
-AndOn T On g n x m = T x m ⊎ ((x ≡ g) × (m ≡ n) × On)
+abbrev inner : Walk → (g n : ℕ) → Walk
+inner p g n = record { c = p.c; S = λ x m. AndAt p.S g n x m; T = λ x m. AndAt p.T g n x m }
 
-abbrev inner : Walk → Type 0 → (g n : ℕ) → Walk
-inner p On g n = record { c = p.c; S = λ x m. AndAt p.S g n x m; T = λ x m. AndOn p.T On g n x m }
-
-closed : (p : Walk) (b n : ℕ) (f : Frame) (Q : ℕ → Type 0) (j : Known) (On : Type 0) (m : ℕ) → f.level ≡ m
-    → (On → Way (λ d. Below p.c (suc m) d) n j) → Opening p b n f Q j → View (inner p On n m) (length j.regions) j
-closed p b n f Q j On m same way s = record {
+closed : (p : Walk) (b n : ℕ) (f : Frame) (Q : ℕ → Type 0) (j : Known) (m : ℕ) → f.level ≡ m
+    → Way (λ d. Below p.c (suc m) d) n j → Opening p b n f Q j → View (inner p n m) (length j.regions) j
+closed p b n f Q j m same way s = record {
   rows = s.view.rows;
   heads = λ x assigned i region e. held_up b (length j.regions) j s.view.many (s.view.heads x assigned i region e);
   first = held_up b (length j.regions) j s.view.many s.view.first;
@@ -340,68 +342,138 @@ closed p b n f Q j On m same way s = record {
   paths = λ x k h. elim h [
     | inl old ↦ held_up b (length j.regions) j s.view.many (s.view.paths x k old)
     | inr new ↦ subst (λ y. Held (length j.regions) (Way (λ d. Below p.c (suc k) d) y) j) (sym new.0)
-        (subst (λ y. Held (length j.regions) (Way (λ d. Below p.c (suc y) d) n) j) (sym new.1) (held_here j (way new.2)))
+        (subst (λ y. Held (length j.regions) (Way (λ d. Below p.c (suc y) d) n) j) (sym new.1) (held_here j way))
   ];
   many = omega arith;
 }
 
--- which labels are found from the frame of a block on the chain
-site_scope : (p : Walk) (b n : ℕ) (f : Frame) (On : Type 0) (r : RoutineTree) (j : Known) (around a : ℕ) → On → Site p.c On a r
+-- ---- a procedure or function is entered
+
+-- another that has its block
+record Other (k : Known) (rs : RoutineTrees) (r other : RoutineTree) : Type 0 where
+  earlier : List RoutineTree
+  later : List RoutineTree
+  one : listed rs ≡ earlier ++ other ∷ later
+  second : SecondOf k (routine_name r) earlier other
+
+-- one of a part, and which has its block
+record IsEntered (k : Known) (t : BlockTree) (rs : RoutineTrees) (before : List RoutineTree) (r : RoutineTree) (after : List RoutineTree)
+    (o : Option RoutineTree) : Type 0 where
+  one : listed rs ≡ before ++ r ∷ after
+  distinct : IsDistinct (routines_node rs)
+  each : (other : RoutineTree) → o ≡ Some other → Other k rs r other
+  alone : is_block (routine_body r) ≡ true → o ≡ None
+
+-- the labels of its region
+abbrev ByLabels : Option RoutineTree → ℕ → Type 0
+ByLabels None d = ⊥
+ByLabels (Some r) d = Listed (labels_in_body (routine_body r)) d
+
+record IsLabelBy (o : Option RoutineTree) (d : ℕ) : Type 0 where
+  other : RoutineTree
+  is : o ≡ Some other
+  listed : Listed (labels_in_body (routine_body other)) d
+
+label_by : (o : Option RoutineTree) (d : ℕ) → ByLabels o d → IsLabelBy o d
+label_by None d h = absurd h
+label_by (Some r) d h = record { other = r; is = refl; listed = h }
+
+abbrev OwnLabels : RoutineTree → Option RoutineTree → ℕ → Type 0
+OwnLabels r o d = Listed (labels_in_body (routine_body r)) d ⊎ ByLabels o d
+
+no_forward_labels : (k : Known) (body : BodyTree) (d : ℕ) → has_forward k body ≡ true → Listed (labels_in_body body) d → ⊥
+no_forward_labels k (tree.a_directive directive) d forward h = h
+no_forward_labels k (tree.a_block_body b) d forward h = let never : false ≡ true = forward in cc
+
+-- those of one whose frame it is
+own_labels : (k : Known) (t : BlockTree) (rs : RoutineTrees) (before : List RoutineTree) (r : RoutineTree) (after : List RoutineTree) (o : Option RoutineTree)
+    → IsEntered k t rs before r after o → (e : List RoutineTree) (q : RoutineTree) (l : List RoutineTree) → listed rs ≡ e ++ q ∷ l
+    → IsHome k e q (routine_name r) → (d : ℕ) → OwnLabels r o d → Listed (labels_in_body (routine_body q)) d
+own_labels k t rs before r after o x e q l split (inl home) d (inl own) =
+    let same = one_node rs x.distinct before r after e q l (routine_name r) x.one split (routine_has r)
+    (subst (Has (routine_node q)) home.0 (routine_has q)) in
+    subst (λ s. Listed (labels_in_body (routine_body s)) d) same.one own
+own_labels k t rs before r after o x e q l split (inl home) d (inr by) =
+    let same = one_node rs x.distinct before r after e q l (routine_name r) x.one split (routine_has r)
+    (subst (Has (routine_node q)) home.0 (routine_has q)) in
+    let b = label_by o d by in
+    absurd (none-some b.other (sym (x.alone (ap (λ s. is_block (routine_body s)) same.one ∙ home.1)) ∙ b.is))
+own_labels k t rs before r after o x e q l split (inr second) d (inl own) =
+    let f = first_forward k e q (routine_name r) second in
+    let one : listed rs ≡ f.earlier ++ f.q ∷ (f.later ++ q ∷ l) = split ∙ ap (λ m. m ++ q ∷ l) f.one ∙ append_assoc f.earlier (f.q ∷ f.later) (q ∷ l) in
+    let same = one_node rs x.distinct before r after f.earlier f.q (f.later ++ q ∷ l) (routine_name r) x.one one (routine_has r)
+    (subst (Has (routine_node f.q)) f.at (routine_has f.q)) in
+    absurd (no_forward_labels k (routine_body r) d (ap (λ s. has_forward k (routine_body s)) same.one ∙ f.forward) own)
+own_labels k t rs before r after o x e q l split (inr second) d (inr by) =
+    let b = label_by o d by in
+    let c = x.each b.other b.is in
+    let same = seconds_same k (listed rs) c.earlier b.other c.later e q l (routine_name r) (part_apart rs x.distinct) c.one split c.second second in
+    subst (λ s. Listed (labels_in_body (routine_body s)) d) same.one b.listed
+
+-- what is so inside of it
+record Enter (p : Walk) (g m : ℕ) (j : Known) : Type 0 where
+  bound : ℕ
+  view : View (inner p g m) bound j
+
+others_too : (p : Walk) (k : Known) (rs : RoutineTrees) (r : RoutineTree) (f : Frame) (Q : ℕ → Type 0) (a : ℕ) (o : Option RoutineTree)
+    → f.level ≡ one_deeper a
+    → ((other : RoutineTree) → o ≡ Some other → Other k rs r other) → Site p.c a rs → ((d : ℕ) → ByLabels o d → Q d)
+    → OfOther (Labels (λ d. AtLevel p f Q d)) o
+others_too p k rs r f Q a None same each site all = tt
+others_too p k rs r f Q a (Some s) same each site all =
+    let c = each s refl in
+    each_listed (λ d. AtLevel p f Q d) (labels_in_body (routine_body s)) (λ d i. (
+      subst (λ l. IsLevel p.c d l) (sym same)
+          (each_at (λ d. IsLevel p.c d (one_deeper a)) (labels_in_body (routine_body s)) (site.leveled c.earlier s c.later c.one) d i),
+      all d i,
+    ))
+
+-- its labels are of its level
+own_fixed : (p : Walk) (k : Known) (t : BlockTree) (rs : RoutineTrees) (before : List RoutineTree) (r : RoutineTree) (after : List RoutineTree)
+    (o : Option RoutineTree) (a d l : ℕ)
+    → IsEntered k t rs before r after o → Site p.c a rs → OwnLabels r o d → IsLevel p.c d l → l ≡ one_deeper a
+own_fixed p k t rs before r after o a d l x site (inl own) level = site.fixed before r after x.one d l own level
+own_fixed p k t rs before r after o a d l x site (inr by) level =
+    let b = label_by o d by in
+    let c = x.each b.other b.is in
+    site.fixed c.earlier b.other c.later c.one d l b.listed level
+
+site_scope : (p : Walk) (b n : ℕ) (f : Frame) (rs : RoutineTrees) (before : List RoutineTree) (r : RoutineTree) (after : List RoutineTree)
+    (o : Option RoutineTree) (j : Known) (around a : ℕ) → IsEntered p.c.k p.c.t rs before r after o → Site p.c a rs
     → f.level ≡ one_deeper a → f.outer ≡ Some around → around < n → p.T around a
-    → Opening p b n f (λ d. On → Listed (labels_in_body (routine_body r)) d) j → Scope p.c (one_deeper a) r j n
-site_scope p b n f On r j around a on site same outer less around-in s =
+    → Opening p b n f (OwnLabels r o) j → Scope p.c (one_deeper a) rs (routine_name r) j n
+site_scope p b n f rs before r after o j around a x site same outer less around-in s =
     let h = s.view.paths around a around-in in
     let w = way_later (λ d. Below p.c (suc a) d) around h.before j h.later h.is in
-    let new = way_new (λ d. Below p.c (suc a) d) (λ d. On → Listed (labels_in_body (routine_body r)) d) j n around f s.stands.there s.stands.below
-    outer less w s.mine in
+    let new = way_new (λ d. Below p.c (suc a) d) (OwnLabels r o) j n around f s.stands.there s.stands.below outer less w s.mine in
+    let up = site.deeper before r after x.one in
     record {
       level = ap (λ (g : Frame). g.level) (stands_at n f j s.stands) ∙ same;
-      way = way_map (λ d. (On → Listed (labels_in_body (routine_body r)) d) ⊎ Below p.c (suc a) d)
-          (λ d. Listed (labels_in_body (routine_body r)) d ⊎ Below p.c (one_deeper a) d) n j
-          (λ d x. elim x [
-            | inl own ↦ inl (own on)
-            | inr far ↦ inr (further d far)
+      path = way_map (λ d. OwnLabels r o d ⊎ Below p.c (suc a) d) (λ d. Below p.c (suc (one_deeper a)) d) n j (λ d y. elim y [
+        | inl own ↦ at d own
+        | inr far ↦ far_in d far up
+      ]) new;
+      own = λ e q l split home. way_map (λ d. OwnLabels r o d ⊎ Below p.c (suc a) d)
+          (λ d. Listed (labels_in_body (routine_body q)) d ⊎ Below p.c (one_deeper a) d) n j (λ d y. elim y [
+            | inl own ↦ inl (own_labels p.c.k p.c.t rs before r after o x e q l split home d own)
+            | inr far ↦ inr (further d far up)
           ]) new;
     }
   where
-    further : (d : ℕ) → Below p.c (suc a) d → Below p.c (one_deeper a) d
-    further d far l level = let one = far l level in let up = site.deeper on in omega (arith, one, up)
+    at : (d : ℕ) → OwnLabels r o d → Below p.c (suc (one_deeper a)) d
+    at d own l level = let same_level = own_fixed p p.c.k p.c.t rs before r after o a d l x site own level in omega (arith, same_level)
 
-scope_path : (c : Chain) (n : ℕ) (r : RoutineTree) (j : Known) (g : ℕ) → ((d l : ℕ) → Listed (labels_in_body (routine_body r)) d → IsLevel c d l → l ≡ n)
-    → Scope c n r j g → Way (λ d. Below c (suc n) d) g j
-scope_path c n r j g fixed s = way_map (λ d. Listed (labels_in_body (routine_body r)) d ⊎ Below c n d) (λ d. Below c (suc n) d) g j (λ d x. elim x [
-  | inl own ↦ at d own
-  | inr far ↦ less d far
-]) s.way
-  where
-    at : (d : ℕ) → Listed (labels_in_body (routine_body r)) d → Below c (suc n) d
-    at d own l level = let same = fixed d l own level in omega (arith, same)
+    far_in : (d : ℕ) → Below p.c (suc a) d → a < one_deeper a → Below p.c (suc (one_deeper a)) d
+    far_in d far up l level = let one = far l level in omega (arith, one, up)
 
-    less : (d : ℕ) → Below c n d → Below c (suc n) d
-    less d far l level = let one = far l level in omega (arith, one)
+    further : (d : ℕ) → Below p.c (suc a) d → a < one_deeper a → Below p.c (one_deeper a) d
+    further d far up l level = let one = far l level in omega (arith, one, up)
 
--- ---- a procedure or function is entered
-
--- what is so inside of it
-record Enter (p : Walk) (On : Type 0) (body : BodyTree) (g : ℕ) (j : Known) : Type 0 where
-  level : ℕ
-  bound : ℕ
-  view : View (inner p On g level) bound j
-  sites : SitesBody p.c On level body
-
-others_too : (p : Walk) (f : Frame) (Q : ℕ → Type 0) (n : ℕ) (o : Option RoutineTree) → f.level ≡ n → ((d : ℕ) (s : RoutineTree) → o ≡ Some s → Q d)
-    → OfOther (Labels (λ d. IsLevel p.c d n)) o → OfOther (Labels (λ d. AtLevel p f Q d)) o
-others_too p f Q n None same all h = tt
-others_too p f Q n (Some s) same all h = each_listed (λ d. AtLevel p f Q d) (labels_in_body (routine_body s)) (λ d i. (
-  subst (λ l. IsLevel p.c d l) (sym same) (each_at (λ d. IsLevel p.c d n) (labels_in_body (routine_body s)) h d i),
-  all d s refl,
-))
-
-opened_view : (p : Walk) (On : Type 0) (b around a : ℕ) (r : RoutineTree) (o : Option RoutineTree) (j : Known) → p.S around a → (On → p.T around a)
-    → Site p.c On a r → SitesBody p.c On (one_deeper a) (routine_body r) → OfOther (Labels (λ d. IsLevel p.c d (one_deeper a))) o → (On → o ≡ None)
-    → View p b j → let d = after_completion around r o j in Enter p On (routine_body r) d.value.frame d.known
+opened_view : (p : Walk) (b around a : ℕ) (rs : RoutineTrees) (before : List RoutineTree) (r : RoutineTree) (after : List RoutineTree)
+    (o : Option RoutineTree) (j : Known) → p.S around a → p.T around a → Site p.c a rs → IsEntered p.c.k p.c.t rs before r after o
+    → View p b j → let d = after_completion around r o j in Enter p d.value.frame (one_deeper a) d.known
 unfolding open_routine add_heading look extend change give ◌>>=◌
-opened_view p On b around a r o j around-in path-in site sites others alone s =
+opened_view p b around a rs before r after o j around-in path-in site x s =
     let at = s.levels around a around-in in
     let less = got_below j.frames around at.frame at.there in
     let f : Frame = record { region = length j.regions; outer = Some around; level = one_deeper (frame_at j around).level; withs = 0 } in
@@ -410,10 +482,10 @@ opened_view p On b around a r o j around-in path-in site sites others alone s =
     let h = routine_heading r in
     let m = one_deeper a in
     let names = labels_in_body (routine_body r) in
-    let Q : ℕ → Type 0 = λ d. On → Listed names d in
+    let Q : ℕ → Type 0 = OwnLabels r o in
     let own : Each (λ d. AtLevel p f Q d) names = each_listed (λ d. AtLevel p f Q d) names
-    (λ d i. (subst (λ l. IsLevel p.c d l) (sym same) (each_at (λ d. IsLevel p.c d m) names site.leveled d i), λ on. i)) in
-    let far = others_too p f Q m o same (λ d x e on. absurd (none-some x (sym (alone on) ∙ e))) others in
+    (λ d i. (subst (λ l. IsLevel p.c d l) (sym same) (each_at (λ d. IsLevel p.c d m) names (site.leveled before r after x.one) d i), inl i)) in
+    let far = others_too p p.c.k rs r f Q a o same x.each site (λ d by. inr by) in
     let c : Lasting Any (Opening p b n f Q) = opening_lasts p b n f Q in
     let i = and_region j (routine_name r) f in
     let inside = define_inside n h (routine_body r) o i in
@@ -424,22 +496,21 @@ opened_view p On b around a r o j around-in path-in site sites others alone s =
     let row = heading_row h here.level end.value in
     let e = and_routine end.known row in
     let three = c.routines end.known row two in
-    let scope : On → Scope p.c m r e n = λ on. site_scope p b n f On r e around a on site same refl less (path-in on) three in
-    let view = closed p b n f Q e On m same (λ on. scope_path p.c m r e n (site.fixed on) (scope on)) three in
+    let scope = site_scope p b n f rs before r after o e around a x site same refl less path-in three in
+    let view = closed p b n f Q e m same scope.path three in
     let head : Head p.c (heading_name h) f.region e = record {
       inside = three.stands.below;
       there = subst (λ g. g < length e.frames) (sym three.own) (got_below e.frames n f three.stands.there);
-      scope = subst (λ g. Names p.c (routine_name r) e g) (sym three.own) (site.named e n scope);
+      scope = subst (λ g. Names p.c (routine_name r) e g) (sym three.own)
+          (site.named (routine_name r) e n (listed_one (listed rs) before r after x.one) scope);
     } in
     let region : f.region ≡ here.region = ap (λ (g : Frame). g.region) (sym (stands_at n f end.known two.stands)) in
     record {
-      level = m;
       bound = length e.regions;
-      view = view_row (inner p On n m) (length e.regions) e (heading_name h)
+      view = view_row (inner p n m) (length e.regions) e (heading_name h)
           (Row.Name (NameRow.Routine false (length end.known.program.routines) here.region))
-          (λ marked v l ways x. absurd (no_marked x))
-          (λ assigned number at x. subst (λ y. Held (length e.regions) (Head p.c (heading_name h) y) e) (region ∙ same_region x) (held_here e head)) view;
-      sites = sites;
+          (λ marked v l ways y. absurd (no_marked y))
+          (λ assigned number at y. subst (λ z. Held (length e.regions) (Head p.c (heading_name h) z) e) (region ∙ same_region y) (held_here e head)) view;
     }
   where
     same_region : {x y : Bool} {m i u w : ℕ} → Row.Name (NameRow.Routine x m u) ≡ Row.Name (NameRow.Routine y i w) → u ≡ w
@@ -448,24 +519,6 @@ opened_view p On b around a r o j around-in path-in site sites others alone s =
     no_marked : {marked assigned : Bool} {v l ways number region : ℕ}
         → Row.Name (NameRow.Routine assigned number region) ≡ Row.Name (NameRow.Label marked v l ways) → ⊥
     no_marked e = cc
-
-first_there : (p : Walk) (b : ℕ) (j : Known) → View p b j → (region_at j.regions 0).frame < length j.frames
-first_there p b j s =
-    let h = s.first in
-    let there = h.is.way.there in
-    let more = longer_length h.before.frames j.frames h.later.frames in
-    subst (λ g. g < length j.frames) (sym (h.later.own 0 h.is.inside ∙ h.is.home)) (omega (arith, there, more))
-
--- the frame of a routine's region, by its name
-own_there : (p : Walk) (b : ℕ) (j : Known) (x : ℕ) (r : Row) → row_at j x ≡ r → View p b j
-    → (region_at j.regions (routine_region r)).frame < length j.frames
-own_there p b j x (Row.Name (NameRow.Routine assigned n region)) e s =
-    let h = s.heads x assigned n region e in
-    let there = h.is.there in
-    let more = longer_length h.before.frames j.frames h.later.frames in
-    subst (λ g. g < length j.frames) (sym (h.later.own region h.is.inside)) (omega (arith, there, more))
-own_there p b j x (Row.Name r) e s = first_there p b j s
-own_there p b j x r e s = first_there p b j s
 
 record Got (fs : List Frame) (n : ℕ) : Type 0 where
   frame : Frame
@@ -476,80 +529,113 @@ got_at [] n below = absurd (omega (arith, below))
 got_at (y ∷ ys) zero below = record { frame = y; is = refl }
 got_at (y ∷ ys) (suc n) below = let g = got_at ys n (omega (arith, below)) in record { frame = g.frame; is = g.is }
 
--- one that completes another has the block of a forward heading
-completes_some : (k : Known) (t : BlockTree) (j : Known) (x first : ℕ) (r : Row) → Orderly k t j → row_at j x ≡ r → first_name r ≡ Some first
-    → SomeAt (SplitKind k) x t
-completes_some k t j x first (Row.Part (PartRow.Completing m)) s e is =
-    some_map (SecondKind k) (SplitKind k) x t (λ before r second. inr second) (s.marked.completing x m e)
-completes_some k t j x first r s e is = absurd (none-some first is)
+record IsRoutine (r : Row) (number region : ℕ) : Type 0 where
+  assigned : Bool
+  is : r ≡ Row.Name (NameRow.Routine assigned number region)
 
--- and one that another completes is forward
-stands_alone : (k : Known) (t : BlockTree) (j : Known) (rs : RoutineTrees) (x : ℕ) (r : Row) → Orderly k t j → row_at j x ≡ r
-    → (SomeAt (SplitKind k) x t → ⊥) → routine_if_any rs (block_in r) ≡ None
-stands_alone k t j rs x (Row.Part (PartRow.Forward function o)) s e plain = absurd (plain
-    (some_map (ForwardKind k function) (SplitKind k) x t (λ before r forward. inl forward.0) (s.marked.forward x function o e)))
-stands_alone k t j rs x r s e plain = refl
+paired_routine : (r : Row) (number region : ℕ) → paired r ≡ Row.Name (NameRow.Routine false number region) → IsRoutine r number region
+paired_routine (Row.Name (NameRow.Routine assigned m g)) number region e =
+    record { assigned = assigned; is = ap (λ x. x) (same_routine assigned m g number region e) }
+  where
+    same_routine : (assigned : Bool) (m g number region : ℕ)
+        → Row.Name (NameRow.Routine false m g) ≡ Row.Name (NameRow.Routine false number region)
+        → Row.Name (NameRow.Routine assigned m g) ≡ Row.Name (NameRow.Routine assigned number region)
+    same_routine assigned m g number region e = cc
+paired_routine (Row.Part (PartRow.Forward function (Some position))) number region e = absurd (no_part e)
+paired_routine (Row.Part (PartRow.Completing first)) number region e = absurd (no_part e)
+paired_routine r number region e = absurd (nothing e)
+  where
+    nothing : {n : NameRow} → Row.Nothing ≡ Row.Name n → ⊥
+    nothing e = cc
 
-abbrev SiteParts : Chain → Type 0 → ℕ → RoutineTree → Type 0
-SiteParts c On n r =
-    Site c (AndPlain c On r) n r × SitesBody c (AndPlain c On r) (one_deeper n) (routine_body r)
-    × ((IsPlain c r → ⊥) → (m : ℕ) → SitesBody c (AndPlain c On r) m (routine_body r))
-
-site_parts : (c : Chain) (On : Type 0) (n : ℕ) (r : RoutineTree) → SitesRoutine c On n r → SiteParts c On n r
-site_parts c On n (tree.a_routine heading semicolon body last_semicolon) h = h
-
-site_at : (c : Chain) (On : Type 0) (n : ℕ) (rs : RoutineTrees) (at : ℕ) → SitesPart c On n rs
-    → OfOther (Labels (λ d. IsLevel c d (one_deeper n))) (routine_at rs at)
-site_at c On n tree.end_of_routines at h = tt
-site_at c On n (tree.more_routines r rest) zero h = (site_parts c On n r h.0).0.leveled
-site_at c On n (tree.more_routines r rest) (suc at) h = site_at c On n rest at h.1
-
-site_any : (c : Chain) (On : Type 0) (n : ℕ) (rs : RoutineTrees) (at : Option ℕ) → SitesPart c On n rs
-    → OfOther (Labels (λ d. IsLevel c d (one_deeper n))) (routine_if_any rs at)
-site_any c On n rs None h = tt
-site_any c On n rs (Some at) h = site_at c On n rs at h
-
-at_view : (p : Walk) (On : Type 0) (b : ℕ) (q : Option ℕ) (around a : ℕ) (rs : RoutineTrees) (r : RoutineTree) (j : Known)
-    → first_name (row_at j (routine_name r)) ≡ q → p.S around a → (On → p.T around a) → SitesPart p.c On a rs → SiteParts p.c On a r
-    → Orderly p.c.k p.c.t j → View p b j → let d = enter_at q around rs r j in Enter p (AndPlain p.c On r) (routine_body r) d.value.frame d.known
-unfolding first_heading look ◌>>=◌
-at_view p On b None around a rs r j is around-in path-in part sites sound s =
-    opened_view p (AndPlain p.c On r) b around a r (completion_of j rs r) j around-in (λ on. path-in on.0) sites.0 sites.1
-    (site_any p.c On a rs (block_in (row_at j (routine_name r))) part)
-    (λ on. stands_alone p.c.k p.c.t j rs (routine_name r) (row_at j (routine_name r)) sound refl on.1) s
-at_view p On b (Some first) around a rs r j is around-in path-in part sites sound s =
-    let off : IsPlain p.c r → ⊥ = λ plain. plain (completes_some p.c.k p.c.t j (routine_name r) first (row_at j (routine_name r)) sound refl is) in
-    let got = got_at j.frames (own_frame j first) (own_there p b j first (row_at j first) refl s) in
+-- one that was entered at its first heading
+resumed_view : (p : Walk) (b a : ℕ) (rs : RoutineTrees) (first : ℕ) (j : Known) → Site p.c a rs → Listed (map routine_name (listed rs)) first → Home j first
+    → View p b j → Enter p (own_frame j first) (one_deeper a) j
+resumed_view p b a rs first j site there home s =
+    let row = paired_routine (row_at j first) home.number home.region home.row in
+    let h = s.heads first row.assigned home.number home.region row.is in
+    let g = (region_at h.before.regions home.region).frame in
+    let scope = site.down first h.before g there h.is.scope in
+    let same : own_frame j first ≡ g
+    = ap (λ r. (region_at j.regions (routine_region r)).frame) row.is ∙ h.later.own home.region h.is.inside in
+    let got = got_at h.before.frames g h.is.there in
+    let at : IsAt g (one_deeper a) j = at_longer g (one_deeper a) h.before j h.later.frames (record {
+      frame = got.frame;
+      there = got.is;
+      level = ap (λ (o : Option Frame). (unwrap_or o no_frame).level) (sym got.is) ∙ scope.level;
+    }) in
+    let path : Held b (Way (λ d. Below p.c (suc (one_deeper a)) d) g) j = record { before = h.before; later = h.later; few = h.few; is = scope.path } in
     record {
-      level = got.frame.level;
       bound = b;
-      view = record {
+      view = subst (λ x. View (inner p x (one_deeper a)) b j) (sym same) (record {
         rows = s.rows;
         heads = s.heads;
         first = s.first;
-        levels = λ x k h. elim h [
-          | inl old ↦ s.levels x k old
-          | inr new ↦ record {
-            frame = got.frame;
-            there = subst (λ y. slice_get j.frames y ≡ Some got.frame) (sym new.0) got.is;
-            level = sym new.1;
-          }
+        levels = λ x m y. elim y [
+          | inl old ↦ s.levels x m old
+          | inr new ↦ subst (λ z. IsAt z m j) (sym new.0) (subst (λ z. IsAt g z j) (sym new.1) at)
         ];
-        paths = λ x k h. elim h [
-          | inl old ↦ s.paths x k old
-          | inr new ↦ absurd (off new.2.1)
+        paths = λ x m y. elim y [
+          | inl old ↦ s.paths x m old
+          | inr new ↦ subst (λ z. Held b (Way (λ d. Below p.c (suc m) d) z) j) (sym new.0)
+              (subst (λ z. Held b (Way (λ d. Below p.c (suc z) d) g) j) (sym new.1) path)
         ];
         many = s.many;
-      };
-      sites = sites.2 off got.frame.level;
+      });
     }
 
-enter_view : (p : Walk) (On : Type 0) (b around a : ℕ) (rs : RoutineTrees) (r : RoutineTree) (j : Known) → p.S around a → (On → p.T around a)
-    → SitesPart p.c On a rs → SiteParts p.c On a r → Orderly p.c.k p.c.t j → View p b j
-    → let d = enter_heading around rs r j in Enter p (AndPlain p.c On r) (routine_body r) d.value.frame d.known
-unfolding enter_heading look ◌>>=◌
-enter_view p On b around a rs r j around-in path-in part sites sound s =
-    at_view p On b (first_name (row_at j (routine_name r))) around a rs r j refl around-in path-in part sites sound s
+-- ---- what is told of each is nothing here
+
+abbrev pub Any_told : Break → Type 0
+Any_told b = Unit {0}
+
+abbrev pub Any_law : List RoutineTree → RoutineTree → Type 0
+Any_law before r = Unit {0}
+
+pub any_teller : (k : Known) (t : BlockTree) → Teller k t Any_told Any_law
+any_teller k t = record {
+  first = λ frame before rs r j s st all second w. tt;
+  second = λ frame before rs q j s st all_q earlier r later one listed is that all c formals w. tt;
+}
+
+abbrev AnyWalking : Chain → RoutineTrees → List RoutineTree → Known → Type 0
+AnyWalking c rs rest j = Walking c.k c.t Any_told Any_law (listed rs) rest j
+
+entered_view : (p : Walk) (b frame a : ℕ) (rs : RoutineTrees) (before : List RoutineTree) (r : RoutineTree) (rest : List RoutineTree) (j : Known)
+    → p.S frame a → p.T frame a → Site p.c a rs → PartText p.c.k p.c.t rs → listed rs ≡ before ++ r ∷ rest → Orderly p.c.k p.c.t j
+    → AnyWalking p.c rs (r ∷ rest) j → View p b j → let d = enter_heading frame rs r j in Enter p d.value.frame (one_deeper a) d.known
+unfolding enter_heading first_heading look ◌>>=◌
+entered_view p b frame a rs before r rest j frame-in path-in site x one s walking view =
+    let k = p.c.k in
+    let t = p.c.t in
+    let row = row_at j (routine_name r) in
+    let m = one_deeper a in
+    let X : Option ℕ → Type 0 = λ q. let d = enter_at q frame rs r j in Enter p d.value.frame m d.known in
+    elim (walking.ahead before r rest one (inl refl)) [
+      | inr opened ↦ subst X (sym (completing_row row opened.first opened.row))
+          (resumed_view p b a rs opened.first j site (listed_earlier (listed rs) before (r ∷ rest) opened.first one opened.behind) opened.home view)
+      | inl new ↦
+          let never : (first : ℕ) → paired row ≡ Row.Part (PartRow.Completing first) → ⊥ = λ first e.
+          let y = new.mate first e in
+          behind_off k t rs before r rest (ground k t rs before r rest x one) first y.1.listed y.0 in
+          let here = one_text k t [] rs before r rest x.all x.seats x.calm one in
+          let o = completion_of j rs r in
+          let chosen = choose k t Any_told Any_law rs r rest j walking (block_in row) refl in
+          subst X (sym (none_first row never)) (opened_view p b frame a rs before r rest o j frame-in path-in site (record {
+            one = one;
+            distinct = x.distinct;
+            each = λ other is.
+                let c = chosen.each other is in
+                let that = one_text k t [] rs c.earlier other c.later x.all x.seats x.calm c.one in
+                record {
+                  earlier = c.earlier;
+                  later = c.later;
+                  one = c.one;
+                  second = completes_second k t j c.earlier other s that.stated (record { first = routine_name r; row = c.row });
+                };
+            alone = λ block. completed_by_none k t j before rs r s here.stated.seat block;
+          }) view)
+    ]
 
 -- ---- blocks
 
@@ -594,8 +680,8 @@ world_lasts p =
     }
 
 -- a procedure or function is left
-outside : (p : Walk) (On : Type 0) (g n b : ℕ) (j : Known) → View (inner p On g n) b j → View p b j
-outside p On g n b j s = record {
+outside : (p : Walk) (g n b : ℕ) (j : Known) → View (inner p g n) b j → View p b j
+outside p g n b j s = record {
   rows = s.rows;
   heads = s.heads;
   first = s.first;
@@ -604,51 +690,67 @@ outside p On g n b j s = record {
   many = s.many;
 }
 
-then_world : {p : Walk} {On : Type 0} {body : BodyTree} (m : Step Entered) (f : Entered → Step (Unit {0})) → Keeps (Orderly p.c.k p.c.t) m
-    → ((j : Known) → World p j → Enter p On body (m j).value.frame (m j).known)
-    → ((e : Entered) (level : ℕ) → SitesBody p.c On level body → Keeps (World (inner p On e.frame level)) (f e)) → Keeps (World p) (m >>= f)
-unfolding ◌>>=◌
-then_world {p = p} {On = On} m f kept enters inside = record {
-  of = λ j s.
-      let d = m j in
-      let x = enters j s in
-      let w = (inside d.value x.level x.sites).of d.known (record { orderly = kept.of j s.orderly; bound = x.bound; view = x.view }) in
-      record { orderly = w.orderly; bound = w.bound; view = outside p On d.value.frame x.level w.bound (f d.value d.known).known w.view };
-}
-
 mutual
-  block_world : (p : Walk) (On : Type 0) (a frame number place : ℕ) (b : BlockTree) → p.S frame a → (On → p.T frame a) → Sites p.c On a b
-      → OfRoutines (IsOfText p.c.k p.c.t) b → Seats p.c.t b → Keeps (World p) (block frame number place b)
-  block_world p On a frame number place (tree.a_block labels constants types variables routines body) frame-in path-in sites all seats =
-      bind-keeps (parts-lasts (world_lasts p) frame place (tree.a_block labels constants types variables routines body)) (λ end.
-      bind-keeps (put_body-lasts (world_lasts p) number end (compound_word body)) (λ _.
-      bind-keeps (part_world p On a frame [] routines routines frame-in path-in sites sites all seats all seats)
-      (λ _. compound_uses-lasts (world_lasts p) frame body)))
+  unfolding ◌>>=◌ give
 
-  part_world : (p : Walk) (On : Type 0) (a frame : ℕ) (before : List RoutineTree) (rs part : RoutineTrees) → p.S frame a → (On → p.T frame a)
-      → SitesPart p.c On a rs → SitesPart p.c On a part → OfEach (IsOfText p.c.k p.c.t) rs → SeatsIn p.c.t [] rs → OfEach (IsOfText p.c.k p.c.t) part
-      → SeatsIn p.c.t before part → Keeps (World p) (routines_in frame rs part)
-  part_world p On a frame before rs tree.end_of_routines frame-in path-in sites part-sites all seats part-all part-seats = give-keeps tt
-  part_world p On a frame before rs (tree.more_routines r rest) frame-in path-in sites part-sites all seats part-all part-seats =
-      bind-keeps (routine_world p On a frame before rs r frame-in path-in sites part-sites.0 all seats part-all.0 part-seats.0)
-      (λ _. part_world p On a frame (before ++ r ∷ []) rs rest frame-in path-in sites part-sites.1 all seats part-all.1 part-seats.1)
+  block_world : (p : Walk) (a frame number place : ℕ) (b : BlockTree) (j : Known) → p.S frame a → p.T frame a → Sites p.c a b
+      → OfRoutines (IsOfText p.c.k p.c.t) b → Seats p.c.t b → Calm p.c.t b → Stated p.c.k p.c.t b → IsLaid p.c.k p.c.t Any_told (block_routines b) j
+      → World p j → World p (block frame number place b j).known
+  block_world p a frame number place (tree.a_block labels constants types variables routines body) j frame-in path-in sites all seats calm st laid w =
+      let b = tree.a_block labels constants types variables routines body in
+      let d1 = parts frame place b j in
+      let d2 = put_body number d1.value (compound_word body) d1.known in
+      let d3 = routines_in frame routines routines d2.known in
+      let one = (parts-lasts (world_lasts p) frame place b).of j w in
+      let two = (put_body-lasts (world_lasts p) number d1.value (compound_word body)).of d1.known one in
+      let laid2 = parts_laid p.c.k p.c.t Any_told frame number place b j calm st laid in
+      let text : PartText p.c.k p.c.t routines = record { all = all; seats = seats; calm = calm.1; distinct = calm.0.distinct } in
+      let three = part_world p a frame [] routines routines d2.known frame-in path-in sites.0 sites.1 text all seats calm.1 refl two
+      (begin_walking p.c.k p.c.t Any_told Any_law (listed routines) d2.known laid2) in
+      (compound_uses-lasts (world_lasts p) frame body).of d3.known three
 
-  routine_world : (p : Walk) (On : Type 0) (a frame : ℕ) (before : List RoutineTree) (rs : RoutineTrees) (r : RoutineTree) → p.S frame a
-      → (On → p.T frame a) → SitesPart p.c On a rs → SitesRoutine p.c On a r → OfEach (IsOfText p.c.k p.c.t) rs → SeatsIn p.c.t [] rs
-      → OfRoutine (IsOfText p.c.k p.c.t) r → SeatsOf p.c.t before r → Keeps (World p) (routine frame rs r)
-  routine_world p On a frame before rs (tree.a_routine heading semicolon body last_semicolon) frame-in path-in sites own all seats r-all r-seats =
+  part_world : (p : Walk) (a frame : ℕ) (before : List RoutineTree) (rs part : RoutineTrees) (j : Known) → p.S frame a → p.T frame a
+      → Site p.c a rs → SitesEach p.c (one_deeper a) part → PartText p.c.k p.c.t rs → OfEach (IsOfText p.c.k p.c.t) part
+      → SeatsIn p.c.t before part → CalmPart p.c.t part → listed rs ≡ before ++ listed part → World p j → AnyWalking p.c rs (listed part) j
+      → World p (routines_in frame rs part j).known
+  part_world p a frame before rs tree.end_of_routines j frame-in path-in site sites text all seats calm one w walking = w
+  part_world p a frame before rs (tree.more_routines r rest) j frame-in path-in site sites text all seats calm one w walking =
+      let k = p.c.k in
+      let t = p.c.t in
+      let d = routine frame rs r j in
+      let g = ground k t rs before r (listed rest) text one in
+      let passed = routine_walks k t Any_told Any_law (any_teller k t) frame before rs r (listed rest) j text one all.0 seats.0 calm.0 w.orderly walking
+      (λ x has. tt) in
+      part_world p a frame (before ++ r ∷ []) rs rest d.known frame-in path-in site sites.1 text all.1 seats.1 calm.1
+      (one ∙ sym (append_assoc before (r ∷ []) (listed rest)))
+      (routine_world p a frame before rs r (listed rest) j frame-in path-in site sites.0 text one all.0 seats.0 calm.0 w walking)
+      (go_on k t Any_told Any_law rs before r (listed rest) passed.o j d.known g walking passed.passed)
+
+  routine_world : (p : Walk) (a frame : ℕ) (before : List RoutineTree) (rs : RoutineTrees) (r : RoutineTree) (rest : List RoutineTree) (j : Known)
+      → p.S frame a → p.T frame a → Site p.c a rs → SitesRoutine p.c (one_deeper a) r → PartText p.c.k p.c.t rs → listed rs ≡ before ++ r ∷ rest
+      → OfRoutine (IsOfText p.c.k p.c.t) r → SeatsOf p.c.t before r → CalmOf p.c.t r → World p j → AnyWalking p.c rs (r ∷ rest) j
+      → World p (routine frame rs r j).known
+  routine_world p a frame before rs (tree.a_routine heading semicolon body last_semicolon) rest j frame-in path-in site sites text one all seats calm w
+      walking =
       let r = tree.a_routine heading semicolon body last_semicolon in
-      let P = AndPlain p.c On r in
-      then_world {p = p} {On = P} {body = body} (enter_heading frame rs r) (λ e. body_in e body)
-      (heading_stays p.c.k p.c.t frame before rs r all seats (routine_stated p.c.k p.c.t before r r-all r-seats))
-      (λ j s. enter_view p On s.bound frame a rs r j frame-in path-in sites own s.orderly s.view)
-      (λ e level inside. body_world (inner p P e.frame level) P level e body (inr (refl, refl)) (λ on. inr (refl, refl, on)) inside r-all.1 r-seats.1)
+      let k = p.c.k in
+      let t = p.c.t in
+      let m = one_deeper a in
+      let st = routine_stated k t before r all seats in
+      let d = enter_heading frame rs r j in
+      let e = body_in d.value body d.known in
+      let i = enter k t Any_told Any_law (any_teller k t) frame rs before r rest j text one w.orderly walking (λ x has. tt) in
+      let v = entered_view p w.bound frame a rs before r rest j frame-in path-in site text one w.orderly walking w.view in
+      let inside = body_world (inner p d.value.frame m) m d.value body d.known (inr (refl, refl)) (inr (refl, refl)) sites all.1 seats.1 calm.1 st.body
+      i.laid (record { orderly = (heading_stays k t frame before rs r text.all text.seats st).of j w.orderly; bound = v.bound; view = v.view }) in
+      record { orderly = inside.orderly; bound = inside.bound; view = outside p d.value.frame m inside.bound e.known inside.view }
 
-  body_world : (p : Walk) (On : Type 0) (a : ℕ) (e : Entered) (body : BodyTree) → p.S e.frame a → (On → p.T e.frame a) → SitesBody p.c On a body
-      → OfBody (IsOfText p.c.k p.c.t) body → SeatsInside p.c.t body → Keeps (World p) (body_in e body)
-  body_world p On a e (tree.a_directive directive) frame-in path-in sites all seats = give-keeps tt
-  body_world p On a e (tree.a_block_body b) frame-in path-in sites all seats =
-      block_world p On a e.frame e.number e.place b frame-in path-in sites all seats
+  body_world : (p : Walk) (a : ℕ) (e : Entered) (body : BodyTree) (j : Known) → p.S e.frame a → p.T e.frame a → SitesBody p.c a body
+      → OfBody (IsOfText p.c.k p.c.t) body → SeatsInside p.c.t body → CalmBody p.c.t body → StatedIn p.c.k p.c.t body
+      → LaidIn p.c.k p.c.t Any_told body j → World p j → World p (body_in e body j).known
+  body_world p a e (tree.a_directive directive) j frame-in path-in sites all seats calm st laid w = w
+  body_world p a e (tree.a_block_body b) j frame-in path-in sites all seats calm st laid w =
+      block_world p a e.frame e.number e.place b j frame-in path-in sites all seats calm st laid w
 
 -- ---- programs
 
@@ -706,9 +808,10 @@ defined_opening p b n f Q t all = bind-keeps (look-keeps (λ k. (frame_at k n).r
     bind-keeps (program_parameters-lasts (opening_lasts {G = Any} p b n f Q) region t.parameters) (λ _. define_block-opening p b n f Q t.block all))
 
 pub program_world : (l : Lexed) (t : ProgramTree) → let c : Chain = record { k = known_at_start l; t = t.block } in
-    Ways c → Whole l t → World (outermost_walk c) (program_step t (known_at_start l)).known
+    Ways c → Whole l t → Calm t.block t.block → IsLaid c.k t.block Any_told (block_routines t.block) (defined_program l t)
+    → World (outermost_walk c) (program_step t (known_at_start l)).known
 unfolding program_step open_program extend give ◌>>=◌
-program_world l t ways text =
+program_world l t ways text calm laid =
     let c : Chain = record { k = known_at_start l; t = t.block } in
     let p = outermost_walk c in
     let o = open_outermost (known_at_start l) in
@@ -731,14 +834,15 @@ program_world l t ways text =
     let outer = ap Some (outermost_zero l) in
     let way = way_new Never Q e n 0 f two.stands.there two.stands.below outer less (way_later Never 0 h.before e h.later h.is.way) two.mine in
     let path : Way (λ d. Below c 1 d) n e = way_map (λ d. Q d ⊎ Never d) (λ d. Below c 1 d) n e (λ d x. own_below c ways d x) way in
-    let view = closed p 1 n f Q e (Unit {0}) 0 refl (λ on. path) two in
+    let view = closed p 1 n f Q e 0 refl path two in
     let sound_start = (open_program-lasts (orderly_lasts c.k c.t)).of (known_at_start l) (start_orderly l t.block) in
     let fresh : Fresh t.block n f i = record { stands = opened j 0 f refl; clean = fresh_is_clean t.block j 0 f } in
     let sound_one = program_stays c.k t n f i text.distinct text.stated sound_start fresh in
     let sound = (orderly_lasts c.k c.t).routines a.known (main_row t.name) sound_one in
-    let end = (block_world (inner p (Unit {0}) n 0) (Unit {0}) 0 n (length a.known.program.routines) 1 t.block (inr (refl, refl))
-    (λ on. inr (refl, refl, on)) ways.sites text.all text.seats).of e (record { orderly = sound; bound = length e.regions; view = view }) in
-    record { orderly = end.orderly; bound = end.bound; view = outside p (Unit {0}) n 0 end.bound _ end.view }
+    let there = laid_same c.k t.block Any_told (tree.a_block_body t.block) a.known e text.stated (λ x has some. refl) laid in
+    let end = block_world (inner p n 0) 0 n (length a.known.program.routines) 1 t.block e (inr (refl, refl)) (inr (refl, refl)) ways.sites text.all
+    text.seats calm text.stated there (record { orderly = sound; bound = length e.regions; view = view }) in
+    record { orderly = end.orderly; bound = end.bound; view = outside p n 0 end.bound _ end.view }
   where
     own_below : (c : Chain) → Ways c → (d : ℕ) → Listed (block_labels c.t) d ⊎ Never d → Below c 1 d
     own_below c ways d (inl h) l level = let same = ways.fixed d l h level in omega (arith, same)

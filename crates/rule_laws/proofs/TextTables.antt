@@ -1,14 +1,15 @@
 -- What the tables of a text say of records and of frames, wherever its declarations are looked at.
-use Rattle.std.proofs.Common.{◌++◌, ◌+◌, ◌<◌, ◌∙◌, ◌∷◌, ◌≡◌, ◌≤◌, ◌⊎◌, [], ℕ, Bool, List, None, Option, Some, ap, arith, false, inl, inr, length, length-set}
-use Rattle.std.proofs.Common.{map, nat_eq, nat_le, refl, replicate, slice_get, subst, suc, sym, true, unwrap_or, zero}
-use Rattle.std.{proofs.lemmas.List.length-append, proofs.lemmas.Option.none-some, proofs.lemmas.Option.same_Some, specs.Map.lookup}
+use Rattle.std.proofs.Common.{if◌then◌else◌, ◌++◌, ◌+◌, ◌<◌, ◌∙◌, ◌∷◌, ◌≡◌, ◌≤◌, ◌⊎◌, [], ℕ, Bool, List, None, Option, Some, ap, arith, false, inl, inr, length}
+use Rattle.std.proofs.Common.{length-set, map, nat_eq, nat_le, nat_lt, refl, replicate, slice_get, subst, suc, sym, true, unwrap_or, zero}
+use Rattle.std.proofs.lemmas.{Bool.Decides.nat_tests, List.length-append, Option.none-some, Option.same_Some}
+use Rattle.std.specs.Map.{lookup}
 use Rattle.pas_lexer.specs.Lexed.{Lexed}
 use Rattle.pas_tree.specs.{HeadingPlaces.heading_name, HeadingTrees.HeadingTree, StatementPlaces.compound_word, declared.blocks.NextLabel.NextLabel}
 use Rattle.pas_tree.specs.BlockTrees.{BlockTree, BodyTree, LabelPartTree, ProgramTree, RoutineTree, RoutineTrees, routine_body, routine_heading}
 use Rattle.pas_tree.specs.BlockTrees as tree
 use Rattle.core_program.specs.ProgramRows.{type_in}
 use Rattle.core_program.specs.declared.rows.{NameRow.NameRow, PartRow.PartRow, Row.Row, TypeRow.TypeRow}
-use Rattle.check_steps.specs.{Required.open_outermost, Words.known_at_start, Words.required_names}
+use Rattle.check_steps.specs.{Frames.frame_in, Required.open_outermost, Words.known_at_start, Words.required_names}
 use Rattle.check_steps.specs.Known.{Known, and_definition, and_label, and_region, and_routine, frame_at, label_at, name_at, row_at, type_at, with_row}
 use Rattle.check_steps.specs.Regions.{RegionRows, declared_in, fresh_region, region_at}
 use Rattle.check_steps.specs.Steps.{◌>>=◌, Step, change, extend, give, look}
@@ -21,13 +22,14 @@ use Rattle.decl_checker.specs.Blocks.{define_block, define_constants, define_typ
 use Rattle.decl_checker.specs.Routines.{add_heading, block, body_in, define_body, define_completion, define_inside, enter_at, enter_heading, first_heading}
 use Rattle.decl_checker.specs.Routines.{first_name, heading_row, one_deeper, open_routine, own_frame, routine, routines_in}
 use Rattle.rule_laws.proofs.{Breaks.Each, Faces.row_either, LastsFormals.define_formals_at-lasts, LastsHeadings.signature-lasts}
-use Rattle.rule_laws.proofs.{LastsParameters.program_parameters-lasts, LastsPrograms.define_program-lasts, LastsRequired.all_names-lasts}
-use Rattle.rule_laws.proofs.{LastsRequired.ordinal_types-lasts, LastsRoutineParts.define_routines-lasts, LastsRoutines.after_completion}
-use Rattle.rule_laws.proofs.{LastsRoutines.routine_own, LastsStatements.compound_uses-lasts, Outward.Outward, Outward.outward_first, Outward.outward_more}
-use Rattle.rule_laws.proofs.{Outward.outward_new, TextFields.Any, TextFields.any_each, Touches.Longer, Touches.longer_still, Touches.no_longer}
+use Rattle.rule_laws.proofs.{LastsParameters.program_parameters-lasts, LastsPrograms.define_program-lasts, LastsRoutineParts.define_routines-lasts}
+use Rattle.rule_laws.proofs.{LastsStatements.compound_uses-lasts, TextFields.Any, TextFields.any_each, Touches.Longer, Touches.longer_still, Touches.no_longer}
 use Rattle.rule_laws.proofs.Keeping.{Keeps, ask-keeps, bind-keeps, give-keeps, look-keeps, put-keeps}
 use Rattle.rule_laws.proofs.Lasting.{Declaring, Ends, Lasting, declare_in-keeps, each_of-lasts, is_quiet}
 use Rattle.rule_laws.proofs.LastsBlocks.{define_constants-lasts, define_types-lasts, define_variables-lasts, parts-lasts, put_body-lasts}
+use Rattle.rule_laws.proofs.LastsRequired.{all_names-lasts, ordinal_types-lasts}
+use Rattle.rule_laws.proofs.LastsRoutines.{after_completion, routine_own}
+use Rattle.rule_laws.proofs.Outward.{Outward, frame_before, outward_first, outward_more, outward_new, outward_there}
 use Rattle.rule_laws.proofs.Regions.{definition_frame, definition_labels, label_either, label_frame, label_labels, last_region, region_before, region_labels}
 use Rattle.rule_laws.proofs.Standing.{Stands, opened, standing, standing_all, stands_at}
 use Rattle.rule_laws.specs.{ForwardHeadings.routines_in as listed, NameLaws.block_labels, NameLaws.block_routines, RegionNames.label_token}
@@ -38,10 +40,11 @@ pub record IsFields (j : Known) (region : ℕ) : Type 0 where
   pub there : region < length j.regions
   pub none : (v : ℕ) → declared_in j.regions region v ≡ None
 
--- a region whose own frame leads outward to none
+-- a region whose own frame leads outward to none, and is further in than the program's block, unless it is the first one
 pub record IsHome (j : Known) (region : ℕ) : Type 0 where
   pub there : region < length j.regions
   pub outward : Outward j.frames (region_at j.regions region).frame
+  pub deep : (region ≡ 0) ⊎ (0 < (frame_in j.frames (region_at j.regions region).frame).level)
 
 pub record Tidy (j : Known) : Type 0 where
   pub typed : (n region : ℕ) → fields_in (type_at j n) ≡ Some region → IsFields j region
@@ -58,10 +61,10 @@ put_tidy j m r fields head s = record {
     | inr new ↦ (let x = fields region (sym (ap (λ q. fields_in (type_in q)) new.1) ∙ e) in record { there = x.there; none = x.none })
   ];
   heads = λ n assigned number region e. elim (row_either j m n r) [
-    | inl old ↦ (let x = s.heads n assigned number region (sym old ∙ e) in record { there = x.there; outward = x.outward })
-    | inr new ↦ (let x = head assigned number region (sym new.1 ∙ e) in record { there = x.there; outward = x.outward })
+    | inl old ↦ (let x = s.heads n assigned number region (sym old ∙ e) in record { there = x.there; outward = x.outward; deep = x.deep })
+    | inr new ↦ (let x = head assigned number region (sym new.1 ∙ e) in record { there = x.there; outward = x.outward; deep = x.deep })
   ];
-  first = record { there = s.first.there; outward = s.first.outward };
+  first = record { there = s.first.there; outward = s.first.outward; deep = s.first.deep };
 }
 
 quiet_fields : (r : Row) → is_quiet r ≡ true → fields_in (type_in r) ≡ None
@@ -98,6 +101,9 @@ fields_more j token f region x =
       none = λ v. ap (λ (r : RegionRows). lookup (nat_eq v) r.labels) (region_before j.regions region (fresh_region token (length j.frames)) there) ∙ x.none v;
     }
 
+deep_more : (fs : List Frame) (f : Frame) (g : ℕ) → g < length fs → 0 < (frame_in fs g).level → 0 < (frame_in (fs ++ f ∷ []) g).level
+deep_more fs f g below deep = subst (λ (x : Frame). 0 < x.level) (sym (frame_before fs f g below)) deep
+
 home_more : (j : Known) (token : ℕ) (f : Frame) (region : ℕ) → IsHome j region → IsHome (and_region j token f) region
 home_more j token f region x =
     let there = x.there in
@@ -107,6 +113,12 @@ home_more j token f region x =
       outward = subst (λ (r : RegionRows). Outward (j.frames ++ f ∷ []) r.frame)
           (sym (region_before j.regions region (fresh_region token (length j.frames)) there))
           (outward_more j.frames f (region_at j.regions region).frame x.outward);
+      deep = elim x.deep [
+        | inl e ↦ inl e
+        | inr deep ↦ inr (subst (λ (r : RegionRows). 0 < (frame_in (j.frames ++ f ∷ []) r.frame).level)
+            (sym (region_before j.regions region (fresh_region token (length j.frames)) there))
+            (deep_more j.frames f (region_at j.regions region).frame (outward_there j.frames (region_at j.regions region).frame x.outward) deep))
+      ];
     }
 
 region_tidy : (j : Known) (token : ℕ) (f : Frame) → Tidy j → Tidy (and_region j token f)
@@ -117,7 +129,14 @@ region_tidy j token f s = record {
 }
 
 home_framed : (j : Known) (f : Frame) (region : ℕ) → IsHome j region → IsHome (record j { frames = j.frames ++ f ∷ [] }) region
-home_framed j f region x = record { there = x.there; outward = outward_more j.frames f (region_at j.regions region).frame x.outward }
+home_framed j f region x = record {
+  there = x.there;
+  outward = outward_more j.frames f (region_at j.regions region).frame x.outward;
+  deep = elim x.deep [
+    | inl e ↦ inl e
+    | inr deep ↦ inr (deep_more j.frames f (region_at j.regions region).frame (outward_there j.frames (region_at j.regions region).frame x.outward) deep)
+  ];
+}
 
 definition_tidy : (j : Known) (region name : ℕ) (d : Definition) → Tidy j → Tidy (and_definition j region name d)
 definition_tidy j at name d s =
@@ -135,7 +154,11 @@ definition_tidy j at name d s =
     home : (region : ℕ) → length (and_definition j at name d).regions ≡ length j.regions → IsHome j region → IsHome (and_definition j at name d) region
     home region same x =
         let there = x.there in
-        record { there = omega (arith, there, same); outward = subst (λ n. Outward j.frames n) (sym (definition_frame j at name d region)) x.outward }
+        record {
+          there = omega (arith, there, same);
+          outward = subst (λ n. Outward j.frames n) (sym (definition_frame j at name d region)) x.outward;
+          deep = subst (λ n. (region ≡ 0) ⊎ (0 < (frame_in j.frames n).level)) (sym (definition_frame j at name d region)) x.deep;
+        }
 
 pub tidy_lasts : {G : RoutineTree → Type 0} → Lasting G Tidy
 tidy_lasts = record {
@@ -143,13 +166,13 @@ tidy_lasts = record {
   stays = λ j m s. put_tidy j m (row_at j m) (λ region e. s.typed m region e) (λ assigned number region e. s.heads m assigned number region e) s;
   bodies = λ j n r same s. record {
     typed = λ n region e. (let x = s.typed n region e in record { there = x.there; none = x.none });
-    heads = λ n assigned number region e. (let x = s.heads n assigned number region e in record { there = x.there; outward = x.outward });
-    first = record { there = s.first.there; outward = s.first.outward };
+    heads = λ n assigned number region e. (let x = s.heads n assigned number region e in record { there = x.there; outward = x.outward; deep = x.deep });
+    first = record { there = s.first.there; outward = s.first.outward; deep = s.first.deep };
   };
   routines = λ j r s. record {
     typed = λ n region e. (let x = s.typed n region e in record { there = x.there; none = x.none });
-    heads = λ n assigned number region e. (let x = s.heads n assigned number region e in record { there = x.there; outward = x.outward });
-    first = record { there = s.first.there; outward = s.first.outward };
+    heads = λ n assigned number region e. (let x = s.heads n assigned number region e in record { there = x.there; outward = x.outward; deep = x.deep });
+    first = record { there = s.first.there; outward = s.first.outward; deep = s.first.deep };
   };
   frames = λ j f s. record {
     typed = λ n region e. (let x = s.typed n region e in record { there = x.there; none = x.none });
@@ -161,8 +184,8 @@ tidy_lasts = record {
   requires = λ j name d behind s. definition_tidy j 0 name d s;
   chooses = λ j list value s. record {
     typed = λ n region e. (let x = s.typed n region e in record { there = x.there; none = x.none });
-    heads = λ n assigned number region e. (let x = s.heads n assigned number region e in record { there = x.there; outward = x.outward });
-    first = record { there = s.first.there; outward = s.first.outward };
+    heads = λ n assigned number region e. (let x = s.heads n assigned number region e in record { there = x.there; outward = x.outward; deep = x.deep });
+    first = record { there = s.first.there; outward = s.first.outward; deep = s.first.deep };
   };
   records = λ j word packed region cells variants fresh s. type_tidy j word (TypeRow.Record packed region cells variants)
       (λ at e. (let same = same_Some region at e in subst (IsFields j) same (record { there = fresh.there; none = fresh.none }))) s;
@@ -175,12 +198,13 @@ tidy_lasts = record {
 -- ---- frames that lead outward
 
 -- What the tokens of a text spell, and those that stand in its label parts. From some tables on, the regions below a
--- number declare only some of these, and the frames stay.
+-- number declare only some of these, which they declared there, and the frames stay.
 pub record Labelling : Type 1 where
   pub k : Known
   pub L : ℕ → Type 0
   pub bound : ℕ
   pub low : ℕ → Type 0
+  pub old : List RegionRows
   pub frames : List Frame
 
 -- A label is declared at one of these tokens, by its value.
@@ -189,10 +213,11 @@ pub record Valued (y : Labelling) (j : Known) : Type 0 where
   pub declared : (region v d : ℕ) → declared_in j.regions region v ≡ Some d → (label_at y.k d ≡ v) × y.L d
   pub many : y.bound ≤ length j.regions
   pub below : (region v d : ℕ) → region < y.bound → declared_in j.regions region v ≡ Some d → y.low d
+  pub stay : (region v : ℕ) → region < y.bound → declared_in j.regions region v ≡ declared_in y.old region v
   pub frames : Longer y.frames j.frames
 
 valued_row : (y : Labelling) (j : Known) (m : ℕ) (r : Row) → Valued y j → Valued y (with_row j m r)
-valued_row y j m r s = record { words = s.words; declared = s.declared; many = s.many; below = s.below; frames = s.frames }
+valued_row y j m r s = record { words = s.words; declared = s.declared; many = s.many; below = s.below; stay = s.stay; frames = s.frames }
 
 valued_definition : (y : Labelling) (j : Known) (at name : ℕ) (d : Definition) → Valued y j → Valued y (and_definition j at name d)
 valued_definition y j at name d s =
@@ -203,6 +228,7 @@ valued_definition y j at name d s =
       declared = λ region v m e. s.declared region v m (sym (definition_labels j at name d region v) ∙ e);
       many = (let many = s.many in omega (arith, many, same));
       below = λ region v m less e. s.below region v m less (sym (definition_labels j at name d region v) ∙ e);
+      stay = λ region v less. definition_labels j at name d region v ∙ s.stay region v less;
       frames = s.frames;
     }
 
@@ -213,13 +239,14 @@ valued_lasts : {G : RoutineTree → Type 0} (y : Labelling) → Lasting G (Value
 valued_lasts y = record {
   puts = λ j m r quiet s. valued_row y j m r s;
   stays = λ j m s. valued_row y j m (row_at j m) s;
-  bodies = λ j m r same s. record { words = s.words; declared = s.declared; many = s.many; below = s.below; frames = s.frames };
-  routines = λ j r s. record { words = s.words; declared = s.declared; many = s.many; below = s.below; frames = s.frames };
+  bodies = λ j m r same s. record { words = s.words; declared = s.declared; many = s.many; below = s.below; stay = s.stay; frames = s.frames };
+  routines = λ j r s. record { words = s.words; declared = s.declared; many = s.many; below = s.below; stay = s.stay; frames = s.frames };
   frames = λ j g s. record {
     words = s.words;
     declared = s.declared;
     many = s.many;
     below = s.below;
+    stay = s.stay;
     frames = one_more y.frames j.frames g s.frames;
   };
   regions = λ j token g s. record {
@@ -230,11 +257,15 @@ valued_lasts y = record {
         let more = length-append j.regions (fresh_region token (length j.frames) ∷ []) in
         omega (arith, many, more);
     below = λ region v d less e. s.below region v d less (region_labels j token g region v d e);
+    stay = λ region v less.
+        let many = s.many in
+        ap (λ (r : RegionRows). lookup (nat_eq v) r.labels)
+        (region_before j.regions region (fresh_region token (length j.frames)) (omega (arith, less, many))) ∙ s.stay region v less;
     frames = one_more y.frames j.frames g s.frames;
   };
   defines = λ j region d at s. valued_definition y j region (name_at j d.token) d s;
   requires = λ j name d behind s. valued_definition y j 0 name d s;
-  chooses = λ j list value s. record { words = s.words; declared = s.declared; many = s.many; below = s.below; frames = s.frames };
+  chooses = λ j list value s. record { words = s.words; declared = s.declared; many = s.many; below = s.below; stay = s.stay; frames = s.frames };
   records = λ j word packed region cells variants fresh s. valued_row y j word (Row.Type (TypeRow.Record packed region cells variants)) s;
   waits = λ j r g none s. valued_row y j (routine_name r) (Row.Part (PartRow.Forward (is_function (routine_heading r)) None)) s;
   completes = λ j region first position r g e s.
@@ -431,6 +462,8 @@ label_open y S n f j token ok s =
           many = (let many = s.walked.valued.many in omega (arith, many, same));
           below = λ region v d less e. s.walked.valued.below region v d less (sym (label_labels j at value token region v (λ is.
               let beyond = s.beyond in omega (arith, less, beyond, is))) ∙ e);
+          stay = λ region v less. label_labels j at value token region v (λ is. (let beyond = s.beyond in omega (arith, less, beyond, is)))
+              ∙ s.walked.valued.stay region v less;
           frames = s.walked.valued.frames;
         };
         outward = s.walked.outward;
@@ -449,6 +482,8 @@ label_open y S n f j token ok s =
           there = omega (arith, there, same);
           outward = subst (λ n. Outward j.frames n) (sym (label_frame j f.region (label_at y.k token) token region))
               x.outward;
+          deep = subst (λ n. (region ≡ 0) ⊎ (0 < (frame_in j.frames n).level)) (sym (label_frame j f.region (label_at y.k token) token region))
+              x.deep;
         }
 
 label_row_open : (y : Labelling) (S : ℕ → Type 0) (n : ℕ) (f : Frame) (j : Known) (token value level : ℕ) → Open y S n f j
@@ -583,13 +618,14 @@ home_of j n r e s = s.first
 pub own_outward : (j : Known) (name : ℕ) → Tidy j → Outward j.frames (own_frame j name)
 own_outward j name s = (home_of j name (row_at j name) refl s).outward
 
-head_walked : (y : Labelling) (S : ℕ → Type 0) (n : ℕ) (f : Frame) (j : Known) (name number at : ℕ) → S n → at ≡ f.region → Open y S n f j
+head_walked : (y : Labelling) (S : ℕ → Type 0) (n : ℕ) (f : Frame) (j : Known) (name number at : ℕ) → S n → at ≡ f.region → 0 < f.level → Open y S n f j
     → Walked y S (with_row j name (Row.Name (NameRow.Routine false number at)))
-head_walked y S n f j name number at n-in same s =
+head_walked y S n f j name number at n-in same deep s =
     let r = Row.Name (NameRow.Routine false number at) in
     let home : IsHome j f.region = record {
       there = s.stands.below;
       outward = subst (λ m. Outward j.frames m) (sym s.own) (s.walked.outward n n-in);
+      deep = inr (subst (λ m. 0 < (frame_in j.frames m).level) (sym s.own) (subst (λ (g : Frame). 0 < g.level) (sym (stands_at n f j s.stands)) deep));
     } in
     record {
       tidy = put_tidy j name r (λ region e. absurd (none-some region e))
@@ -600,6 +636,20 @@ head_walked y S n f j name number at n-in same s =
   where
     same_region : {a b : Bool} {m i x y : ℕ} → Row.Name (NameRow.Routine a m x) ≡ Row.Name (NameRow.Routine b i y) → x ≡ y
     same_region e = cc
+
+-- one block more is no outermost one
+pub deeper : (n : ℕ) → 0 < one_deeper n
+deeper n = by (nat_lt n 4294967295) refl
+  where
+    some : 0 < n + 1
+    some = omega arith
+
+    far : nat_lt n 4294967295 ≡ false → 0 < n
+    far e = grind (arith, nat_tests)
+
+    by : (b : Bool) → nat_lt n 4294967295 ≡ b → 0 < (if b then n + 1 else n)
+    by true e = some
+    by false e = far e
 
 opened_walked : (y : Labelling) (S : ℕ → Type 0) (frame : ℕ) (r : RoutineTree) (o : Option RoutineTree) (j : Known) → S frame → Labelled y r
     → OfOther (Labelled y) o
@@ -620,7 +670,7 @@ opened_walked y S frame r o j frame-in r-in o-in s =
     let row = heading_row h here.level b.value in
     let three = c.routines b.known row two in
     head_walked y R n f (and_routine b.known row) (heading_name h) (length b.known.program.routines) here.region (inr refl)
-    (ap (λ (g : Frame). g.region) (stands_at n f b.known two.stands)) three
+    (ap (λ (g : Frame). g.region) (stands_at n f b.known two.stands)) (deeper (frame_at j frame).level) three
 
 first_walked : (y : Labelling) (S : ℕ → Type 0) (frame : ℕ) (rs : RoutineTrees) (r : RoutineTree) (j : Known) → S frame → OfEach (Labelled y) rs
     → Labelled y r → Walked y S j → let d = first_heading frame rs r j in Walked y (AndOne S d.value.frame) d.known
@@ -704,12 +754,13 @@ labelling l t L low = record {
   L = L;
   bound = length (defines_first l t).regions;
   low = low;
+  old = (defines_first l t).regions;
   frames = (defines_first l t).frames;
 }
 
 -- and before
 abbrev first_labelling : Lexed → (ℕ → Type 0) → Labelling
-first_labelling l low = record { k = known_at_start l; L = low; bound = 0; low = low; frames = [] }
+first_labelling l low = record { k = known_at_start l; L = low; bound = 0; low = low; old = []; frames = [] }
 
 blank : (size n : ℕ) → unwrap_or (slice_get (replicate size Row.Nothing) n) Row.Nothing ≡ Row.Nothing
 blank zero n = refl
@@ -724,13 +775,14 @@ outer_walked l L =
       tidy = record {
         typed = λ n region e. absurd (none-some region (sym (ap (λ q. fields_in (type_in q)) (blank many n)) ∙ e));
         heads = λ n assigned number region e. absurd (no_row (sym (blank many n) ∙ e));
-        first = record { there = omega arith; outward = out };
+        first = record { there = omega arith; outward = out; deep = inl refl };
       };
       valued = record {
         words = refl;
         declared = λ region v d e. absurd (none-some d (region_labels (known_at_start l) 0 outer_frame region v d e));
         many = omega arith;
         below = λ region v d less e. absurd (omega (arith, less));
+        stay = λ region v less. absurd (omega (arith, less));
         frames = record { more = outer_frame ∷ []; is = refl };
       };
       outward = λ g g-in. subst (λ m. Outward (outer_frame ∷ []) m) (sym g-in) out;
@@ -796,6 +848,7 @@ program_walked l t L low more own all =
         declared = λ region v d e. ((valued.declared region v d e).0, more d (valued.declared region v d e).1);
         many = omega (arith, same);
         below = λ region v d less e. (valued.declared region v d e).1;
+        stay = λ region v less. refl;
         frames = no_longer a.known.frames;
       };
       outward = one.walked.outward;

@@ -1,52 +1,51 @@
 -- Where a text breaks rule 2: at second names and labels of its regions alone.
-use Rattle.std.proofs.Common.{◌++◌, ◌+◌, ◌||◌, ◌∙◌, ◌∷◌, ◌≡◌, ◌⊎◌, [], ℕ, Bool, Contains, List, None, Option, Some, ap, arith, false, inl, inr, is_some, length}
-use Rattle.std.proofs.Common.{map, nat_eq, refl, replicate, slice_get, subst, suc, sym, true, unwrap_or, zero}
-use Rattle.std.{proofs.lemmas.List.append_assoc, proofs.lemmas.Option.same_Some, specs.Map.lookup}
+use Rattle.std.proofs.Common.{◌++◌, ◌+◌, ◌<◌, ◌^◌, ◌||◌, ◌∙◌, ◌∷◌, ◌≡◌, ◌≤◌, [], ℕ, Bool, List, None, Option, Some, ap, arith, false, inl, inr, is_some, length}
+use Rattle.std.proofs.Common.{nat_eq, refl, replicate, slice_get, subst, suc, sym, true, unwrap_or, zero}
+use Rattle.std.proofs.lemmas.{List.append-nil, List.append_assoc, List.length-append, Option.same_Some}
+use Rattle.std.specs.Map.{lookup}
 use Rattle.pas_lexer.specs.Lexed.{Lexed}
-use Rattle.pas_tree.specs.{DenoterTrees.FieldsTree, HeadingPlaces.heading_name, HeadingTrees.HeadingTree}
+use Rattle.grammar.specs.Nodes.{Item, spell}
+use Rattle.pas_tree.specs.{DenoterTrees.FieldsTree, HeadingPlaces.heading_name, HeadingTrees.HeadingTree, StatementTrees.CompoundTree}
 use Rattle.pas_tree.specs.BlockTrees.{BlockTree, BodyTree, ConstantPartTree, LabelPartTree, ParametersTree, ProgramTree, RoutineTree, RoutineTrees}
 use Rattle.pas_tree.specs.BlockTrees.{TypePartTree, VariablePartTree, routine_body, routine_heading}
 use Rattle.pas_tree.specs.BlockTrees as tree
-use Rattle.pas_tree.specs.TreeNodes.{block_node, body_node, heading_node, routine_node, routines_node}
-use Rattle.core_program.specs.declared.rows.{NameRow.NameRow, PartRow.PartRow, Row.Row, TypeRow.TypeRow}
-use Rattle.check_steps.specs.{Names.define_in, Regions.RegionRows, Regions.declared_in, Regions.defined_in, Regions.fresh_region, Words.known_at_start}
-use Rattle.check_steps.specs.{Words.required_names, declared.breaks.Break.Break, declared.breaks.Broken.Broken, declared.breaks.Broken.TheVariants.Early}
-use Rattle.check_steps.specs.Known.{Known, and_region, label_at, name_at, row_at, with_row}
-use Rattle.check_steps.specs.Steps.{◌>>=◌, Done, Step, each, early, give, look}
-use Rattle.check_steps.specs.declared.{regions.Def.Def, regions.Definition.Definition, regions.Frame.Frame, words.SpelledToken.SpelledToken}
+use Rattle.pas_tree.specs.TreeNodes.{block_node, body_node, heading_node, parameters_node, routine_node, routines_node, tree_node}
+use Rattle.pas_parser.specs.Formed.{items_of}
+use Rattle.core_program.specs.declared.rows.{PartRow.PartRow, Row.Row}
+use Rattle.check_steps.specs.{Words.known_at_start, Words.required_names, declared.regions.Frame.Frame, declared.words.SpelledToken.SpelledToken}
+use Rattle.check_steps.specs.Known.{Known, and_region, label_at, name_at, row_at}
+use Rattle.check_steps.specs.Regions.{RegionRows, declared_in, defined_in, fresh_region}
+use Rattle.check_steps.specs.Steps.{◌>>=◌, Step, early, give, look}
+use Rattle.check_steps.specs.declared.breaks.{Break.Break, Broken.Broken, Broken.TheVariants.Early}
 use Rattle.denoter_checker.specs.{Defines.define_in_fields, Defines.define_record, declared.defines.Wanted.Wanted}
-use Rattle.denoter_checker.specs.Formals.{define_formals_at, define_held, formals_of, is_complete, is_function}
-use Rattle.denoter_checker.specs.RoutineParts.{awaits, block_in, complete_or_define, completed_by, completing, completion_of, define_heading, define_routine}
-use Rattle.denoter_checker.specs.RoutineParts.{define_routines, defining, directed, directive_in, is_forward, routine_at, routine_if_any, routine_name}
+use Rattle.denoter_checker.specs.Formals.{define_formals_at, define_held, formals_of}
+use Rattle.denoter_checker.specs.RoutineParts.{block_in, completion_of, define_routines, routine_at, routine_if_any, routine_name}
 use Rattle.decl_checker.specs.{Labels.define_labels, Parameters.program_parameters, Programs.define_program, Programs.program_step}
 use Rattle.decl_checker.specs.Blocks.{define_block, define_constants, define_types, define_variables}
 use Rattle.decl_checker.specs.Routines.{define_body, define_completion, define_inside}
 use Rattle.code_checker.specs.{Blocks.code_block, CheckedPrograms.check_step}
-use Rattle.rule_laws.proofs.{Faces.loose, Faces.row_either, LabelParts.SecondLabel, LabelParts.second_label, LabelTold.Anywhere, Lasting.Declaring}
-use Rattle.rule_laws.proofs.{Lasting.Lasting, Lasting.is_quiet, LastsFormals.define_formals_at-lasts, LastsParameters.program_parameters-lasts}
-use Rattle.rule_laws.proofs.{LastsPrograms.define_program-lasts, PartLaw.only_eight, PartSteps.has_each, PartSteps.part_listed, PartSteps.part_steps, Plain.Aim}
-use Rattle.rule_laws.proofs.{Plain.Plain, Plain.is_plain, PlainBlocks.OwnRecords, Regions.last_region, TextForwards.name_has, TextHeadings.completed_found}
-use Rattle.rule_laws.proofs.{TextLabels.code_block-touches, TextRoutines.labels_keep, TextTokens.text_law, Touches.Told as Used}
-use Rattle.rule_laws.proofs.Breaks.{Each, In, found, in_either, of_each}
+use Rattle.rule_laws.proofs.{Chains.Fits as Short, Chains.fits_left as short_left, Chains.fits_right as short_right, Faces.loose, InTurn.Wrong}
+use Rattle.rule_laws.proofs.{InTurn.wrong_first, InTurn.wrong_later, LabelParts.SecondLabel, LabelParts.second_label, LabelTold.Anywhere}
+use Rattle.rule_laws.proofs.{LastsFormals.define_formals_at-lasts, LastsLabels.define_labels-lasts, LastsParameters.program_parameters-lasts, NameTurns.Region}
+use Rattle.rule_laws.proofs.{NameTurns.Turn, NameTurns.rule_two, NamesIn.parameters-in, Plain.Aim, Plain.Plain, Plain.is_plain, PlainBlocks.OwnRecords}
+use Rattle.rule_laws.proofs.{Regions.last_region, Telling.Misses, TextBlocks.start_orderly, TextBlocks.whole, TextHeadings.IsOfText}
+use Rattle.rule_laws.proofs.{TextLabels.code_block-touches, TextRoutines.labels_keep, TextTokens.text_length, Touches.Told as Used, TurnEnds.in_front}
+use Rattle.rule_laws.proofs.Breaks.{Each, In, both, found, in_either, of_each}
 use Rattle.rule_laws.proofs.Entering.{Completes, Entering, RecordsInBody, SeenBlock, SeenBody, SeenEach, SeenRoutine, program-came, without}
-use Rattle.rule_laws.proofs.InTurn.{Rule, Wrong, wrong_first, wrong_later}
-use Rattle.rule_laws.proofs.Keeping.{Keeps, ask-keeps, bind-keeps, completing-keeps, give-keeps, look-keeps, put-keeps, when-keeps}
-use Rattle.rule_laws.proofs.LastsRoutines.{OfCompletion, block_each, define_inside-lasts}
-use Rattle.rule_laws.proofs.NameLaw.{begun, constant_part_goes, fields_go, held_formals_go, parameters_go, type_part_goes, variable_part_goes}
-use Rattle.rule_laws.proofs.NameTurns.{Region, Turn, again_named, define_goes, named, named_more, rule_two, spelled_same, token_more}
+use Rattle.rule_laws.proofs.JoinedParts.{AllJoined, JoinedAt, Looked, Member, OfParts, PartsInBody, PartsInEach, PartsInOne, Tables, body_has, formals_first}
+use Rattle.rule_laws.proofs.JoinedParts.{inside_each, member_has, names_apart, off_each, off_one, one_of_name, second_named, tables_all, tables_last}
+use Rattle.rule_laws.proofs.LastsBlocks.{define_constants-lasts, define_types-lasts, define_variables-lasts}
+use Rattle.rule_laws.proofs.NameLaw.{begun as begin, constant_part_goes, fields_go, held_formals_go, parameters_go, type_part_goes, variable_part_goes}
+use Rattle.rule_laws.proofs.PartTwos.{Begun, Comes, PartOf, part_comes, place}
+use Rattle.rule_laws.proofs.PartWalk.{Stated, StatedIn, StatedOf, completed_by_none, part_of, routine_stated}
+use Rattle.rule_laws.proofs.Seats.{AnyKind, Kind, Nobody, Seats, SeatsIn, SeatsInside, SeatsOf, SomeAt, SomeIn, SomeInside, SomeOf, block_has, every_has}
 use Rattle.rule_laws.proofs.Standing.{Opened, Stands, opened, opened_lasts, stands_at}
-use Rattle.rule_laws.proofs.Telling.{Misses, ask-only, completing-only, directive_in-only, no_two, other_rule}
-use Rattle.rule_laws.specs.{ForwardHeadings.is_block, ForwardHeadings.routines_in, Laws.broken_at, NameLaws.block_labels, NameLaws.block_routines}
-use Rattle.rule_laws.specs.{RegionNames.types_of, RegionNames.variables_of, Tokens.Has, Tokens.IsDistinct}
-use Rattle.rule_laws.specs.OnlyLaws.{IsNoSecondJoined, IsNoSecondLabel, IsNoSecondName, IsNoSecondOf, TextsBreakTwo, headings_in_body, routine_names}
-use Rattle.rule_laws.specs.RegionNames.{block_names, constants_of, field_names, file_name, file_names, heading_names, is_defined, listed_names, parameter_names}
-use Rattle.rule_laws.specs.TextLaws.{has_label, has_name, labels_in_body, names_in_body, routines_in_body}
-use Rattle.rule_laws.specs.TextParts.{InBody, InRoutine, InRoutines, OfBody, OfEach, OfRecordsIn, OfRoutine, OfRoutines}
-
-pub record Looked : Type 0 where
-  pub k : Known
-  pub t : BlockTree
-  pub n : ℕ
+use Rattle.rule_laws.specs.{ForwardHeadings.is_block, ForwardHeadings.routines_in, Laws.broken_at, TextLaws.has_label, TextLaws.has_name}
+use Rattle.rule_laws.specs.{TextLaws.names_in_body, TextParts.OfRoutines, TextParts.OfRoutinesAfter, Tokens.Has, Tokens.IsDistinct}
+use Rattle.rule_laws.specs.OnlyLaws.{IsNoSecond, IsNoSecondIn, IsNoSecondLabel, IsNoSecondName, IsNoSecondOf, TextsBreakTwo}
+use Rattle.rule_laws.specs.RegionNames.{block_names, constants_of, field_names, file_name, file_names, heading_names, is_defined, labels_of, listed_names}
+use Rattle.rule_laws.specs.RegionNames.{parameter_names, types_of, variables_of}
+use Rattle.rule_laws.specs.TextParts.{InBody, InRoutine, InRoutines, OfBody, OfBodyAfter, OfEach, OfEachAfter, OfRecordsIn, OfRoutine, OfRoutineAfter}
 
 -- ---- a name that is told of, at its place
 
@@ -89,298 +88,6 @@ none_label k j region labels n words empty first s =
     let same : has_label j s.before n ≡ has_label k s.before n = ap (λ (ws : List SpelledToken). has_label (record k { words = ws }) s.before n) words in
     let never : true ≡ false = sym held ∙ same ∙ first s.before s.after s.is in cc
 
--- ---- the procedures and functions of a part
-
-turn_row : (p : Region) (done : List ℕ) (m : ℕ) (r : Row) (j : Known) → Turn p done j → Turn p done (with_row j m r)
-turn_row p done m r j t = record { words = t.words; spellings = t.spellings; there = t.there; names = t.names; tokens = t.tokens }
-
-directive_in-turn : (p : Region) (done : List ℕ) (h : HeadingTree) (body : BodyTree) → Keeps (Turn p done) (directive_in h body)
-unfolding directed
-directive_in-turn p done h (tree.a_directive directive) = bind-keeps (look-keeps (λ k. is_forward k directive)) (λ forward.
-    bind-keeps (ask-keeps _ directive forward) (λ _. when-keeps forward
-    (put-keeps (heading_name h) _ (turn_row p done (heading_name h) (Row.Part (PartRow.Forward (is_function h) None))))))
-directive_in-turn p done h (tree.a_block_body b) = give-keeps tt
-
-other : (t : ℕ) → t + 1 ≡ t → ⊥
-other t e = omega (arith, e)
-
--- what the turn of one comes to
-record TurnEnds (p : Region) (done : List ℕ) (x : ℕ) (i : Known) (bs : List Break) : Type 0 where
-  turn : Turn p (done ++ x ∷ []) i
-  forth : In (broken_at 2 p.t) bs → (x ≡ p.t) × (is_defined p.k p.region done x ≡ true)
-
-of_one : (p : Region) (done : List ℕ) (x : ℕ) → Wrong (rule_two p) done (x ∷ []) → (x ≡ p.t) × (is_defined p.k p.region done x ≡ true)
-of_one p done x w = elim w [
-  | inl own ↦ own
-  | inr none ↦ absurd none
-]
-
-turn_defining : (p : Region) (done : List ℕ) (h : HeadingTree) (body : BodyTree) (j : Known) → Turn p done j
-    → TurnEnds p done (heading_name h) (defining p.region h body j).known (defining p.region h body j).broken
-unfolding defining define_heading ◌>>=◌
-turn_defining p done h body j t =
-    let n = heading_name h in
-    let b = broken_at 2 p.t in
-    let d : Definition = record { def = Def.Routine n; token = n; end = n } in
-    let one = define_in p.region d j in
-    let ends = (define_goes p d).of done j t in
-    let nine = early 9 n (is_complete h) one.known in
-    let heading = define_heading p.region h j in
-    let last = directive_in h body heading.known in
-    let allows = no_two (p.t + 1) p.t (other p.t) in
-    record {
-      turn = (directive_in-turn p (done ++ n ∷ []) h body).of heading.known
-          ((ask-keeps {I = Turn p (done ++ n ∷ [])} _ n (is_complete h)).of one.known ends.turn);
-      forth = λ i. elim (in_either b (one.broken ++ nine.broken) last.broken i) [
-        | inl front ↦ elim (in_either b one.broken nine.broken front) [
-          | inl own ↦ of_one p done n (ends.forth own)
-          | inr late ↦ absurd (of_each (Misses 2 p.t) b nine.broken
-              ((ask-only {P = Misses 2 p.t} _ n (is_complete h) (other_rule 9 n 2 p.t (λ e. omega (arith, e)))).of one.known) late refl)
-        ]
-        | inr late ↦ absurd (of_each (Misses 2 p.t) b last.broken ((directive_in-only allows h body).of heading.known) late refl)
-      ];
-    }
-
-some_is : (o : Option Definition) (d : Definition) → o ≡ Some d → is_some o ≡ true
-some_is o d e = ap is_some e
-
-turn_completing : (p : Region) (done : List ℕ) (first position : ℕ) (h : HeadingTree) (body : BodyTree) (j : Known) → Turn p done j
-    → completed_by j p.region h body ≡ Some first
-    → TurnEnds p done (heading_name h) (completing first position h j).known (completing first position h j).broken
-turn_completing p done first position h body j t e =
-    let n = heading_name h in
-    let allows = no_two (p.t + 1) p.t (other p.t) in
-    let found = completed_found j p.region h body first e in
-    let held : is_some (defined_in j.regions p.region (name_at j n)) ≡ true = ap is_some found.is in
-    let there : (is_some (defined_in p.k.regions p.region (name_at p.k n)) || named p.k done (name_at p.k n)) ≡ true
-    = sym (t.names (name_at p.k n)) ∙ ap (λ m. is_some (defined_in j.regions p.region m)) (sym (spelled_same p.k j n t.words)) ∙ held in
-    let more : Turn p (done ++ n ∷ []) j = record {
-      words = t.words;
-      spellings = t.spellings;
-      there = t.there;
-      names = λ m. t.names m ∙ again_named p done n m (nat_eq m (name_at p.k n)) refl there
-          ∙ ap (λ b. is_some (defined_in p.k.regions p.region m) || b) (sym (named_more p.k done n m));
-      tokens = λ m d found. token_more done n d.token (t.tokens m d found);
-    } in
-    record {
-      turn = (completing-keeps {I = Turn p (done ++ n ∷ [])} first position h
-          (turn_row p (done ++ n ∷ []) first (Row.Part (PartRow.Forward (is_function h) (Some position))))
-          (turn_row p (done ++ n ∷ []) n (Row.Part (PartRow.Completing first)))).of j more;
-      forth = λ i. absurd (of_each (Misses 2 p.t) (broken_at 2 p.t) (completing first position h j).broken ((completing-only allows first position h).of j) i
-          refl);
-    }
-
-turn_by : (p : Region) (done : List ℕ) (position : ℕ) (r : RoutineTree) (j : Known) → Turn p done j → (o : Option ℕ)
-    → completed_by j p.region (routine_heading r) (routine_body r) ≡ o
-    → TurnEnds p done (routine_name r) (complete_or_define o p.region position (routine_heading r) (routine_body r) j).known
-    (complete_or_define o p.region position (routine_heading r) (routine_body r) j).broken
-turn_by p done position r j t None e = turn_defining p done (routine_heading r) (routine_body r) j t
-turn_by p done position r j t (Some first) e = turn_completing p done first position (routine_heading r) (routine_body r) j t e
-
-in_front : (b : Break) (xs : List Break) → In b (xs ++ []) → In b xs
-in_front b xs i = elim (in_either b xs [] i) [
-  | inl l ↦ l
-  | inr r ↦ absurd r
-]
-
-routine_ends : (p : Region) (done : List ℕ) (position : ℕ) (r : RoutineTree) (j : Known) → Turn p done j
-    → TurnEnds p done (routine_name r) (define_routine p.region position r j).known (define_routine p.region position r j).broken
-unfolding define_routine look ◌>>=◌ give
-routine_ends p done position r j t =
-    let d : Done (Unit {0}) =
-    complete_or_define (completed_by j p.region (routine_heading r) (routine_body r)) p.region position (routine_heading r) (routine_body r) j in
-    let e = turn_by p done position r j t (completed_by j p.region (routine_heading r) (routine_body r)) refl in
-    record { turn = e.turn; forth = λ i. e.forth (in_front (broken_at 2 p.t) d.broken i) }
-
-turns_end : (p : Region) (rs : List RoutineTree) (done : List ℕ) (position : ℕ) (j : Known) → Turn p done j
-    → In (broken_at 2 p.t) (each (define_routine p.region) position rs j).broken → Wrong (rule_two p) done (map routine_name rs)
-unfolding ◌>>=◌ give
-turns_end p [] done position j t i = absurd i
-turns_end p (r ∷ rs) done position j t i =
-    let b = broken_at 2 p.t in
-    let d = define_routine p.region position r j in
-    let e = routine_ends p done position r j t in
-    elim (in_either b d.broken (each (define_routine p.region) d.value rs d.known).broken i) [
-      | inl own ↦ inl (e.forth own)
-      | inr later ↦ inr (turns_end p rs (done ++ routine_name r ∷ []) d.value d.known e.turn later)
-    ]
-
-part_ends : (p : Region) (rs : List RoutineTree) (done : List ℕ) (j : Known) → Turn p done j
-    → In (broken_at 2 p.t) (part_steps p.region rs j).broken → Wrong (rule_two p) done (map routine_name rs)
-unfolding ◌>>=◌
-part_ends p rs done j t i =
-    let b = broken_at 2 p.t in
-    let whole = each (define_routine p.region) 0 rs j in
-    let last = each has_each tt rs whole.known in
-    elim (in_either b whole.broken last.broken i) [
-      | inl early ↦ turns_end p rs done 0 j t early
-      | inr late ↦ absurd (of_each (Misses 2 p.t) b last.broken (only_eight p.t rs whole.known) late refl)
-    ]
-
--- ---- the names of a block
-
--- those of a block after others of its region
-abbrev all_names : BlockTree → List ℕ
-all_names b = block_names b ++ routine_names b
-
--- where a name of the block is told of, or a label
-abbrev Second : Region → List ℕ → List ℕ → List ℕ → Known → Type 0
-Second p done names labels j = Wrong (rule_two p) done names ⊎ SecondLabel j p.region labels p.t
-
-four : (r : Rule) (done a b c d : List r.X) → Wrong r (((done ++ a) ++ b) ++ c) d → Wrong r done ((a ++ (b ++ c)) ++ d)
-four r done a b c d w = wrong_later r done (a ++ (b ++ c)) d (subst (λ l. Wrong r l d) same w)
-  where
-    same : (((done ++ a) ++ b) ++ c) ≡ done ++ (a ++ (b ++ c))
-    same = append_assoc (done ++ a) b c ∙ append_assoc done a (b ++ c)
-
-parts_end : (p : Region) (f : Frame) (labels : Option LabelPartTree) (consts : Option ConstantPartTree) (kinds : Option TypePartTree)
-    (variable_part : Option VariablePartTree) (routines : RoutineTrees) (done : List ℕ) (j : Known) → f.region ≡ p.region → Turn p done j
-    → In (broken_at 2 p.t) ((define_labels f labels >>= λ _. define_constants p.region consts >>= λ _. define_types p.region kinds >>= λ _.
-    define_variables p.region variable_part >>= λ _. define_routines p.region routines) j).broken
-    → Wrong (rule_two p) done ((constants_of consts ++ (types_of kinds ++ variables_of variable_part)) ++ map routine_name (routines_in routines))
-    ⊎ In (broken_at 2 p.t) (define_labels f labels j).broken
-unfolding ◌>>=◌
-parts_end p f labels consts kinds variable_part routines done j e t i =
-    let r = rule_two p in
-    let b = broken_at 2 p.t in
-    let xs = constants_of consts in
-    let ys = types_of kinds in
-    let zs = variables_of variable_part in
-    let names = map routine_name (routines_in routines) in
-    let l = define_labels f labels j in
-    let c = define_constants p.region consts l.known in
-    let d = define_types p.region kinds c.known in
-    let v = define_variables p.region variable_part d.known in
-    let s = define_routines p.region routines v.known in
-    let one = (constant_part_goes p consts).of done l.known ((labels_keep p done f e labels).of j t) in
-    let two = (type_part_goes p kinds).of (done ++ xs) c.known one.turn in
-    let three = (variable_part_goes p variable_part).of ((done ++ xs) ++ ys) d.known two.turn in
-    elim (in_either b l.broken (c.broken ++ (d.broken ++ (v.broken ++ s.broken))) i) [
-      | inl at_label ↦ inr at_label
-      | inr i ↦ elim (in_either b c.broken (d.broken ++ (v.broken ++ s.broken)) i) [
-        | inl here ↦ inl (wrong_first r done (xs ++ (ys ++ zs)) names (wrong_first r done xs (ys ++ zs) (one.forth here)))
-        | inr i ↦ elim (in_either b d.broken (v.broken ++ s.broken) i) [
-          | inl here ↦ inl (wrong_first r done (xs ++ (ys ++ zs)) names
-              (wrong_later r done xs (ys ++ zs) (wrong_first r (done ++ xs) ys zs (two.forth here))))
-          | inr i ↦ elim (in_either b v.broken s.broken i) [
-            | inl here ↦ inl (wrong_first r done (xs ++ (ys ++ zs)) names
-                (wrong_later r done xs (ys ++ zs) (wrong_later r (done ++ xs) ys zs (three.forth here))))
-            | inr here ↦ inl (four r done xs ys zs names (part_ends p (routines_in routines) (((done ++ xs) ++ ys) ++ zs) v.known three.turn
-                (subst (λ (m : Step (Unit {0})). In b (m v.known).broken) (part_listed p.region routines) here)))
-          ]
-        ]
-      ]
-    ]
-
-block_ends : (i : Known) (g : ℕ) (f : Frame) (n : ℕ) (b : BlockTree) (done : List ℕ) (j : Known) → Stands g f j
-    → Turn (record { k = i; region = f.region; t = n }) done j → In (broken_at 2 n) (define_block g b j).broken
-    → Wrong (rule_two (record { k = i; region = f.region; t = n })) done (all_names b) ⊎ SecondLabel j f.region (block_labels b) n
-unfolding look ◌>>=◌
-block_ends i g f n (tree.a_block labels consts kinds variable_part routines body) done j s t told =
-    let p : Region = record { k = i; region = f.region; t = n } in
-    let rest : Frame → Step (Unit {0}) = λ here. define_labels here labels >>= λ _. define_constants here.region consts >>= λ _.
-    define_types here.region kinds >>= λ _. define_variables here.region variable_part >>= λ _. define_routines here.region routines in
-    let here = subst (λ (h : Frame). In (broken_at 2 n) (rest h j).broken) (stands_at g f j s) told in
-    elim (parts_end p f labels consts kinds variable_part routines done j refl t here) [
-      | inl w ↦ inl w
-      | inr label ↦ inr (second_label j f labels n s.below label)
-    ]
-
-body_ends : (i : Known) (g : ℕ) (f : Frame) (n : ℕ) (body : BodyTree) (done : List ℕ) (j : Known) → Stands g f j
-    → Turn (record { k = i; region = f.region; t = n }) done j → In (broken_at 2 n) (define_body g body j).broken
-    → Wrong (rule_two (record { k = i; region = f.region; t = n })) done (names_in_body body ++ headings_in_body body)
-    ⊎ SecondLabel j f.region (labels_in_body body) n
-unfolding give
-body_ends i g f n (tree.a_directive directive) done j s t told = absurd told
-body_ends i g f n (tree.a_block_body b) done j s t told = block_ends i g f n b done j s t told
-
--- ---- the tables
-
--- the procedures and functions with their name at this token are followed by a directive
-abbrev IsDirected : ℕ → RoutineTree → Type 0
-IsDirected m r = routine_name r ≡ m → is_block (routine_body r) ≡ false
-
-abbrev AllDirected : Looked → ℕ → Type 0
-AllDirected x m = OfRoutines (IsDirected m) x.t
-
--- so it is with those with the name of this one, if it is followed by one
-abbrev Own : Looked → RoutineTree → Type 0
-Own x r = is_block (routine_body r) ≡ false → AllDirected x (routine_name r)
-
-record Tables (x : Looked) (j : Known) : Type 0 where
-  words : j.words ≡ x.k.words
-  names : j.names ≡ x.k.names
-  directed : (m : ℕ) (function : Bool) (block : Option ℕ) → row_at j m ≡ Row.Part (PartRow.Forward function block) → AllDirected x m
-
-no_forward : (r : Row) (function : Bool) (block : Option ℕ) → is_quiet r ≡ true → r ≡ Row.Part (PartRow.Forward function block) → ⊥
-no_forward r function block quiet e = let never : false ≡ true = sym (ap is_quiet e) ∙ quiet in cc
-
-put_tables : (x : Looked) (j : Known) (m : ℕ) (r : Row)
-    → ((function : Bool) (block : Option ℕ) → r ≡ Row.Part (PartRow.Forward function block) → AllDirected x m) → Tables x j → Tables x (with_row j m r)
-put_tables x j m r new s = record {
-  words = s.words;
-  names = s.names;
-  directed = λ n function block e. elim (row_either j m n r) [
-    | inl old ↦ s.directed n function block (sym old ∙ e)
-    | inr at ↦ subst (AllDirected x) (sym at.0) (new function block (sym at.1 ∙ e))
-  ];
-}
-
-record IsForwardRow (r : Row) : Type 0 where
-  function : Bool
-  block : Option ℕ
-  is : r ≡ Row.Part (PartRow.Forward function block)
-
-awaits_row : (function : Bool) (r : Row) → awaits function r ≡ true → IsForwardRow r
-awaits_row function (Row.Part (PartRow.Forward kind None)) e = record { function = kind; block = None; is = refl }
-awaits_row function r e = absurd (let never : false ≡ true = e in cc)
-
-block_row : (r : Row) (position : ℕ) → block_in r ≡ Some position → IsForwardRow r
-block_row (Row.Part (PartRow.Forward function block)) position e = record { function = function; block = block; is = refl }
-block_row r position e = absurd (let never : None ≡ Some position = e in cc)
-
-tables_last : (x : Looked) → Lasting (Own x) (Tables x)
-tables_last x = record {
-  puts = λ j m r quiet s. put_tables x j m r (λ function block e. absurd (no_forward r function block quiet e)) s;
-  stays = λ j m s. put_tables x j m (row_at j m) (λ function block e. s.directed m function block e) s;
-  bodies = λ j n r same s. record { words = s.words; names = s.names; directed = s.directed };
-  routines = λ j r s. record { words = s.words; names = s.names; directed = s.directed };
-  frames = λ j f s. record { words = s.words; names = s.names; directed = s.directed };
-  regions = λ j token f s. record { words = s.words; names = s.names; directed = s.directed };
-  defines = λ j region d at s. record { words = s.words; names = s.names; directed = s.directed };
-  requires = λ j name d behind s. record { words = s.words; names = s.names; directed = s.directed };
-  chooses = λ j list value s. record { words = s.words; names = s.names; directed = s.directed };
-  records = λ j word packed region cells variants fresh s.
-      put_tables x j word (Row.Type (TypeRow.Record packed region cells variants)) (λ function block e. absurd (no_type e)) s;
-  waits = λ j r own none s.
-      put_tables x j (routine_name r) (Row.Part (PartRow.Forward (is_function (routine_heading r)) None)) (λ function block e. own none) s;
-  completes = λ j region first position r own e s.
-      let f = completed_found j region (routine_heading r) (routine_body r) first e in
-      let row = awaits_row (is_function (routine_heading r)) (row_at j first) f.waiting in
-      let one = Row.Part (PartRow.Forward (is_function (routine_heading r)) (Some position)) in
-      put_tables x (with_row j first one) (routine_name r) (Row.Part (PartRow.Completing first)) (λ function block e. absurd (no_completing e))
-      (put_tables x j first one (λ function block e. s.directed first row.function row.block row.is) s);
-}
-  where
-    no_type : {t : TypeRow} {r : PartRow} → Row.Type t ≡ Row.Part r → ⊥
-    no_type e = cc
-
-    no_completing : {first : ℕ} {function : Bool} {block : Option ℕ} → Row.Part (PartRow.Completing first) ≡ Row.Part (PartRow.Forward function block) → ⊥
-    no_completing e = cc
-
-no_name : {n : NameRow} {r : PartRow} → Row.Name n ≡ Row.Part r → ⊥
-no_name e = cc
-
-tables_all : (x : Looked) → Declaring (Own x) (Tables x)
-tables_all x = record {
-  kept = tables_last x;
-  ends = λ j region d s. record { words = s.words; names = s.names; directed = s.directed };
-  declares = λ j region value token s. record { words = s.words; names = s.names; directed = s.directed };
-  labels = λ j token value level s. put_tables x j token (Row.Name (NameRow.Label false value level 0)) (λ function block e. absurd (no_name e)) s;
-  heads = λ j name number region named few s.
-      put_tables x j name (Row.Name (NameRow.Routine false number region)) (λ function block e. absurd (no_name e)) s;
-}
-
 -- ---- a region that is new
 
 abbrev aim : Looked → Aim
@@ -418,7 +125,7 @@ record_none x k word f fields e words first i =
     let p : Region = record { k = j; region = f.region; t = x.n } in
     let at = ap (λ (g : Frame). g.region) (stands_at (length k.frames) f j s) in
     let here = subst (λ region. In (broken_at 2 x.n) (define_in_fields Wanted.Fields region fields j).broken) at i in
-    let ends = (fields_go p Wanted.Fields fields).of [] j (begun j f.region x.n s.below) in
+    let ends = (fields_go p Wanted.Fields fields).of [] j (begin j f.region x.n s.below) in
     none_second x.k j f.region (field_names Wanted.Fields fields) x.n words (empty_new k word f e) first (ends.forth here)
 
 -- what the formal parameters come to
@@ -443,104 +150,209 @@ heading_none : (x : Looked) (k : Known) (token : ℕ) (f : Frame) (h : HeadingTr
 heading_none x k token f h e words first i =
     let j = and_region k token f in
     let s = opened k token f e in
-    let ends = formals_end j (length k.frames) f x.n h [] j s (begun j f.region x.n s.below) in
+    let ends = formals_end j (length k.frames) f x.n h [] j s (begin j f.region x.n s.below) in
     none_second x.k j f.region (heading_names h) x.n words (empty_new k token f e) first (ends.forth i)
+
+-- ---- a block in the region of a frame
+
+-- what the text says of a block
+abbrev PartOfBody : Looked → BodyTree → Type 0
+PartOfBody x (tree.a_directive directive) = Unit {0}
+PartOfBody x (tree.a_block_body b) = PartOf x (part_of b)
+
+parts_come : (x : Looked) (i : Known) (g : ℕ) (f : Frame) (names : List ℕ) (labels : Option LabelPartTree) (consts : Option ConstantPartTree)
+    (kinds : Option TypePartTree) (variable_part : Option VariablePartTree) (routines : RoutineTrees) (body : CompoundTree) (j : Known)
+    → let b = tree.a_block labels consts kinds variable_part routines body in
+    Begun x i f.region → Opened (Tables x) g f j → Turn (place x i f.region) names j → IsNoSecondIn x.k x.n names (tree.a_block_body b)
+    → Stated x.k x.t b → Each (Nobody x.t) names → PartOf x routines
+    → let d = (define_labels f labels >>= λ _. define_constants f.region consts >>= λ _. define_types f.region kinds >>= λ _.
+    define_variables f.region variable_part >>= λ _. define_routines f.region routines) j in Comes x d.known d.broken
+unfolding ◌>>=◌
+parts_come x i g f names labels consts kinds variable_part routines body j begun s turned first st nobody own =
+    let p = place x i f.region in
+    let r = rule_two p in
+    let n = broken_at 2 x.n in
+    let xs = constants_of consts in
+    let ys = types_of kinds in
+    let zs = variables_of variable_part in
+    let all = names ++ (xs ++ (ys ++ zs)) in
+    let l = define_labels f labels j in
+    let c = define_constants f.region consts l.known in
+    let d = define_types f.region kinds c.known in
+    let v = define_variables f.region variable_part d.known in
+    let w = define_routines f.region routines v.known in
+    let one = (constant_part_goes p consts).of names l.known ((labels_keep p names f refl labels).of j turned) in
+    let two = (type_part_goes p kinds).of (names ++ xs) c.known one.turn in
+    let three = (variable_part_goes p variable_part).of ((names ++ xs) ++ ys) d.known two.turn in
+    let labelled = (define_labels-lasts (tables_all x) f labels).of j s.kept in
+    let defined = (define_constants-lasts (tables_all x).ends f.region consts).of l.known labelled in
+    let typed = (define_types-lasts (tables_last x) (tables_all x).ends f.region kinds).of c.known defined in
+    let varied = (define_variables-lasts (tables_last x) f.region variable_part).of d.known typed in
+    let same : ((names ++ xs) ++ ys) ++ zs ≡ all = append_assoc (names ++ xs) ys zs ∙ append_assoc names xs (ys ++ zs) in
+    let come = part_comes x i f.region all routines v.known begun own first.headings st.all st.seats
+    (both (Nobody x.t) names (xs ++ (ys ++ zs)) nobody st.names) (subst (λ m. Turn p m v.known) same three.turn) varied in
+    let never : Wrong r names (xs ++ (ys ++ zs)) → ⊥ = λ wrong. none_second x.k i f.region all x.n begun.words begun.empty first.names
+    (wrong_later r [] names (xs ++ (ys ++ zs)) wrong) in
+    record {
+      tables = come.tables;
+      none = λ told. elim (in_either n l.broken (c.broken ++ (d.broken ++ (v.broken ++ w.broken))) told) [
+        | inl at_label ↦
+            none_label x.k j f.region (labels_of labels) x.n s.kept.orderly.both.sound.words s.none first.labels
+            (second_label j f labels x.n s.stands.below at_label)
+        | inr later ↦ elim (in_either n c.broken (d.broken ++ (v.broken ++ w.broken)) later) [
+          | inl here ↦ never (wrong_first r names xs (ys ++ zs) (one.forth here))
+          | inr later ↦ elim (in_either n d.broken (v.broken ++ w.broken) later) [
+            | inl here ↦ never (wrong_later r names xs (ys ++ zs) (wrong_first r (names ++ xs) ys zs (two.forth here)))
+            | inr later ↦ elim (in_either n v.broken w.broken later) [
+              | inl here ↦ never (wrong_later r names xs (ys ++ zs) (wrong_later r (names ++ xs) ys zs (three.forth here)))
+              | inr here ↦ come.none here
+            ]
+          ]
+        ]
+      ];
+    }
+
+block_comes : (x : Looked) (i : Known) (g : ℕ) (f : Frame) (names : List ℕ) (b : BlockTree) (j : Known) → Begun x i f.region → Opened (Tables x) g f j
+    → Turn (place x i f.region) names j → IsNoSecondIn x.k x.n names (tree.a_block_body b) → Stated x.k x.t b → Each (Nobody x.t) names
+    → PartOf x (part_of b) → let d = define_block g b j in Comes x d.known d.broken
+unfolding look ◌>>=◌
+block_comes x i g f names (tree.a_block labels consts kinds variable_part routines body) j begun s turned first st nobody own =
+    let rest : Frame → Step (Unit {0}) = λ here. define_labels here labels >>= λ _. define_constants here.region consts >>= λ _.
+    define_types here.region kinds >>= λ _. define_variables here.region variable_part >>= λ _. define_routines here.region routines in
+    subst (λ (h : Frame). Comes x (rest h j).known (rest h j).broken) (sym (stands_at g f j s.stands))
+    (parts_come x i g f names labels consts kinds variable_part routines body j begun s turned first st nobody own)
+
+-- a body that stands well in the region of some names
+record Suits (x : Looked) (names : List ℕ) (body : BodyTree) : Type 1 where
+  first : IsNoSecondIn x.k x.n names body
+  stated : StatedIn x.k x.t body
+  part : PartOfBody x body
+
+body_comes : (x : Looked) (i : Known) (g : ℕ) (f : Frame) (names : List ℕ) (body : BodyTree) (j : Known) → Begun x i f.region → Opened (Tables x) g f j
+    → Turn (place x i f.region) names j → Each (Nobody x.t) names → Suits x names body
+    → let d = define_body g body j in Comes x d.known d.broken
+unfolding give
+body_comes x i g f names (tree.a_directive directive) j begun s turned nobody fits = record { tables = s.kept; none = λ told. told }
+body_comes x i g f names (tree.a_block_body b) j begun s turned nobody fits =
+    block_comes x i g f names b j begun s turned fits.first fits.stated nobody fits.part
+
+-- the block of the heading itself, or that of the heading that completes it
+either_comes : (x : Looked) (i : Known) (g : ℕ) (f : Frame) (names : List ℕ) (body : BodyTree) (o : Option RoutineTree) (j : Known) → Begun x i f.region
+    → Opened (Tables x) g f j → Turn (place x i f.region) names j → Each (Nobody x.t) names → Suits x names body
+    → ((c : RoutineTree) → o ≡ Some c → Suits x names (routine_body c)) → (is_block body ≡ true → o ≡ None)
+    → let d = (define_body g body >>= λ _. define_completion g o) j in Comes x d.known d.broken
+unfolding give ◌>>=◌
+either_comes x i g f names body None j begun s turned nobody fits other alone =
+    let c = body_comes x i g f names body j begun s turned nobody fits in
+    record { tables = c.tables; none = λ told. c.none (in_front (broken_at 2 x.n) (define_body g body j).broken told) }
+either_comes x i g f names (tree.a_directive directive) (Some c) j begun s turned nobody fits other alone =
+    body_comes x i g f names (routine_body c) j begun s turned nobody (other c refl)
+either_comes x i g f names (tree.a_block_body b) (Some c) j begun s turned nobody fits other alone =
+    absurd (let never : Some c ≡ None = alone refl in cc)
 
 -- ---- the region of a procedure or function
 
+-- one after these
+abbrev Exactly : List RoutineTree → RoutineTree → Kind
+Exactly before r others q = (before ≡ others) × (r ≡ q)
+
 record Site (x : Looked) (rs : RoutineTrees) (r : RoutineTree) : Type 0 where
-  directed : Own x r
-  back : AllDirected x (routine_name r) → is_block (routine_body r) ≡ false
-  inner : OfBody (Own x) (routine_body r)
-  first : IsNoSecondOf x.k x.n r
-  joined : (position : ℕ) (c : RoutineTree) → routine_at rs position ≡ Some c → is_block (routine_body r) ≡ false
-      → IsNoSecondName x.k x.n (heading_names (routine_heading r) ++ (names_in_body (routine_body c) ++ headings_in_body (routine_body c)))
+  before : List RoutineTree
+  at : SomeAt (Exactly before r) (routine_name r) x.t
+  text : OfRoutine (IsOfText x.k x.t) r
+  first : IsNoSecondIn x.k x.n (heading_names (routine_heading r)) (routine_body r)
+  back : (position : ℕ) (c : RoutineTree) → AllJoined x (routine_name r) position → routine_at rs position ≡ Some c
+      → IsNoSecondIn x.k x.n (heading_names (routine_heading r)) (routine_body c)
+  part : PartOfBody x (routine_body r)
 
--- what is known after the formal parameters: none of what may follow is second
-record Firsts (x : Looked) (names : List ℕ) (body : BodyTree) : Type 0 where
-  names_first : IsNoSecondName x.k x.n (names ++ (names_in_body body ++ headings_in_body body))
-  labels_first : IsNoSecondLabel x.k x.n (labels_in_body body)
+mutual
+  seats_block : (t b : BlockTree) (before : List RoutineTree) (r : RoutineTree) (n : ℕ) → Seats t b → SomeAt (Exactly before r) n b → SeatsOf t before r
+  seats_block t (tree.a_block labels constants types variables routines body) before r n seats h = seats_each t [] routines before r n seats h
 
-body_none : (x : Looked) (i : Known) (g : ℕ) (f : Frame) (names : List ℕ) (body : BodyTree) (j : Known) → i.words ≡ x.k.words → Empty i f.region
-    → Opened (Tables x) g f j → Turn (record { k = i; region = f.region; t = x.n }) names j → Firsts x names body
-    → In (broken_at 2 x.n) (define_body g body j).broken → ⊥
-body_none x i g f names body j words empty s t first told =
-    let p : Region = record { k = i; region = f.region; t = x.n } in
-    let rest = names_in_body body ++ headings_in_body body in
-    elim (body_ends i g f x.n body names j s.stands t told) [
-      | inl w ↦ none_second x.k i f.region (names ++ rest) x.n words empty first.names_first (wrong_later (rule_two p) [] names rest w)
-      | inr label ↦ none_label x.k j f.region (labels_in_body body) x.n s.kept.words s.none first.labels_first label
-    ]
+  seats_each : (t : BlockTree) (others : List RoutineTree) (rs : RoutineTrees) (before : List RoutineTree) (r : RoutineTree) (n : ℕ) → SeatsIn t others rs
+      → SomeIn (Exactly before r) n others rs → SeatsOf t before r
+  seats_each t others tree.end_of_routines before r n seats h = absurd h
+  seats_each t others (tree.more_routines q rest) before r n seats (inl h) = seats_one t others q before r n seats.0 h
+  seats_each t others (tree.more_routines q rest) before r n seats (inr h) = seats_each t (others ++ q ∷ []) rest before r n seats.1 h
 
--- the block of the heading itself, or that of the heading that completes it
-either_none : (x : Looked) (i : Known) (g : ℕ) (f : Frame) (names : List ℕ) (body : BodyTree) (o : Option RoutineTree) (j : Known) → i.words ≡ x.k.words
-    → Empty i f.region → Opened (Tables x) g f j → Turn (record { k = i; region = f.region; t = x.n }) names j → Firsts x names body
-    → ((c : RoutineTree) → o ≡ Some c → (is_block body ≡ false) × Firsts x names (routine_body c))
-    → In (broken_at 2 x.n) ((define_body g body >>= λ _. define_completion g o) j).broken → ⊥
-unfolding give ◌>>=◌
-either_none x i g f names body None j words empty s t first other told =
-    body_none x i g f names body j words empty s t first (in_front (broken_at 2 x.n) (define_body g body j).broken told)
-either_none x i g f names (tree.a_directive directive) (Some c) j words empty s t first other told =
-    body_none x i g f names (routine_body c) j words empty s t (other c refl).1 told
-either_none x i g f names (tree.a_block_body b) (Some c) j words empty s t first other told =
-    absurd (let never : true ≡ false = (other c refl).0 in cc)
+  seats_one : (t : BlockTree) (others : List RoutineTree) (q : RoutineTree) (before : List RoutineTree) (r : RoutineTree) (n : ℕ) → SeatsOf t others q
+      → SomeOf (Exactly before r) n others q → SeatsOf t before r
+  seats_one t others (tree.a_routine heading semicolon body last_semicolon) before r n seats (inl h) =
+      subst (λ (l : List RoutineTree). SeatsOf t l r) (sym h.1.0) (subst (λ (s : RoutineTree). SeatsOf t others s) (sym h.1.1) seats)
+  seats_one t others (tree.a_routine heading semicolon body last_semicolon) before r n seats (inr h) = seats_body t body before r n seats.1 h
 
-completed_firsts : (x : Looked) (k : Known) (rs : RoutineTrees) (r : RoutineTree) (o : Option RoutineTree) → Tables x k → Site x rs r → o ≡ completion_of k rs r
-    → Completes (Site x rs) o → (c : RoutineTree) → o ≡ Some c
-    → (is_block (routine_body r) ≡ false) × Firsts x (heading_names (routine_heading r)) (routine_body c)
-completed_firsts x k rs r None s site is seen c e = absurd (let never : None ≡ Some c = e in cc)
-completed_firsts x k rs r (Some d) s site is seen c e = at (block_in (row_at k (routine_name r))) refl (sym is)
+  seats_body : (t : BlockTree) (body : BodyTree) (before : List RoutineTree) (r : RoutineTree) (n : ℕ) → SeatsInside t body
+      → SomeInside (Exactly before r) n body → SeatsOf t before r
+  seats_body t (tree.a_directive directive) before r n seats h = absurd h
+  seats_body t (tree.a_block_body b) before r n seats h = seats_block t b before r n seats h
+
+stated_at : (x : Looked) (rs : RoutineTrees) (r : RoutineTree) → Seats x.t x.t → (site : Site x rs r) → StatedOf x.k x.t site.before r
+stated_at x rs r seats site =
+    routine_stated x.k x.t site.before r site.text (seats_block x.t x.t site.before r (routine_name r) seats site.at)
+
+record IsPlaced (row : Row) (position : ℕ) : Type 0 where
+  function : Bool
+  is : row ≡ Row.Part (PartRow.Forward function (Some position))
+
+placed : (row : Row) (position : ℕ) → block_in row ≡ Some position → IsPlaced row position
+placed (Row.Part (PartRow.Forward function block)) position e =
+    record { function = function; is = ap (λ (b : Option ℕ). Row.Part (PartRow.Forward function b)) e }
+placed row position e = absurd (let never : None ≡ Some position = e in cc)
+
+completed_fits : (x : Looked) (k : Known) (rs : RoutineTrees) (r : RoutineTree) (o : Option RoutineTree) → Seats x.t x.t → Tables x k → Site x rs r
+    → o ≡ completion_of k rs r → Completes (Site x rs) o → (c : RoutineTree) → o ≡ Some c → Suits x (heading_names (routine_heading r)) (routine_body c)
+completed_fits x k rs r None seats s site is seen c e = absurd (let never : None ≡ Some c = e in cc)
+completed_fits x k rs r (Some d) seats s site is seen c e = at (block_in (row_at k (routine_name r))) refl (sym is)
   where
     same : d ≡ c
     same = same_Some d c e
 
     at : (b : Option ℕ) → block_in (row_at k (routine_name r)) ≡ b → routine_if_any rs b ≡ Some d
-        → (is_block (routine_body r) ≡ false) × Firsts x (heading_names (routine_heading r)) (routine_body c)
+        → Suits x (heading_names (routine_heading r)) (routine_body c)
     at None row found = absurd (let never : None ≡ Some d = found in cc)
     at (Some position) row found =
-        let f = block_row (row_at k (routine_name r)) position row in
-        let directed = site.back (s.directed (routine_name r) f.function f.block f.is) in
-        let firsts : Firsts x (heading_names (routine_heading r)) (routine_body d) = record {
-          names_first = site.joined position d found directed;
-          labels_first = seen.first.labels;
+        let p = placed (row_at k (routine_name r)) position row in
+        let fits : Suits x (heading_names (routine_heading r)) (routine_body d) = record {
+          first = site.back position d (s.joined (routine_name r) p.function position p.is) found;
+          stated = (stated_at x rs d seats seen).body;
+          part = seen.part;
         } in
-        (directed, subst (λ (q : RoutineTree). Firsts x (heading_names (routine_heading r)) (routine_body q)) same firsts)
+        subst (λ (q : RoutineTree). Suits x (heading_names (routine_heading r)) (routine_body q)) same fits
 
-inside_none : (x : Looked) (k : Known) (f : Frame) (rs : RoutineTrees) (r : RoutineTree) (o : Option RoutineTree) → Tables x k → f.region ≡ length k.regions
+inside_comes : (x : Looked) (k : Known) (f : Frame) (rs : RoutineTrees) (r : RoutineTree) (o : Option RoutineTree) → Seats x.t x.t → Tables x k
+    → f.region ≡ length k.regions
     → Site x rs r → o ≡ completion_of k rs r → Completes (Site x rs) o
-    → In (broken_at 2 x.n) (define_inside (length k.frames) (routine_heading r) (routine_body r) o (and_region k (routine_name r) f)).broken → ⊥
+    → let d = define_inside (length k.frames) (routine_heading r) (routine_body r) o (and_region k (routine_name r) f) in Comes x d.known d.broken
 unfolding define_inside ◌>>=◌
-inside_none x k f rs r o s e site is seen told =
+inside_comes x k f rs r o seats s e site is seen =
     let j = and_region k (routine_name r) f in
     let g = length k.frames in
     let h = routine_heading r in
     let names = heading_names h in
     let body = routine_body r in
     let b = broken_at 2 x.n in
+    let st = stated_at x rs r seats site in
     let stands = opened k (routine_name r) f e in
     let start : Opened (Tables x) g f j = record {
       kept = (tables_last x).regions k (routine_name r) f s;
       stands = stands;
       none = unlabelled_new k (routine_name r) f e;
     } in
-    let empty = empty_new k (routine_name r) f e in
+    let begun : Begun x j f.region = record { words = s.orderly.both.sound.words; empty = empty_new k (routine_name r) f e } in
     let d = define_formals_at g h j in
-    let ends = formals_end j g f x.n h [] j stands (begun j f.region x.n stands.below) in
+    let ends = formals_end j g f x.n h [] j stands (begin j f.region x.n stands.below) in
     let next = (define_formals_at-lasts (opened_lasts (tables_last x) g f) g h).of j start in
-    let all = append_assoc names (names_in_body body) (headings_in_body body) in
-    let first : Firsts x names body = record {
-      names_first = subst (IsNoSecondName x.k x.n) all site.first.names;
-      labels_first = site.first.labels;
-    } in
-    elim (in_either b d.broken ((define_body g body >>= λ _. define_completion g o) d.known).broken told) [
-      | inl here ↦ none_second x.k j f.region (names ++ (names_in_body body ++ headings_in_body body)) x.n s.words empty first.names_first
-          (wrong_first (rule_two (record { k = j; region = f.region; t = x.n })) [] names (names_in_body body ++ headings_in_body body) (ends.forth here))
-      | inr later ↦ either_none x j g f names body o d.known s.words empty next ends.turn first (completed_firsts x k rs r o s site is seen) later
-    ]
-
-inner_of : (x : Looked) (rs : RoutineTrees) (o : Option RoutineTree) → Completes (Site x rs) o → OfCompletion (Own x) o
-inner_of x rs None seen = tt
-inner_of x rs (Some c) seen = seen.inner
+    let rest = either_comes x j g f names body o d.known begun next ends.turn st.seat.formals
+    (record { first = site.first; stated = st.body; part = site.part }) (completed_fits x k rs r o seats s site is seen)
+    (λ block. is ∙ completed_by_none x.k x.t k site.before rs r s.orderly st.seat block) in
+    record {
+      tables = rest.tables;
+      none = λ told. elim (in_either b d.broken ((define_body g body >>= λ _. define_completion g o) d.known).broken told) [
+        | inl here ↦ none_second x.k j f.region (names ++ names_in_body body) x.n begun.words begun.empty site.first.names
+            (wrong_first (rule_two (place x j f.region)) [] names (names_in_body body) (ends.forth here))
+        | inr later ↦ rest.none later
+      ];
+    }
 
 abbrev IsTold : Break → Type 0
 IsTold b = Unit {0}
@@ -551,10 +363,10 @@ FirstFields x fields = IsNoSecondName x.k x.n (field_names Wanted.Fields fields)
 abbrev FirstFormals : Looked → HeadingTree → Type 0
 FirstFormals x h = IsNoSecondName x.k x.n (heading_names h)
 
-entering : (x : Looked) → Entering (FirstFields x) (FirstFormals x) (Site x) (Tables x) IsTold (aim x)
-entering x = record {
+entering : (x : Looked) → Seats x.t x.t → Entering (FirstFields x) (FirstFormals x) (Site x) (Tables x) IsTold (aim x)
+entering x seats = record {
   low = without (tables_all x);
-  spelled = λ k s. s.words;
+  spelled = λ k s. s.orderly.both.sound.words;
   records = record {
     plain = plain x;
     fields = λ k word f fields e words first. each_in x.n (define_record (length k.frames) fields (and_region k word f)).broken
@@ -565,12 +377,12 @@ entering x = record {
     formals = λ k token f h e words first. each_in x.n (define_formals_at (length k.frames) h (and_region k token f)).broken
         (heading_none x k token f h e words first);
   };
-  inside = λ k f rs r o s e site is seen. record {
-    kept = (define_inside-lasts (tables_all x) (length k.frames) (routine_heading r) (routine_body r) o site.inner (inner_of x rs o seen)).of
-        (and_region k (routine_name r) f) ((tables_last x).regions k (routine_name r) f s);
-    told = λ w. each_in x.n (define_inside (length k.frames) (routine_heading r) (routine_body r) o (and_region k (routine_name r) f)).broken
-        (inside_none x k f rs r o s e site is seen);
-  };
+  inside = λ k f rs r o s e site is seen.
+      let c = inside_comes x k f rs r o seats s e site is seen in
+      record {
+        kept = c.tables;
+        told = λ w. each_in x.n (define_inside (length k.frames) (routine_heading r) (routine_body r) o (and_region k (routine_name r) f)).broken c.none;
+      };
 }
 
 -- ---- the program's block
@@ -589,150 +401,161 @@ parameters_same : (k j : Known) (o : Option ParametersTree) → j.words ≡ k.wo
 parameters_same k j None words names = refl
 parameters_same k j (Some p) words names = files_same k j (listed_names p.names) words names
 
-program_none : (x : Looked) (t : ProgramTree) (k : Known) (f : Frame) → Tables x k → f.region ≡ length k.regions
-    → IsNoSecondName x.k x.n (parameter_names x.k t.parameters ++ all_names t.block) → IsNoSecondLabel x.k x.n (block_labels t.block)
-    → In (broken_at 2 x.n) (define_program (length k.frames) t (and_region k 0 f)).broken → ⊥
+program_comes : (x : Looked) (t : ProgramTree) (k : Known) (f : Frame) → x.t ≡ t.block → IsDistinct (tree_node t) → Stated x.k x.t t.block → Tables x k
+    → f.region ≡ length k.regions → IsNoSecondIn x.k x.n (parameter_names x.k t.parameters) (tree.a_block_body t.block) → PartOf x (part_of t.block)
+    → let d = define_program (length k.frames) t (and_region k 0 f) in Comes x d.known d.broken
 unfolding define_program look ◌>>=◌
-program_none x t k f s e first labels told =
+program_comes x t k f is distinct st s e first own =
     let j = and_region k 0 f in
     let g = length k.frames in
     let b = broken_at 2 x.n in
-    let p : Region = record { k = j; region = f.region; t = x.n } in
     let stands = opened k 0 f e in
-    let empty = empty_new k 0 f e in
+    let begun : Begun x j f.region = record { words = s.orderly.both.sound.words; empty = empty_new k 0 f e } in
     let start : Opened (Tables x) g f j = record {
       kept = (tables_last x).regions k 0 f s;
       stands = stands;
       none = unlabelled_new k 0 f e;
     } in
-    let at = ap (λ (h : Frame). h.region) (stands_at g f j stands) in
     let rest : ℕ → Step (Unit {0}) = λ region. program_parameters region t.parameters >>= λ _. define_block g t.block in
-    let here = subst (λ region. In b (rest region j).broken) at told in
     let d = program_parameters f.region t.parameters j in
-    let ends = (parameters_go p t.parameters).of [] j (begun j f.region x.n stands.below) in
+    let ends = (parameters_go (place x j f.region) t.parameters).of [] j (begin j f.region x.n stands.below) in
     let next = (program_parameters-lasts (opened_lasts (tables_last x) g f) f.region t.parameters).of j start in
     let names = parameter_names j t.parameters in
-    let all : IsNoSecondName x.k x.n (names ++ all_names t.block)
-    = subst (λ l. IsNoSecondName x.k x.n (l ++ all_names t.block)) (sym (parameters_same x.k j t.parameters s.words s.names)) first in
-    elim (in_either b d.broken (define_block g t.block d.known).broken here) [
-      | inl own ↦ none_second x.k j f.region (names ++ all_names t.block) x.n s.words empty all
-          (wrong_first (rule_two p) [] names (all_names t.block) (ends.forth own))
-      | inr later ↦ elim (block_ends j g f x.n t.block names d.known next.stands ends.turn later) [
-        | inl w ↦ none_second x.k j f.region (names ++ all_names t.block) x.n s.words empty all (wrong_later (rule_two p) [] names (all_names t.block) w)
-        | inr label ↦ none_label x.k d.known f.region (block_labels t.block) x.n next.kept.words next.none labels label
-      ]
-    ]
+    let roomy = s.orderly.both.roomy in
+    let same = parameters_same x.k j t.parameters roomy.words roomy.names in
+    let all : IsNoSecondIn x.k x.n names (tree.a_block_body t.block)
+    = subst (λ l. IsNoSecondIn x.k x.n l (tree.a_block_body t.block)) (sym same) first in
+    let nobody : Each (Nobody x.t) names = subst (λ (c : BlockTree). Each (Nobody c) names) (sym is) (parameters-in (Nobody t.block) j t.parameters
+    (every_has (Nobody t.block) (parameters_node t.parameters) (λ n has some. distinct.1.1.2 n has (inr (inl (block_has AnyKind n t.block some)))))) in
+    let come = block_comes x j g f names t.block d.known begun next ends.turn all st nobody own in
+    let here : Comes x (rest f.region j).known (rest f.region j).broken = record {
+      tables = come.tables;
+      none = λ told. elim (in_either b d.broken (define_block g t.block d.known).broken told) [
+        | inl early ↦ none_second x.k j f.region (names ++ block_names t.block) x.n begun.words begun.empty all.names
+            (wrong_first (rule_two (place x j f.region)) [] names (block_names t.block) (ends.forth early))
+        | inr later ↦ come.none later
+      ];
+    } in
+    subst (λ region. Comes x (rest region j).known (rest region j).broken) (ap (λ (h : Frame). h.region) (sym (stands_at g f j stands))) here
 
--- ---- where a token stands
+-- ---- how many there are in a part
 
-mutual
-  unnamed_block : (m : ℕ) (b : BlockTree) → (Has (block_node b) m → ⊥) → OfRoutines (IsDirected m) b
-  unnamed_block m (tree.a_block labels constants types variables routines body) off = unnamed_part m routines (λ h. off (inr (inr (inr (inr (inl h))))))
+more_than : (xs : List Item) (x : Item) (ys : List Item) → 1 ≤ length (xs ++ x ∷ ys)
+more_than xs x ys = let all = length-append xs (x ∷ ys) in omega (arith, all)
 
-  unnamed_part : (m : ℕ) (rs : RoutineTrees) → (Has (routines_node rs) m → ⊥) → OfEach (IsDirected m) rs
-  unnamed_part m tree.end_of_routines off = tt
-  unnamed_part m (tree.more_routines r rest) off = (unnamed_routine m r (λ h. off (inl h)), unnamed_part m rest (λ h. off (inr h)))
+one_token : (heading : HeadingTree) (semicolon : ℕ) (body : BodyTree) (last_semicolon : ℕ)
+    → 1 ≤ length (spell (routine_node (tree.a_routine heading semicolon body last_semicolon)))
+one_token heading semicolon body last_semicolon = more_than (spell (heading_node heading)) _ _
 
-  unnamed_routine : (m : ℕ) (r : RoutineTree) → (Has (routine_node r) m → ⊥) → OfRoutine (IsDirected m) r
-  unnamed_routine m (tree.a_routine heading semicolon body last_semicolon) off = (
-    (λ e. absurd (off (inl (subst (Has (heading_node heading)) e (name_has heading))))),
-    unnamed_body m body (λ h. off (inr (inr (inl h)))),
-  )
+few_routines : (rs : RoutineTrees) → length (routines_in rs) ≤ length (spell (routines_node rs))
+few_routines tree.end_of_routines = omega arith
+few_routines (tree.more_routines (tree.a_routine heading semicolon body last_semicolon) rest) =
+    let r = tree.a_routine heading semicolon body last_semicolon in
+    let more = few_routines rest in
+    let all = length-append (spell (routine_node r)) (spell (routines_node rest)) in
+    let own = one_token heading semicolon body last_semicolon in
+    omega (arith, more, all, own)
 
-  unnamed_body : (m : ℕ) (body : BodyTree) → (Has (body_node body) m → ⊥) → OfBody (IsDirected m) body
-  unnamed_body m (tree.a_directive directive) off = tt
-  unnamed_body m (tree.a_block_body b) off = unnamed_block m b off
+few_part : (rs : RoutineTrees) → Short 0 (routines_node rs) → length (routines_in rs) ≤ 4294967295
+few_part rs short = let is = short.is in let few = few_routines rs in omega (arith, is, few)
 
 -- ---- all procedures and functions of a text
 
--- one of a list
-abbrev pub Member : RoutineTree → List RoutineTree → Type 0
-Member r [] = ⊥
-Member r (q ∷ qs) = (q ≡ r) ⊎ Member r qs
+after_each : (P : List RoutineTree → RoutineTree → Type 0) (done : List RoutineTree) (rs : RoutineTrees) → OfEachAfter P done rs → (before : List RoutineTree)
+    (s : RoutineTree) (after : List RoutineTree) → routines_in rs ≡ before ++ s ∷ after → P (done ++ before) s
+after_each P done tree.end_of_routines h [] s after e = absurd (let never : [] ≡ s ∷ after = e in cc)
+after_each P done tree.end_of_routines h (y ∷ ys) s after e = absurd (let never : [] ≡ y ∷ (ys ++ s ∷ after) = e in cc)
+after_each P done (tree.more_routines r rest) h [] s after e =
+    let at : r ≡ s = (let same : r ∷ routines_in rest ≡ s ∷ after = e in cc) in
+    subst (λ l. P l s) (sym (append-nil done)) (subst (P done) at (own r h.0))
+  where
+    own : (q : RoutineTree) → OfRoutineAfter P done q → P done q
+    own (tree.a_routine heading semicolon body last_semicolon) g = g.0
+after_each P done (tree.more_routines r rest) h (y ∷ ys) s after e =
+    let at : r ≡ y = (let same : r ∷ routines_in rest ≡ y ∷ (ys ++ s ∷ after) = e in cc) in
+    let more : routines_in rest ≡ ys ++ s ∷ after = (let same : r ∷ routines_in rest ≡ y ∷ (ys ++ s ∷ after) = e in cc) in
+    subst (λ l. P l s) (append_assoc done (r ∷ []) ys ∙ ap (λ q. done ++ q ∷ ys) at) (after_each P (done ++ r ∷ []) rest h.1 ys s after more)
 
-pub contains : (r : RoutineTree) (rs : List RoutineTree) → Member r rs → Contains rs r
-contains r [] h = absurd h
-contains r (q ∷ qs) (inl e) = (0, omega arith, e)
-contains r (q ∷ qs) (inr h) = let c = contains r qs h in (suc c.0, omega (arith, c.1), c.2)
-
-member_at : (rs : RoutineTrees) (position : ℕ) (c : RoutineTree) → routine_at rs position ≡ Some c → Member c (routines_in rs)
-member_at tree.end_of_routines position c e = absurd (let never : None ≡ Some c = e in cc)
-member_at (tree.more_routines r rest) zero c e = inl (same_Some r c e)
-member_at (tree.more_routines r rest) (suc position) c e = inr (member_at rest position c e)
+body_part : (x : Looked) (body : BodyTree) → IsDistinct (body_node body) → Short 0 (body_node body)
+    → ((m p : ℕ) → Has (body_node body) m → PartsInBody (JoinedAt x m p) body → AllJoined x m p) → OfBodyAfter (IsNoSecondOf x.k x.n) body
+    → PartOfBody x body
+body_part x (tree.a_directive directive) d short forward firsts = tt
+body_part x (tree.a_block_body (tree.a_block labels constants types variables routines body)) d short forward firsts = record {
+  few = few_part routines (short_left (short_right (short_right (short_right (short_right short)))));
+  one = λ q r a b e. one_of_name routines q r d.1.1.1.1.0 a b e;
+  joined = λ before s after e second. subst (λ l. IsNoSecondIn x.k x.n l (routine_body s)) (formals_first x.k before s (second_named x.k before s second))
+      ((after_each (IsNoSecondOf x.k x.n) [] routines firsts before s after e).joined second);
+  forward = λ m p q among e here.
+      forward m p (inr (inr (inr (inr (inl (subst (Has (routines_node routines)) e (member_has q routines among)))))))
+      (here, inside_each x m p routines q d.1.1.1.1.0 among e);
+}
 
 abbrev SeenPart : Looked → (all rs : RoutineTrees) → Type 0
 SeenPart x all rs = SeenEach (FirstFields x) (FirstFormals x) (Site x) all rs
 
--- what is known of each procedure and function
-abbrev Firsts2 : Looked → RoutineTree → Type 0
-Firsts2 x r = IsNoSecondOf x.k x.n r × IsNoSecondJoined x.k x.n (routines_in_body (routine_body r))
-
 mutual
-  own_block : (x : Looked) (b : BlockTree) → SeenBlock (FirstFields x) (FirstFormals x) (Site x) b → OfRoutines (Own x) b
-  own_block x (tree.a_block labels constants types variables routines body) h = own_part x routines routines h
-
-  own_part : (x : Looked) (all rs : RoutineTrees) → SeenPart x all rs → OfEach (Own x) rs
-  own_part x all tree.end_of_routines h = tt
-  own_part x all (tree.more_routines r rest) h = (own_routine x all r h.0, own_part x all rest h.1)
-
-  own_routine : (x : Looked) (all : RoutineTrees) (r : RoutineTree) → SeenRoutine (FirstFields x) (FirstFormals x) (Site x) all r → OfRoutine (Own x) r
-  own_routine x all (tree.a_routine heading semicolon body last_semicolon) h = (h.0.site.directed, own_body x body h.1)
-
-  own_body : (x : Looked) (body : BodyTree) → SeenBody (FirstFields x) (FirstFormals x) (Site x) body → OfBody (Own x) body
-  own_body x (tree.a_directive directive) h = tt
-  own_body x (tree.a_block_body b) h = own_block x b h
-
-mutual
-  site_block : (x : Looked) (b : BlockTree) → IsDistinct (block_node b)
-      → ((m : ℕ) → Has (block_node b) m → OfRoutines (IsDirected m) b → AllDirected x m) → ((m : ℕ) → AllDirected x m → OfRoutines (IsDirected m) b)
-      → OfRecordsIn (FirstFields x) b → IsNoSecondJoined x.k x.n (block_routines b) → OfRoutines (Firsts2 x) b
+  site_block : (x : Looked) (b : BlockTree) → IsDistinct (block_node b) → Short 0 (block_node b)
+      → ((before : List RoutineTree) (r : RoutineTree) (n : ℕ) → SomeAt (Exactly before r) n b → SomeAt (Exactly before r) n x.t)
+      → ((m p : ℕ) → Has (block_node b) m → OfParts (JoinedAt x m p) b → AllJoined x m p) → ((m p : ℕ) → AllJoined x m p → OfParts (JoinedAt x m p) b)
+      → OfRecordsIn (FirstFields x) b → OfRoutines (IsOfText x.k x.t) b → OfRoutinesAfter (IsNoSecondOf x.k x.n) b
       → SeenBlock (FirstFields x) (FirstFormals x) (Site x) b
-  site_block x (tree.a_block labels constants types variables routines body) d forward back records joined firsts =
-      site_part x routines routines d.1.1.1.1.0 (λ m has f. forward m (inr (inr (inr (inr (inl has))))) f) back records.2 joined (λ r h. h) firsts
+  site_block x (tree.a_block labels constants types variables routines body) d short up forward back records text firsts =
+      site_part x routines [] routines d.1.1.1.1.0 d.1.1.1.1.0 (short_left (short_right (short_right (short_right (short_right short)))))
+      (λ before r n h. up before r n h)
+      (λ m p has off here. forward m p (inr (inr (inr (inr (inl has))))) ((λ q c among e at. absurd (off q among e)), here))
+      (λ m p a. (back m p a).0) (λ m p a. (back m p a).1) records.2 (λ r h. h) text firsts
 
-  site_part : (x : Looked) (all rs : RoutineTrees) → IsDistinct (routines_node rs)
-      → ((m : ℕ) → Has (routines_node rs) m → OfEach (IsDirected m) rs → AllDirected x m) → ((m : ℕ) → AllDirected x m → OfEach (IsDirected m) rs)
-      → InRoutines (FirstFields x) rs → IsNoSecondJoined x.k x.n (routines_in all)
-      → ((r : RoutineTree) → Member r (routines_in rs) → Member r (routines_in all))
-      → OfEach (Firsts2 x) rs → SeenPart x all rs
-  site_part x all tree.end_of_routines d forward back records joined among firsts = tt
-  site_part x all (tree.more_routines r rest) d forward back records joined among firsts = (
-    site_routine x all r d.0 (λ m has f. forward m (inl has) (f, unnamed_part m rest (λ h. d.2 m has h))) (λ m a. (back m a).0) records.0 joined
-        (among r (inl refl)) firsts.0,
-    site_part x all rest d.1 (λ m has f. forward m (inr has) (unnamed_routine m r (λ h. d.2 m h has), f)) (λ m a. (back m a).1) records.1 joined
-        (λ q h. among q (inr h)) firsts.1,
+  site_part : (x : Looked) (all : RoutineTrees) (before : List RoutineTree) (rs : RoutineTrees) → IsDistinct (routines_node all)
+      → IsDistinct (routines_node rs) → Short 0 (routines_node rs)
+      → ((b : List RoutineTree) (r : RoutineTree) (n : ℕ) → SomeIn (Exactly b r) n before rs → SomeAt (Exactly b r) n x.t)
+      → ((m p : ℕ) → Has (routines_node rs) m → ((q : RoutineTree) → Member q (routines_in all) → routine_name q ≡ m → ⊥)
+      → PartsInEach (JoinedAt x m p) rs → AllJoined x m p)
+      → ((m p : ℕ) → AllJoined x m p → JoinedAt x m p all) → ((m p : ℕ) → AllJoined x m p → PartsInEach (JoinedAt x m p) rs)
+      → InRoutines (FirstFields x) rs → ((r : RoutineTree) → Member r (routines_in rs) → Member r (routines_in all))
+      → OfEach (IsOfText x.k x.t) rs → OfEachAfter (IsNoSecondOf x.k x.n) before rs → SeenPart x all rs
+  site_part x all before tree.end_of_routines da d short up forward own back records among text firsts = tt
+  site_part x all before (tree.more_routines r rest) da d short up forward own back records among text firsts = (
+    site_routine x all before r d.0 (short_left short) (λ b q n h. up b q n (inl h))
+        (λ m p has here. forward m p (inl (body_has r m has)) (λ q a e. names_apart all q r m da a (among r (inl refl)) e has)
+        (here, off_each x m p rest (λ i. d.2 m (body_has r m has) i))) own (λ m p a. (back m p a).0) records.0 (among r (inl refl)) text.0 firsts.0,
+    site_part x all (before ++ r ∷ []) rest da d.1 (short_right short) (λ b q n h. up b q n (inr h))
+        (λ m p has off here. forward m p (inr has) off (off_one x m p r (λ i. d.2 m i has), here)) own (λ m p a. (back m p a).1) records.1
+        (λ q h. among q (inr h)) text.1 firsts.1,
   )
 
-  site_routine : (x : Looked) (all : RoutineTrees) (r : RoutineTree) → IsDistinct (routine_node r)
-      → ((m : ℕ) → Has (routine_node r) m → OfRoutine (IsDirected m) r → AllDirected x m) → ((m : ℕ) → AllDirected x m → OfRoutine (IsDirected m) r)
-      → InRoutine (FirstFields x) r → IsNoSecondJoined x.k x.n (routines_in all) → Member r (routines_in all) → OfRoutine (Firsts2 x) r
+  site_routine : (x : Looked) (all : RoutineTrees) (before : List RoutineTree) (r : RoutineTree) → IsDistinct (routine_node r) → Short 0 (routine_node r)
+      → ((b : List RoutineTree) (q : RoutineTree) (n : ℕ) → SomeOf (Exactly b q) n before r → SomeAt (Exactly b q) n x.t)
+      → ((m p : ℕ) → Has (body_node (routine_body r)) m → PartsInOne (JoinedAt x m p) r → AllJoined x m p)
+      → ((m p : ℕ) → AllJoined x m p → JoinedAt x m p all) → ((m p : ℕ) → AllJoined x m p → PartsInOne (JoinedAt x m p) r)
+      → InRoutine (FirstFields x) r → Member r (routines_in all) → OfRoutine (IsOfText x.k x.t) r → OfRoutineAfter (IsNoSecondOf x.k x.n) before r
       → SeenRoutine (FirstFields x) (FirstFormals x) (Site x) all r
-  site_routine x all (tree.a_routine heading semicolon body last_semicolon) d forward back records joined member firsts =
+  site_routine x all before (tree.a_routine heading semicolon body last_semicolon) d short up forward own back records member text firsts =
       let r = tree.a_routine heading semicolon body last_semicolon in
       let n = heading_name heading in
-      let inner = site_body x body d.1.1.0
-      (λ m has f. forward m (inr (inr (inl has))) ((λ e. absurd (d.2 m (subst (Has (heading_node heading)) e (name_has heading)) (inr (inl has)))), f))
-      (λ m a. (back m a).1) records firsts.0.1 firsts.1 in (
+      let within = short_left (short_right (short_right short)) in (
         record {
           records = body_records x body records;
-          heading = firsts.0.0.formals;
+          heading = firsts.0.formals;
           site = record {
-            directed = λ none. forward n (inl (name_has heading)) ((λ e. none), unnamed_body n body (λ h. d.2 n (name_has heading) (inr (inl h))));
-            back = λ a. (back n a).0 refl;
-            inner = own_body x body inner;
-            first = firsts.0.0;
-            joined = λ position c e none. joined r c (contains r (routines_in all) member) (contains c (routines_in all) (member_at all position c e)) none;
+            before = before;
+            at = up before r n (inl (refl, (refl, refl)));
+            text = text;
+            first = firsts.0.own;
+            back = λ position c a found. own n position a r c member refl found;
+            part = body_part x body d.1.1.0 within forward firsts.1;
           };
         },
-        inner,
+        site_body x body d.1.1.0 within (λ b q m h. up b q m (inr h)) forward back records text.1 firsts.1,
       )
 
-  site_body : (x : Looked) (body : BodyTree) → IsDistinct (body_node body)
-      → ((m : ℕ) → Has (body_node body) m → OfBody (IsDirected m) body → AllDirected x m) → ((m : ℕ) → AllDirected x m → OfBody (IsDirected m) body)
-      → InBody (FirstFields x) body → IsNoSecondJoined x.k x.n (routines_in_body body) → OfBody (Firsts2 x) body
+  site_body : (x : Looked) (body : BodyTree) → IsDistinct (body_node body) → Short 0 (body_node body)
+      → ((b : List RoutineTree) (q : RoutineTree) (n : ℕ) → SomeInside (Exactly b q) n body → SomeAt (Exactly b q) n x.t)
+      → ((m p : ℕ) → Has (body_node body) m → PartsInBody (JoinedAt x m p) body → AllJoined x m p)
+      → ((m p : ℕ) → AllJoined x m p → PartsInBody (JoinedAt x m p) body)
+      → InBody (FirstFields x) body → OfBody (IsOfText x.k x.t) body → OfBodyAfter (IsNoSecondOf x.k x.n) body
       → SeenBody (FirstFields x) (FirstFormals x) (Site x) body
-  site_body x (tree.a_directive directive) d forward back records joined firsts = tt
-  site_body x (tree.a_block_body b) d forward back records joined firsts = site_block x b d forward back records joined firsts
+  site_body x (tree.a_directive directive) d short up forward back records text firsts = tt
+  site_body x (tree.a_block_body b) d short up forward back records text firsts = site_block x b d short up forward back records text firsts
 
   body_records : (x : Looked) (body : BodyTree) → InBody (FirstFields x) body → RecordsInBody (FirstFields x) body
   body_records x (tree.a_directive directive) h = tt
@@ -745,9 +568,8 @@ mutual
 
 start : (l : Lexed) (t : ProgramTree) (n : ℕ) → Tables (record { k = known_at_start l; t = t.block; n = n }) (known_at_start l)
 start l t n = record {
-  words = refl;
-  names = refl;
-  directed = λ m function block e. absurd (blank (length l.tokens + length required_names) m (PartRow.Forward function block) e);
+  orderly = start_orderly l t.block;
+  joined = λ m function position e. absurd (blank (length l.tokens + length required_names) m (PartRow.Forward function (Some position)) e);
 }
   where
     blank : (size m : ℕ) (r : PartRow) → unwrap_or (slice_get (replicate size Row.Nothing) m) Row.Nothing ≡ Row.Part r → ⊥
@@ -755,23 +577,32 @@ start l t n = record {
     blank (suc size) zero r e = cc
     blank (suc size) (suc m) r e = blank size m r e
 
-pub text_two_law : TextsBreakTwo
-unfolding check_step ◌>>=◌
-text_two_law l t token spelled first told =
+-- what is told of the declarations of a text
+declared_none : (l : Lexed) (t : ProgramTree) (token : ℕ) → spell (tree_node t) ≡ items_of l.tokens → length l.tokens < 2 ^ 32
+    → IsNoSecond (known_at_start l) t token → Each (Misses 2 token) (program_step t (known_at_start l)).broken
+declared_none l t token spelled few first =
     let k = known_at_start l in
     let x : Looked = record { k = k; t = t.block; n = token } in
+    let y = whole l t spelled in
+    let d = y.distinct.1.1.1.1.0 in
+    let long = text_length l.tokens t spelled in
+    let all : Short 0 (tree_node t) = record { is = omega (arith, long, few) } in
+    let short = short_left (short_right (short_right (short_right (short_right all)))) in
+    let seen = site_block x t.block d short (λ before r n h. h) (λ m p has here. here) (λ m p a. a) first.records y.all first.routines in
+    let own = body_part x (tree.a_block_body t.block) d short (λ m p has here. here) first.routines in
+    (program-came (entering x y.seats) t k (start l t token) (own_records x t.block first.records) seen (λ j f i e.
+    let c = program_comes x t j f refl y.distinct y.stated i e first.program own in
+    record { kept = c.tables; told = λ w. each_in token (define_program (length j.frames) t (and_region j 0 f)).broken c.none })).told (λ c i. tt)
+
+pub text_two_law : TextsBreakTwo
+unfolding check_step ◌>>=◌
+text_two_law l t token spelled few first told =
+    let k = known_at_start l in
     let b = broken_at 2 token in
-    let distinct = (text_law l.tokens t spelled).1.1.1.1.0 in
-    let seen = site_block x t.block distinct (λ m has f. f) (λ m all. all) first.records first.joined first.routines in
-    let all = own_block x t.block seen in
-    let came = program-came (entering x) t k (start l t token) (own_records x t.block first.records) seen (λ j f i e. record {
-      kept = (define_program-lasts (tables_all x) (length j.frames) t (block_each (Own x) t.block all)).of (and_region j 0 f) ((tables_last x).regions j 0 f i);
-      told = λ w. each_in token (define_program (length j.frames) t (and_region j 0 f)).broken (program_none x t j f i e first.names first.labels);
-    }) in
     let d = program_step t k in
     let e = code_block d.value t.block d.known in
     elim (in_either b d.broken e.broken (found b (d.broken ++ e.broken) told)) [
-      | inl early ↦ of_each (Misses 2 token) b d.broken (came.told (λ c i. tt)) early refl
+      | inl early ↦ of_each (Misses 2 token) b d.broken (declared_none l t token spelled few first) early refl
       | inr late ↦
           let used = (of_each (Used Anywhere loose) b e.broken ((code_block-touches d.value t.block).told d.known) late).used in
           (let never : true ≡ false = used in cc)

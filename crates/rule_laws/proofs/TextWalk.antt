@@ -1,7 +1,6 @@
 -- What a procedure or function gives at its first heading.
 use Rattle.std.proofs.Common.{ℕ, Option}
 use Rattle.pas_tree.specs.BlockTrees.{RoutineTree, RoutineTrees, routine_body, routine_heading}
-use Rattle.pas_tree.specs.BlockTrees as tree
 use Rattle.check_steps.specs.{Known.Known, declared.breaks.Break.Break}
 use Rattle.denoter_checker.specs.RoutineParts.{completion_of, routine_name}
 use Rattle.decl_checker.specs.Routines.{define_inside, first_heading}

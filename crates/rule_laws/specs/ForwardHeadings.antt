@@ -1,5 +1,5 @@
 -- Forward headings and the headings that complete them (6.6.1), as the text has them.
-use Rattle.std.specs.Prelude.{if◌then◌else◌, ◌&&◌, ◌∷◌, [], Bool, List, false, nat_eq, not, true}
+use Rattle.std.specs.Prelude.{if◌then◌else◌, ◌&&◌, ◌∷◌, [], ℕ, Bool, List, false, nat_eq, not, true}
 use Rattle.std.specs.List.{list_any}
 use Rattle.pas_tree.specs.BlockTrees.{BodyTree, RoutineTree, RoutineTrees, routine_body, routine_heading}
 use Rattle.pas_tree.specs.BlockTrees as tree
@@ -52,3 +52,8 @@ is_second k [] r = false
 is_second k (q ∷ qs) r =
     if have_one_name k q r then has_forward k (routine_body q) && (completes k q r && not (are_completing k q qs))
     else is_second k qs r
+
+-- the name of the first of some routines that has the name of one, or else of this one
+abbrev pub name_of_first : Known → List RoutineTree → RoutineTree → ℕ
+name_of_first k [] r = routine_name r
+name_of_first k (q ∷ qs) r = if have_one_name k q r then routine_name q else name_of_first k qs r

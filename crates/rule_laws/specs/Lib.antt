@@ -1,6 +1,7 @@
 pub mod BlockLabels
 pub mod CaseConstants
 pub mod CaseLaws
+pub mod CaseNumbers
 pub mod FormalRoutines
 pub mod ForwardHeadings
 pub mod FunctionAssignments

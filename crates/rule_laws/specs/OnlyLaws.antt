@@ -1,5 +1,5 @@
 -- That a text breaks rules nowhere else than the laws on it tell.
-use Rattle.std.specs.Prelude.{◌++◌, ◌∷◌, ◌≡◌, [], ℕ, Contains, List, false, map, true}
+use Rattle.std.specs.Prelude.{◌&&◌, ◌++◌, ◌<◌, ◌^◌, ◌||◌, ◌∷◌, ◌≡◌, ℕ, Bool, Contains, List, false, length, not, true}
 use Rattle.pas_lexer.specs.Lexed.{Lexed}
 use Rattle.grammar.specs.Nodes.{spell}
 use Rattle.pas_tree.specs.BlockTrees.{BlockTree, BodyTree, ProgramTree, RoutineTree, routine_body, routine_heading}
@@ -9,12 +9,13 @@ use Rattle.pas_parser.specs.Formed.{items_of}
 use Rattle.check_steps.specs.{Known.Known, Words.known_at_start, declared.breaks.Break.Break}
 use Rattle.denoter_checker.specs.{Formals.is_function, RoutineParts.routine_name, declared.defines.Wanted.Wanted}
 use Rattle.code_checker.specs.CheckedPrograms.{broken}
-use Rattle.rule_laws.specs.{CaseLaws.late_at, FormalRoutines.OfHeading, ForwardHeadings.is_block, Laws.LacksBlock}
-use Rattle.rule_laws.specs.{Laws.broken_at, SomeBlocks.SomeBlock, TextParts.OfRecordsIn, TextParts.OfRoutines}
-use Rattle.rule_laws.specs.NameLaws.{block_labels, block_routines}
-use Rattle.rule_laws.specs.RegionNames.{block_names, field_names, heading_names, parameter_names}
-use Rattle.rule_laws.specs.TextLaws.{has_label, has_name, labels_in_body, names_in_body, names_of_routine}
-use Rattle.rule_laws.specs.TextLaws.{routines_in_body, statement_labels}
+use Rattle.rule_laws.specs.{CaseLaws.late_at, FormalRoutines.OfHeading, Laws.LacksBlock, Laws.broken_at}
+use Rattle.rule_laws.specs.{NameLaws.block_labels, NameLaws.block_routines, SomeBlocks.SomeBlock}
+use Rattle.rule_laws.specs.ForwardHeadings.{is_block, is_named, is_second}
+use Rattle.rule_laws.specs.RegionNames.{field_names, heading_names, parameter_names}
+use Rattle.rule_laws.specs.TextLaws.{first_formals, has_label, has_name, labels_in_body, names_in_body}
+use Rattle.rule_laws.specs.TextLaws.{routines_in_body, statement_labels, statement_labels_in}
+use Rattle.rule_laws.specs.TextParts.{OfRecordsIn, OfRoutinesAfter}
 
 -- ---- forward headings (6.6.1)
 
@@ -37,14 +38,6 @@ TextsBreakEight = (l : Lexed) (t : ProgramTree) (token : ℕ) → spell (tree_no
 
 -- ---- names and labels (6.2.2.7)
 
--- the names of a block's own procedures and functions
-abbrev pub routine_names : BlockTree → List ℕ
-routine_names b = map routine_name (block_routines b)
-
-abbrev pub headings_in_body : BodyTree → List ℕ
-headings_in_body (tree.a_directive directive) = []
-headings_in_body (tree.a_block_body b) = routine_names b
-
 -- Where this token is one of these names, none before it has its name.
 abbrev pub IsNoSecondName : Known → ℕ → List ℕ → Type 0
 IsNoSecondName k token names =
@@ -55,34 +48,41 @@ abbrev pub IsNoSecondLabel : Known → ℕ → List ℕ → Type 0
 IsNoSecondLabel k token labels =
     (before after : List ℕ) → labels ≡ before ++ token ∷ after → has_label k before token ≡ false
 
--- So it is with the formal parameters of a procedure or function and the names of its block, with the block's labels,
--- and with the formal parameters of each formal procedure and function.
-pub record IsNoSecondOf (k : Known) (token : ℕ) (r : RoutineTree) : Type 0 where
-  pub names : IsNoSecondName k token (names_of_routine r ++ headings_in_body (routine_body r))
-  pub labels : IsNoSecondLabel k token (labels_in_body (routine_body r))
-  pub formals : OfHeading (λ h. IsNoSecondName k token (heading_names h)) (routine_heading r)
+-- Whether one of these names is a routine's, or one of the routines before it has its name, and it has not the block of
+-- the first of them.
+abbrev pub is_again : Known → List ℕ → List RoutineTree → RoutineTree → Bool
+is_again k names before r = has_name k names (routine_name r) || (is_named k before r && not (is_second k before r))
 
--- So it is, among these procedures and functions of a part, with the formal parameters of each heading that a directive
--- follows together with the names of each block, which may be the block of that heading.
-abbrev pub IsNoSecondJoined : Known → ℕ → List RoutineTree → Type 0
-IsNoSecondJoined k token rs = (q r : RoutineTree) → Contains rs q → Contains rs r → is_block (routine_body q) ≡ false
-    → IsNoSecondName k token (heading_names (routine_heading q)
-    ++ (names_in_body (routine_body r) ++ headings_in_body (routine_body r)))
+-- Where one of the procedures and functions of a part has its name at this token, it is not so after these names.
+abbrev pub IsNoSecondHeading : Known → ℕ → List ℕ → List RoutineTree → Type 0
+IsNoSecondHeading k token names rs = (before : List RoutineTree) (r : RoutineTree) (after : List RoutineTree)
+    → rs ≡ before ++ r ∷ after → routine_name r ≡ token → is_again k names before r ≡ false
+
+-- So it is in the region of these formal parameters and of the block that follows, if one does.
+pub record IsNoSecondIn (k : Known) (token : ℕ) (formals : List ℕ) (body : BodyTree) : Type 0 where
+  pub names : IsNoSecondName k token (formals ++ names_in_body body)
+  pub headings : IsNoSecondHeading k token (formals ++ names_in_body body) (routines_in_body body)
+  pub labels : IsNoSecondLabel k token (labels_in_body body)
+
+-- So it is with the formal parameters of a procedure or function and its block; with the block and the formal
+-- parameters of the forward heading that has it, which is the first of its name among those before it; and with the
+-- formal parameters of each formal procedure and function.
+pub record IsNoSecondOf (k : Known) (token : ℕ) (before : List RoutineTree) (r : RoutineTree) : Type 0 where
+  pub own : IsNoSecondIn k token (heading_names (routine_heading r)) (routine_body r)
+  pub joined : is_second k before r ≡ true → IsNoSecondIn k token (first_formals k before r) (routine_body r)
+  pub formals : OfHeading (λ h. IsNoSecondName k token (heading_names h)) (routine_heading r)
 
 -- This token is no second name or label of a region of the text: of a record type, the program's block, a procedure or
 -- function, or a formal one.
 pub record IsNoSecond (k : Known) (t : ProgramTree) (token : ℕ) : Type 0 where
   pub records : OfRecordsIn (λ fields. IsNoSecondName k token (field_names Wanted.Fields fields)) t.block
-  pub names : IsNoSecondName k token (parameter_names k t.parameters ++ (block_names t.block ++ routine_names t.block))
-  pub labels : IsNoSecondLabel k token (block_labels t.block)
-  pub joined : IsNoSecondJoined k token (block_routines t.block)
-  pub routines : OfRoutines (λ r. IsNoSecondOf k token r
-      × IsNoSecondJoined k token (routines_in_body (routine_body r))) t.block
+  pub program : IsNoSecondIn k token (parameter_names k t.parameters) (tree.a_block_body t.block)
+  pub routines : OfRoutinesAfter (IsNoSecondOf k token) t.block
 
 -- Rule 2 is broken at second names and labels alone.
 abbrev pub TextsBreakTwo : Type 0
 TextsBreakTwo = (l : Lexed) (t : ProgramTree) (token : ℕ) → spell (tree_node t) ≡ items_of l.tokens
-    → IsNoSecond (known_at_start l) t token → Contains (broken l t) (broken_at 2 token) → ⊥
+    → length l.tokens < 2 ^ 32 → IsNoSecond (known_at_start l) t token → Contains (broken l t) (broken_at 2 token) → ⊥
 
 -- ---- labels of statements (6.8.1)
 
@@ -90,6 +90,20 @@ TextsBreakTwo = (l : Lexed) (t : ProgramTree) (token : ℕ) → spell (tree_node
 abbrev pub TextsBreakFifteen : Type 0
 TextsBreakFifteen = (l : Lexed) (t : ProgramTree) (token : ℕ) → Contains (broken l t) (late_at 15 token)
     → SomeBlock (λ b. Contains (statement_labels b) token) t.block
+
+-- Of these labels none breaks rule 15 whose value none before it has, and one of some others has.
+abbrev pub OthersAreRight : Known → List Break → (declared labels : List ℕ) → Type 0
+OthersAreRight k bs declared labels = (before : List ℕ) (label : ℕ) (after : List ℕ) → labels ≡ before ++ label ∷ after
+    → has_label k before label ≡ false → has_label k declared label ≡ true → Contains bs (late_at 15 label) → ⊥
+
+-- So it is with the labels in front of the statements of the program's block, and those of its label part; and with
+-- those of the block of each procedure and function, but not of one of a forward heading.
+abbrev pub TextsSpareLabels : Type 0
+TextsSpareLabels = (l : Lexed) (t : ProgramTree) → spell (tree_node t) ≡ items_of l.tokens → length l.tokens < 2 ^ 32
+    → let k = known_at_start l in let b = t.block in
+    OthersAreRight k (broken l t) (block_labels b) (statement_labels b)
+    × OfRoutinesAfter (λ before r. is_second k before r ≡ false → OthersAreRight k (broken l t)
+    (labels_in_body (routine_body r)) (statement_labels_in (routine_body r))) b
 
 -- ---- functions without a value (6.6.2)
 

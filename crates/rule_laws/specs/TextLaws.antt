@@ -1,6 +1,6 @@
 -- What a whole text breaks of rules 2, 8, 12 and 15; and its tokens.
-use Rattle.std.specs.Prelude.{◌++◌, ◌<◌, ◌^◌, ◌∷◌, ◌≡◌, ◌⊎◌, [], ℕ, Bool, Contains, List, false, length, nat_eq, true}
-use Rattle.std.specs.List.{list_any}
+use Rattle.std.specs.Prelude.{if◌then◌else◌, ◌++◌, ◌<◌, ◌^◌, ◌∷◌, ◌≡◌, ◌⊎◌, [], ℕ, Bool, Contains, List, false, length}
+use Rattle.std.specs.{Prelude.nat_eq, Prelude.true, List.list_any}
 use Rattle.pas_lexer.specs.{Lexed.Lexed, declared.kinds.Token.Token}
 use Rattle.grammar.specs.Nodes.{spell}
 use Rattle.pas_tree.specs.{BlockTrees.routine_heading, TreeNodes.tree_node}
@@ -11,11 +11,12 @@ use Rattle.check_steps.specs.{Words.known_at_start, declared.breaks.Break.Break}
 use Rattle.check_steps.specs.Known.{Known, label_at, name_at}
 use Rattle.denoter_checker.specs.{Formals.is_function, RoutineParts.routine_name, declared.defines.Wanted.Wanted}
 use Rattle.code_checker.specs.CheckedPrograms.{broken}
-use Rattle.rule_laws.specs.{BlockLabels.compound_labels, CaseLaws.late_at, Laws.broken_at, LeftNames.block_lefts}
-use Rattle.rule_laws.specs.{LeftNames.body_lefts, NameLaws.block_labels, NameLaws.block_routines, Tokens.IsDistinct}
-use Rattle.rule_laws.specs.ForwardHeadings.{are_completing, has_forward, is_block, is_named, is_second}
+use Rattle.rule_laws.specs.{BlockLabels.compound_labels, CaseLaws.late_at, ForwardHeadings.name_of_first}
+use Rattle.rule_laws.specs.{Laws.broken_at, LeftNames.block_lefts, LeftNames.body_lefts, Tokens.IsDistinct}
+use Rattle.rule_laws.specs.ForwardHeadings.{are_completing, has_forward, have_one_name, is_block, is_named, is_second}
+use Rattle.rule_laws.specs.NameLaws.{block_labels, block_routines}
 use Rattle.rule_laws.specs.RegionNames.{block_names, field_names, heading_names, labels_of}
-use Rattle.rule_laws.specs.TextParts.{OfRecordsIn, OfRoutines, OfRoutinesAfter, Within}
+use Rattle.rule_laws.specs.TextParts.{OfRecordsIn, OfRoutines, OfRoutinesAfter}
 
 -- No token stands twice in a tree that spells the tokens of a source, nor in any part of it.
 abbrev pub TokensDiffer : Type 0
@@ -46,11 +47,6 @@ has_label k before x = list_any (λ y. nat_eq (label_at k x) (label_at k y)) bef
 abbrev pub LabelsAreTold : Known → List Break → List ℕ → Type 0
 LabelsAreTold k bs labels = (before : List ℕ) (label : ℕ) (after : List ℕ) → labels ≡ before ++ label ∷ after
     → has_label k before label ≡ true → Contains bs (broken_at 2 label)
-
--- In a block no directive follows a heading of this name.
-abbrev pub IsNeverForward : Known → BlockTree → ℕ → Type 0
-IsNeverForward k b name =
-    OfRoutines (λ r. is_block (routine_body r) ≡ false → name_at k (routine_name r) ≡ name → ⊥) b
 
 -- Of the procedures and functions of a part each breaks rule 2 that has one of these names; and each that has the name
 -- of one before it, unless it has the block of the first of its name.
@@ -83,14 +79,29 @@ abbrev pub labels_in_body : BodyTree → List ℕ
 labels_in_body (tree.a_directive directive) = []
 labels_in_body (tree.a_block_body b) = block_labels b
 
+-- the formal parameters in the first heading of its name, among those before a procedure or function in its part
+abbrev pub first_formals : Known → List RoutineTree → RoutineTree → List ℕ
+first_formals k [] r = []
+first_formals k (q ∷ qs) r =
+    if have_one_name k q r then heading_names (routine_heading q) else first_formals k qs r
+
+-- the formal parameters of a procedure or function after others, and then the names of its block; if that is the block
+-- of a forward heading, the formal parameters are those of the heading
+abbrev pub names_after : Known → List RoutineTree → RoutineTree → List ℕ
+names_after k before r =
+    if is_second k before r then first_formals k before r ++ names_in_body (routine_body r) else names_of_routine r
+
 -- So it is with the constants, types, variables, procedures, functions and labels of the program's block, and with
--- those of each procedure and function and its formal parameters, but for one that has the block of a forward heading.
+-- those of each procedure and function and its formal parameters; if it has the block of a forward heading, in a text
+-- of fewer tokens than 2 ^ 32, and if rule 2 is not broken at its name.
 abbrev pub TextsTellNames : Type 0
 TextsTellNames = (l : Lexed) (t : ProgramTree) → spell (tree_node t) ≡ items_of l.tokens
     → let k = known_at_start l in let b = t.block in
     RegionIsTold k (broken l t) (block_names b) (block_routines b) (block_labels b)
-    × OfRoutinesAfter (λ before r. is_second k before r ≡ false → RegionIsTold k (broken l t) (names_of_routine r)
-    (routines_in_body (routine_body r)) (labels_in_body (routine_body r))) b
+    × OfRoutinesAfter (λ before r. (is_second k before r ≡ true
+    → (length l.tokens < 2 ^ 32) × (Contains (broken l t) (broken_at 2 (routine_name r)) → ⊥))
+    → RegionIsTold k (broken l t) (names_after k before r) (routines_in_body (routine_body r))
+    (labels_in_body (routine_body r))) b
 
 -- ---- forward headings (6.6.1)
 
@@ -100,13 +111,13 @@ ForwardsAreTold k bs rs = (before : List RoutineTree) (r : RoutineTree) (after :
     → rs ≡ before ++ r ∷ after → has_forward k (routine_body r) ≡ true
     → Contains bs (broken_at 8 (routine_name r)) ⊎ (are_completing k r after ≡ true)
 
--- So it is in the program's block, and in that of each procedure and function, but for one that has the block of a
--- forward heading.
+-- So it is in the program's block, and in that of each procedure and function; if it has the block of a forward
+-- heading, in a text of fewer tokens than 2 ^ 32.
 abbrev pub TextsTellForwards : Type 0
 TextsTellForwards = (l : Lexed) (t : ProgramTree) → spell (tree_node t) ≡ items_of l.tokens
     → let k = known_at_start l in let b = t.block in
     ForwardsAreTold k (broken l t) (block_routines b)
-    × OfRoutinesAfter (λ before r. is_second k before r ≡ false
+    × OfRoutinesAfter (λ before r. (is_second k before r ≡ true → length l.tokens < 2 ^ 32)
     → ForwardsAreTold k (broken l t) (routines_in_body (routine_body r))) b
 
 -- ---- labels of statements (6.8.1)
@@ -155,14 +166,14 @@ UndeclaredAreTold k bs declared labels = (before : List ℕ) (label : ℕ) (afte
 -- So it is with the labels in front of the statements of the program's block and those of its label part; with the
 -- labels in front of the statements of the block of each procedure and function and those of all label parts of the
 -- text; and, in a text of fewer tokens than 2 ^ 32, with those of the block of each procedure and function and those of
--- its own label part, where neither it nor one around it has the block of a forward heading.
+-- its own label part.
 abbrev pub TextsTellUndeclared : Type 0
 TextsTellUndeclared = (l : Lexed) (t : ProgramTree) → let k = known_at_start l in let b = t.block in
     UndeclaredAreTold k (broken l t) (block_labels b) (statement_labels b)
     × OfRoutines (λ r. UndeclaredAreTold k (broken l t) (all_labels b) (statement_labels_in (routine_body r))) b
     × (spell (tree_node t) ≡ items_of l.tokens → length l.tokens < 2 ^ 32
-    → Within (λ before r. is_second k before r ≡ false)
-    (λ r. UndeclaredAreTold k (broken l t) (labels_in_body (routine_body r)) (statement_labels_in (routine_body r))) b)
+    → OfRoutines (λ r. UndeclaredAreTold k (broken l t) (labels_in_body (routine_body r))
+    (statement_labels_in (routine_body r))) b)
 
 -- ---- functions without a value (6.6.2)
 
@@ -170,30 +181,21 @@ TextsTellUndeclared = (l : Lexed) (t : ProgramTree) → let k = known_at_start l
 abbrev pub routine_end : RoutineTree → ℕ
 routine_end (tree.a_routine heading semicolon body last_semicolon) = last_semicolon
 
--- a token before all headings of this name that a directive follows
-abbrev pub IsBeforeForwards : Known → BlockTree → (name token : ℕ) → Type 0
-IsBeforeForwards k text name token =
-    OfRoutines (λ r. is_block (routine_body r) ≡ false → name_at k (routine_name r) ≡ name
-    → token < routine_name r) text
+-- Each assignment before the end of a routine that has the routine's name alone on its left stands before this token.
+abbrev pub IsUnnamedSince : Known → BlockTree → (start : ℕ) → RoutineTree → Type 0
+IsUnnamedSince k text start r =
+    (left : ℕ) → Contains (block_lefts text) left → left < routine_end r → name_at k left ≡ name_at k (routine_name r)
+    → left < start
 
--- Each assignment before this end that has the name of a heading alone on its left stands before that heading, and
--- before all headings of the name that a directive follows.
-abbrev pub IsUnnamedSince : Known → BlockTree → (end heading : ℕ) → Type 0
-IsUnnamedSince k text end heading =
-    (left : ℕ) → Contains (block_lefts text) left → left < end → name_at k left ≡ name_at k heading
-    → (left < heading) × IsBeforeForwards k text (name_at k heading) left
-
--- A function's name stands alone on the left of no assignment of its block, and of the procedures and functions in it,
--- and no forward heading has it; or it stands so nowhere from the first forward heading of this name, or from its own,
--- to the end of the block.
-abbrev pub IsUnnamed : Known → BlockTree → RoutineTree → Type 0
-IsUnnamed k text r = (IsNeverForward k text (name_at k (routine_name r))
-    × (has_name k (body_lefts (routine_body r)) (routine_name r) ≡ false))
-    ⊎ IsUnnamedSince k text (routine_end r) (routine_name r)
+-- A function's name stands alone on the left of no assignment of its block, and of the procedures and functions in it;
+-- if that is the block of a forward heading, of none between this heading and the end of the block.
+pub record IsUnnamed (k : Known) (text : BlockTree) (before : List RoutineTree) (r : RoutineTree) : Type 0 where
+  pub own : is_second k before r ≡ false → has_name k (body_lefts (routine_body r)) (routine_name r) ≡ false
+  pub joined : is_second k before r ≡ true → IsUnnamedSince k text (name_of_first k before r) r
 
 -- Such a function breaks rule 12, if it has a block, at the name in the heading of the block.
 abbrev pub TextsTellResults : Type 0
 TextsTellResults = (l : Lexed) (t : ProgramTree) → spell (tree_node t) ≡ items_of l.tokens
     → let k = known_at_start l in
-    OfRoutines (λ r. is_function (routine_heading r) ≡ true → is_block (routine_body r) ≡ true → IsUnnamed k t.block r
-    → Contains (broken l t) (late_at 12 (routine_name r))) t.block
+    OfRoutinesAfter (λ before r. is_function (routine_heading r) ≡ true → is_block (routine_body r) ≡ true
+    → IsUnnamed k t.block before r → Contains (broken l t) (late_at 12 (routine_name r))) t.block

@@ -46,27 +46,6 @@ abbrev mutual
   OfBodyAfter P (blocks.a_directive directive) = Unit {0}
   OfBodyAfter P (blocks.a_block_body b) = OfRoutinesAfter P b
 
-abbrev mutual
-  -- this holds of each of them that is of some kind, after those before it, and stands inside of such alone
-  pub Within : (N : List RoutineTree → RoutineTree → Type 0) (P : RoutineTree → Type 0) → BlockTree → Type 0
-  Within N P (blocks.a_block labels constants types variables routines body) = WithinEach N P [] routines
-
-  pub WithinEach : (N : List RoutineTree → RoutineTree → Type 0) (P : RoutineTree → Type 0) → List RoutineTree
-      → RoutineTrees → Type 0
-  WithinEach N P before blocks.end_of_routines = Unit {0}
-  WithinEach N P before (blocks.more_routines r rest) =
-      WithinRoutine N P before r × WithinEach N P (before ++ r ∷ []) rest
-
-  pub WithinRoutine : (N : List RoutineTree → RoutineTree → Type 0) (P : RoutineTree → Type 0) → List RoutineTree
-      → RoutineTree → Type 0
-  WithinRoutine N P before (blocks.a_routine heading semicolon body last_semicolon) =
-      N before (blocks.a_routine heading semicolon body last_semicolon)
-      → P (blocks.a_routine heading semicolon body last_semicolon) × WithinBody N P body
-
-  pub WithinBody : (N : List RoutineTree → RoutineTree → Type 0) (P : RoutineTree → Type 0) → BodyTree → Type 0
-  WithinBody N P (blocks.a_directive directive) = Unit {0}
-  WithinBody N P (blocks.a_block_body b) = Within N P b
-
 -- ---- record types
 
 abbrev mutual

@@ -1,6 +1,7 @@
 //! The laws, each the contract of a call that does nothing.
 
-ghost use Rattle.rule_laws.specs.{LabelLaws.BlocksTellLabels, Laws.PartsTellRuleEight, TextCases.TextsTellCases};
+ghost use Rattle.rule_laws.specs.{CaseNumbers.TextsTellNumbers, LabelLaws.BlocksTellLabels, Laws.PartsTellRuleEight};
+ghost use Rattle.rule_laws.specs.{OnlyLaws.TextsSpareLabels, TextCases.TextsTellCases};
 ghost use Rattle.rule_laws.specs.CaseLaws.{CasesTellEqualConstants, VariantsTellEqualConstants};
 ghost use Rattle.rule_laws.specs.NameLaws.{BlocksTellNames, HeadingsTellFormals, LabelPartsTellLabels};
 ghost use Rattle.rule_laws.specs.NameLaws.{PartsTellSecondHeadings, ProgramsTellParameters, RecordsTellFields};
@@ -60,19 +61,20 @@ pub fn fields_of_a_text_differ()
 {}
 
 /// So of the constants, types, variables, procedures, functions and labels of the program's block, and of those of each
-/// procedure and function together with its formal parameters, but for one that has the block of a forward heading.
+/// procedure and function together with its formal parameters, which are those of the forward heading if it has the
+/// block of one.
 pub fn names_of_a_text_differ()
     ensures { TextsTellNames }
 {}
 
 /// A text breaks rule 2 nowhere else: at a name or label alone that one before it in its region is equal to, which may
-/// be a formal parameter of a heading that a directive follows.
+/// be a formal parameter of the forward heading that the block completes; and at no heading that completes one.
 pub fn second_names_alone_break_rule_two()
     ensures { TextsBreakTwo }
 {}
 
 /// In a text, each forward heading of the program's block breaks rule 8 or has its block later in the part; and so each
-/// of the block of a procedure or function, but for one that has the block of a forward heading.
+/// of the block of a procedure or function, which may be the block of a forward heading itself.
 pub fn forward_headings_of_a_text_have_blocks()
     ensures { TextsTellForwards }
 {}
@@ -94,25 +96,35 @@ pub fn labels_alone_break_rule_fifteen()
     ensures { TextsBreakFifteen }
 {}
 
-/// In a text each label in front of a statement breaks rule 15 whose value the label part of its block doesn't have,
-/// but in the blocks of forward headings, and inside of these: there each whose value no label part of the text has.
+/// Of the labels in front of the statements of the program's block none breaks rule 15 that is the first of its value
+/// there, and whose value the program's label part has. So it is with those of the block of each procedure and
+/// function, unless it is the block of a forward heading.
+pub fn first_declared_labels_are_right()
+    ensures { TextsSpareLabels }
+{}
+
+/// In a text each label in front of a statement breaks rule 15 whose value the label part of its block doesn't have.
 pub fn labels_of_statements_are_declared()
     ensures { TextsTellUndeclared }
 {}
 
 /// In a text each function that has a block breaks rule 12 whose name no assignment of the block, and of the procedures
-/// and functions in it, has alone on its left, if no forward heading has the name; and each whose name none has so from
-/// the first forward heading of this name, or from its own, to the end of the block.
+/// and functions in it, has alone on its left; and if that is the block of a forward heading, each whose name none has
+/// so between this heading and the end of the block.
 pub fn functions_of_a_text_are_assigned()
     ensures { TextsTellResults }
 {}
 
-/// In a text that breaks no rule, and whose tables are whole, the row of each case statement stands at its word. Where
-/// the selector is a variable, a call of a function or an integer that is computed, each of its constants, seen from a
-/// frame of its block, is found, is of the host type of the selector if its value is known, and is equal to none before
-/// it.
+/// In a text that breaks no rule, and whose tables are whole, the row of each case statement stands at its word. Each
+/// of its constants, seen from inside of its block and the records of the with statements around it, is found, is of
+/// the host type of the selector if its value is known, and is equal to none before it.
 pub fn case_constants_of_a_text_differ()
     ensures { TextsTellCases }
+{}
+
+/// So no two numbers, and no two characters, among the constants of a case statement of such a text are equal.
+pub fn numbers_of_case_statements_differ()
+    ensures { TextsTellNumbers }
 {}
 
 /// A text breaks rule 12 nowhere else: at names of functions alone that have blocks.

@@ -1,4 +1,4 @@
-use Rattle.rule_laws.proofs.TextBlocks.{text_name_law}
+use Rattle.rule_laws.proofs.SplitNames.{text_name_law}
 use Rattle.rule_laws.proofs.laws.names_of_a_text_differ.Goals as goal
 
 pub returns : goal.returns
